@@ -3,7 +3,7 @@ use Rattle.std.proofs.Common.{◌≡◌, refl, ap, ◌∙◌, ℕ, suc, ◌+◌,
 use Rattle.std.specs.Prelude.{zip}
 use Rattle.ufmt.specs.Document.{Document, documents, fields_of, nest_all, nest_fields, struct_of, tuple_of}
 use Rattle.ufmt.specs.Layout.{block_tail, field_texts, frame, inside, layout, texts, tuple_kind}
-use Rattle.ufmt.specs.Leaves.{IsWordOrEmpty}
+use Rattle.ufmt.specs.Leaves.{IsName, OrEmpty}
 use Rattle.ufmt.specs.Token.{AreBuilt, FieldsAreBuilt}
 use Rattle.ufmt_grammar.specs.declared.class.Class.TheVariants.{Debug}
 use Rattle.ufmt_core.specs.declared.layout.Count.TheVariants.{Zero}
@@ -11,11 +11,10 @@ use Rattle.ufmt_core.specs.declared.layout.Kind.{Kind}
 use Rattle.ufmt_core.specs.declared.layout.Kind.TheVariants.{Struct}
 use Rattle.ufmt_core.specs.declared.layout.Mode.{Mode}
 use Rattle.ufmt_core.specs.declared.layout.Setting.{Setting}
-use Rattle.ufmt_parse.specs.Rows.{row_texts, AllFit}
-use Rattle.ufmt_parse.specs.Taking.{setting_in, AreWords, Fits, Takes}
+use Rattle.ufmt_parse.specs.Rows.{AllFit, AreNames, row_texts}
+use Rattle.ufmt_parse.specs.Taking.{setting_in, Fits, Takes}
 use Rattle.ufmt_parse.specs.declared.parser.Fault.{Fault}
 use Rattle.ufmt_parse.proofs.Views.{taken_as}
-use Rattle.ufmt_parse.proofs.Words.{word_is_name, word_is_tuple_name}
 
 -- ---- texts
 
@@ -32,14 +31,14 @@ unnamed_texts s (d ∷ ds) = ap (λ ts. layout s d ∷ ts) (unnamed_texts s ds)
 
 -- ---- what fits in so many blocks
 
-fields_fit : (blocks : ℕ) (names : List (List ℕ)) (ds : List Document) → blocks ≤ 255 → AreWords names → length names ≡ length ds → AllFit blocks ds
+fields_fit : (blocks : ℕ) (names : List (List ℕ)) (ds : List Document) → blocks ≤ 255 → AreNames names → length names ≡ length ds → AllFit blocks ds
     → FieldsAreBuilt Debug (fields_of (zip names ds)) × (nest_fields (fields_of (zip names ds)) + blocks ≤ 255)
-fields_fit blocks [] [] most words same fit = (tt, omega (arith, most))
-fields_fit blocks [] (d ∷ ds) most words same fit = absurd (omega (arith, same))
-fields_fit blocks (name ∷ names) [] most words same fit = absurd (omega (arith, same))
-fields_fit blocks (name ∷ names) (d ∷ ds) most words same fit =
-    let rest = fields_fit blocks names ds most words.1 (omega (arith, same)) fit.1 in
-    ((word_is_name name words.0, fit.0.0, rest.0), omega (arith, fit.0.1, rest.1))
+fields_fit blocks [] [] most named same fit = (tt, omega (arith, most))
+fields_fit blocks [] (d ∷ ds) most named same fit = absurd (omega (arith, same))
+fields_fit blocks (name ∷ names) [] most named same fit = absurd (omega (arith, same))
+fields_fit blocks (name ∷ names) (d ∷ ds) most named same fit =
+    let rest = fields_fit blocks names ds most named.1 (omega (arith, same)) fit.1 in
+    ((named.0, fit.0.0, rest.0), omega (arith, fit.0.1, rest.1))
 
 each_field_fits : (blocks : ℕ) (names : List (List ℕ)) (ds : List Document) → length names ≡ length ds → FieldsAreBuilt Debug (fields_of (zip names ds))
     → nest_fields (fields_of (zip names ds)) + blocks ≤ 255 → AllFit blocks ds
@@ -61,13 +60,13 @@ each_entry_fits blocks (d ∷ ds) built nested = ((built.0, omega (arith, nested
 -- ---- blocks with fields
 
 module _ (blocks : ℕ) (name : List ℕ) where
-  struct_fits : (names : List (List ℕ)) (ds : List Document) → 0 < length ds → AreWords (name ∷ names) → length names ≡ length ds → AllFit (suc blocks) ds → blocks < 255
+  struct_fits : (names : List (List ℕ)) (ds : List Document) → 0 < length ds → AreNames (name ∷ names) → length names ≡ length ds → AllFit (suc blocks) ds → blocks < 255
       → Fits blocks (struct_of name (fields_of (zip names ds)))
-  struct_fits names [] some words same fit few = absurd (omega (arith, some))
-  struct_fits [] (d ∷ ds) some words same fit few = absurd (omega (arith, same))
-  struct_fits (first ∷ names) (d ∷ ds) some words same fit few =
-      let fields = fields_fit (suc blocks) (first ∷ names) (d ∷ ds) few words.1 same fit in
-      ((word_is_name name words.0, fields.0), omega (arith, fields.1))
+  struct_fits names [] some named same fit few = absurd (omega (arith, some))
+  struct_fits [] (d ∷ ds) some named same fit few = absurd (omega (arith, same))
+  struct_fits (first ∷ names) (d ∷ ds) some named same fit few =
+      let fields = fields_fit (suc blocks) (first ∷ names) (d ∷ ds) few named.1 same fit in
+      ((named.0, fields.0), omega (arith, fields.1))
 
   struct_apart : (names : List (List ℕ)) (ds : List Document) → 0 < length ds → length names ≡ length ds → Fits blocks (struct_of name (fields_of (zip names ds)))
       → AllFit (suc blocks) ds × (blocks < 255)
@@ -78,10 +77,10 @@ module _ (blocks : ℕ) (name : List ℕ) where
     omega (arith, fits.1),
   )
 
-  tuple_fits : (ds : List Document) → 0 < length ds → IsWordOrEmpty name → AllFit (suc blocks) ds → blocks < 255 → Fits blocks (tuple_of name (documents ds))
+  tuple_fits : (ds : List Document) → 0 < length ds → OrEmpty (IsName Debug) name → AllFit (suc blocks) ds → blocks < 255 → Fits blocks (tuple_of name (documents ds))
   tuple_fits [] some is fit few = absurd (omega (arith, some))
   tuple_fits (d ∷ ds) some is fit few =
-      let entries = entries_fit (suc blocks) (d ∷ ds) few fit in ((word_is_tuple_name name is, entries.0.0, entries.0.1), omega (arith, entries.1))
+      let entries = entries_fit (suc blocks) (d ∷ ds) few fit in ((is, entries.0.0, entries.0.1), omega (arith, entries.1))
 
   tuple_apart : (ds : List Document) → 0 < length ds → Fits blocks (tuple_of name (documents ds)) → AllFit (suc blocks) ds × (blocks < 255)
   tuple_apart [] some fits = absurd (omega (arith, some))
@@ -111,18 +110,18 @@ module _ {R : Type 0} (are : R → Type 0) (row : R → List Document) (some : (
   tuple_text (d ∷ ds) any = ap (text_in (tuple_kind name)) (unnamed_texts (inside (setting_in mode blocks)) (d ∷ ds))
 
   -- a struct with such a row of fields
-  pub struct_row : {old : List ℕ} {outcome : Result R Fault} {new : List ℕ} (names : List (List ℕ)) → AreWords (name ∷ names)
+  pub struct_row : {old : List ℕ} {outcome : Result R Fault} {new : List ℕ} (names : List (List ℕ)) → AreNames (name ∷ names)
       → ((v : R) → length names ≡ length (row v)) → RowTaken Struct names old outcome new
       → Takes (λ v. are v × Fits blocks (struct_of name (fields_of (zip names (row v)))))
       (λ v. layout (setting_in mode blocks) (struct_of name (fields_of (zip names (row v))))) old outcome new
-  struct_row names words counted takes =
-      taken_as (λ v is. (is.0.0, struct_fits blocks name names (row v) (some v) words (counted v) is.0.1 is.1))
+  struct_row names named counted takes =
+      taken_as (λ v is. (is.0.0, struct_fits blocks name names (row v) (some v) named (counted v) is.0.1 is.1))
       (λ v is. let apart = struct_apart blocks name names (row v) (some v) (counted v) is.1 in ((is.0, apart.0), apart.1))
       (λ v is. struct_text names (row v) (some v) (counted v))
       takes
 
   -- a tuple with such a row of fields
-  pub tuple_row : {old : List ℕ} {outcome : Result R Fault} {new : List ℕ} {kind : Kind} → kind ≡ tuple_kind name → IsWordOrEmpty name → RowTaken kind [] old outcome new
+  pub tuple_row : {old : List ℕ} {outcome : Result R Fault} {new : List ℕ} {kind : Kind} → kind ≡ tuple_kind name → OrEmpty (IsName Debug) name → RowTaken kind [] old outcome new
       → Takes (λ v. are v × Fits blocks (tuple_of name (documents (row v))))
       (λ v. layout (setting_in mode blocks) (tuple_of name (documents (row v)))) old outcome new
   tuple_row is_kind is_name takes =

@@ -7,15 +7,15 @@ use Rattle.ufmt.specs.Document.{Document, leaf, joined, list_of, set_of, map_of,
 use Rattle.ufmt.specs.Layout.{layout}
 use Rattle.ufmt_core.specs.declared.layout.Setting.{Setting}
 use Rattle.ufmt_grammar.specs.declared.class.Class.TheVariants.{Debug}
-use Rattle.ufmt.specs.Leaves.{EndsLeaf, IsDebugFollower, IsWord, MayFollow, is_ender, is_word_byte, outside, place_after}
+use Rattle.ufmt.specs.Leaves.{EndsLeaf, IsDebugFollower, MayFollow, is_debug_byte, is_ender, outside, place_after}
 use Rattle.ufmt.specs.Reading.{leaf_from}
 use Rattle.ufmt.specs.Token.{IsBuilt}
 use Rattle.ufmt_grammar.proofs.ClassLeaves.{name_some}
 use Rattle.ufmt_grammar.proofs.DebugLeaves.{StopsLeaf, leaf_from-append}
 use Rattle.ufmt_grammar.proofs.ReadingWords.{each_ender}
-use Rattle.ufmt_parse.specs.Naming.{begins_space, document_name, ends_name, is_past_name}
+use Rattle.ufmt_parse.specs.Naming.{begins_space, document_name, ends_name, is_debug_name, is_past_name}
 use Rattle.ufmt_parse.specs.Taking.{DoesNotBegin}
-use Rattle.ufmt_parse.proofs.Words.{word_is_name}
+use Rattle.ufmt_parse.proofs.Words.{begins_name, name_ends}
 
 -- ---- where a name is over
 
@@ -70,30 +70,34 @@ pub record IsNamed (name text : List ℕ) : Type 0 where
   pub ends : EndsLeaf outside name
   pub past : is_past_name tail ≡ true
 
--- a word isn't called so
-abbrev pub BeginsNoWord : List ℕ → Type 0
-BeginsNoWord [] = Unit {0}
-BeginsNoWord (c ∷ text) = is_word_byte c ≡ false
+-- no name begins with the byte
+abbrev pub begins_none : ℕ → Type 0
+begins_none c = is_debug_byte c || c == 58 ≡ false
 
--- the text begins with a bracket, and what is called its name is no word
+-- no name is called so
+abbrev pub BeginsNoName : List ℕ → Type 0
+BeginsNoName [] = Unit {0}
+BeginsNoName (c ∷ text) = begins_none c
+
+-- the text begins with a bracket, and what is called its name is none
 pub record IsBracketed (name text : List ℕ) : Type 0 where
   pub bracket : ℕ
   pub tail : List ℕ
   pub is : text ≡ bracket ∷ tail
-  pub no_word : is_word_byte bracket ≡ false
-  pub no_name : BeginsNoWord name
+  pub no_byte : begins_none bracket
+  pub no_name : BeginsNoName name
 
 -- a document's text begins with its name or with a bracket
 pub document_begins : (s : Setting) (d : Document) (u : List ℕ) → IsBuilt Debug d → MayFollow Debug u
     → IsNamed (document_name d) (layout s d ++ u) ⊎ IsBracketed (document_name d) (layout s d ++ u)
 document_begins s (leaf text) u (inl is) may = inl (record { tail = u; is = refl; ends = is.pieces; past = follower_is_past u may })
 document_begins s (leaf text) u (inr unit) may =
-    inr (record { bracket = 40; tail = 41 ∷ u; is = ap (λ t. t ++ u) unit; no_word = refl; no_name = subst BeginsNoWord (sym unit) refl })
+    inr (record { bracket = 40; tail = 41 ∷ u; is = ap (λ t. t ++ u) unit; no_byte = refl; no_name = subst BeginsNoName (sym unit) refl })
 document_begins s (joined ds) u is may = absurd is
 document_begins s (pretty_part d) u is may = absurd is
-document_begins s (list_of ds) u is may = inr (record { bracket = 91; tail = _; is = refl; no_word = refl; no_name = tt })
-document_begins s (set_of ds) u is may = inr (record { bracket = 123; tail = _; is = refl; no_word = refl; no_name = tt })
-document_begins s (map_of ps) u is may = inr (record { bracket = 123; tail = _; is = refl; no_word = refl; no_name = tt })
+document_begins s (list_of ds) u is may = inr (record { bracket = 91; tail = _; is = refl; no_byte = refl; no_name = tt })
+document_begins s (set_of ds) u is may = inr (record { bracket = 123; tail = _; is = refl; no_byte = refl; no_name = tt })
+document_begins s (map_of ps) u is may = inr (record { bracket = 123; tail = _; is = refl; no_byte = refl; no_name = tt })
 document_begins s (struct_of name no_fields) u is may =
     inl (record { tail = u; is = append_assoc name [] u; ends = is.0.whole.pieces; past = follower_is_past u may })
 document_begins s (struct_of name (first_field field value fs)) u is may =
@@ -104,7 +108,7 @@ document_begins s (non_exhaustive_of name (first_field field value fs)) u is may
 document_begins s (tuple_of [] no_documents) u is may = absurd (name_some Debug is)
 document_begins s (tuple_of (c ∷ name) no_documents) u is may =
     inl (record { tail = u; is = append_assoc (c ∷ name) [] u; ends = is.whole.pieces; past = follower_is_past u may })
-document_begins s (tuple_of [] (first_document d ds)) u is may = inr (record { bracket = 40; tail = _; is = refl; no_word = refl; no_name = tt })
+document_begins s (tuple_of [] (first_document d ds)) u is may = inr (record { bracket = 40; tail = _; is = refl; no_byte = refl; no_name = tt })
 document_begins s (tuple_of (c ∷ name) (first_document d ds)) u is may =
     inl (record { tail = _; is = append_assoc (c ∷ name) _ u; ends = is.0.whole.pieces; past = refl })
 
@@ -118,23 +122,24 @@ other_bytes other name differs = go (bytes_eq other name) refl
     go true e = absurd (differs ((bytes_eq-Decides other name).0 e))
 
 -- a text that doesn't begin with the name is another's
-pub another_is_next : (name other text : List ℕ) → IsWord name → IsNamed other text ⊎ IsBracketed other text → DoesNotBegin name text → bytes_eq other name ≡ false
-another_is_next name other text word (inl named) refuses = other_bytes other name (λ same. refuses named.tail (named.is ∙ ap (λ w. w ++ named.tail) same))
-another_is_next name other text word (inr bracketed) refuses = other_bytes other name (λ same. no_word_is name word (subst BeginsNoWord same bracketed.no_name))
+pub another_is_next : (name other text : List ℕ) → is_debug_name name ≡ true → IsNamed other text ⊎ IsBracketed other text → DoesNotBegin name text
+    → bytes_eq other name ≡ false
+another_is_next name other text is (inl named) refuses = other_bytes other name (λ same. refuses named.tail (named.is ∙ ap (λ w. w ++ named.tail) same))
+another_is_next name other text is (inr bracketed) refuses = other_bytes other name (λ same. none_is name is (subst BeginsNoName same bracketed.no_name))
   where
-    no_word_is : (name : List ℕ) → IsWord name → BeginsNoWord name → ⊥
-    no_word_is [] word none = word
-    no_word_is (c ∷ name) word none = absurd (cc (word.0))
+    none_is : (name : List ℕ) → is_debug_name name ≡ true → BeginsNoName name → ⊥
+    none_is [] is none = absurd (cc)
+    none_is (c ∷ name) is none = absurd (cc (begins_name c name is, none))
 
 -- a text that begins with the name is its own if and only if the name is over there
-pub name_is_next : (name other text after : List ℕ) → IsWord name → IsNamed other text ⊎ IsBracketed other text → text ≡ name ++ after
+pub name_is_next : (name other text after : List ℕ) → is_debug_name name ≡ true → IsNamed other text ⊎ IsBracketed other text → text ≡ name ++ after
     → bytes_eq other name ≡ is_past_name after
-name_is_next name other text after word (inl named) at = go (is_past_name after) refl
+name_is_next name other text after is (inl named) at = go (is_past_name after) refl
   where
     whole : is_past_name after ≡ true → other ≡ name
     whole past = sym (leaf_from-append outside other named.tail named.ends (past_name_stops named.tail named.past))
         ∙ ap (leaf_from outside) (sym named.is ∙ at)
-        ∙ leaf_from-append outside name after (word_is_name name word).whole.pieces (past_name_stops after past)
+        ∙ leaf_from-append outside name after (name_ends name is) (past_name_stops after past)
 
     longer : is_past_name after ≡ false → other ≢ name
     longer past same =
@@ -144,7 +149,7 @@ name_is_next name other text after word (inl named) at = go (is_past_name after)
     go : (past : Bool) → is_past_name after ≡ past → bytes_eq other name ≡ past
     go true past = (bytes_eq-Decides other name).1 (whole past)
     go false past = other_bytes other name (longer past)
-name_is_next [] other text after word (inr bracketed) at = absurd word
-name_is_next (c ∷ name) other text after word (inr bracketed) at =
+name_is_next [] other text after is (inr bracketed) at = absurd (cc)
+name_is_next (c ∷ name) other text after is (inr bracketed) at =
     let same : bracketed.bracket ∷ bracketed.tail ≡ c ∷ (name ++ after) = sym bracketed.is ∙ at in
-    absurd (cc (word.0, bracketed.no_word))
+    absurd (cc (begins_name c name is, bracketed.no_byte))

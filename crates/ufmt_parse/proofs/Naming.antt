@@ -5,11 +5,10 @@ use Rattle.std.proofs.lemmas.List.{append-nil, append_cancel_left}
 use Rattle.std.proofs.lemmas.Slice.Eq.{bytes_eq-Decides}
 use Rattle.ufmt.specs.Document.{Document, leaf, joined, list_of, set_of, map_of, struct_of, non_exhaustive_of, tuple_of, pretty_part, no_documents, first_document, no_fields, first_field, Documents, fields_of}
 use Rattle.ufmt.specs.Layout.{layout}
-use Rattle.ufmt.specs.Leaves.{IsWord}
 use Rattle.ufmt_core.specs.declared.layout.Mode.{Mode}
 use Rattle.ufmt_core.specs.declared.layout.Setting.{Setting}
 use Rattle.ufmt_parse.specs.declared.parser.Parser.{Parser}
-use Rattle.ufmt_parse.specs.Naming.{document_name, is_unit, same_names}
+use Rattle.ufmt_parse.specs.Naming.{document_name, is_debug_name, is_unit, same_names}
 use Rattle.ufmt_parse.specs.Next.{IsNotNext, NextLeaves}
 use Rattle.ufmt_parse.specs.Taking.{DoesNotBegin, IsNext, rest}
 
@@ -54,33 +53,33 @@ module _ {M : Type 0} (mode : Mode) (old : Parser M) (other name : List ℕ) (ds
 -- ---- documents that print as a name alone
 
 -- a tuple without a name has brackets
-pub tuple_alone : (s : Setting) (name : List ℕ) → IsWord name → layout s (tuple_of name no_documents) ≡ name
-tuple_alone s [] word = absurd word
-tuple_alone s (c ∷ name) word = append-nil (c ∷ name)
+pub tuple_alone : (s : Setting) (name : List ℕ) → is_debug_name name ≡ true → layout s (tuple_of name no_documents) ≡ name
+tuple_alone s [] named = absurd (cc)
+tuple_alone s (c ∷ name) named = append-nil (c ∷ name)
 
-unit_text : (s : Setting) (name : List ℕ) → IsWord name → (d : Document) → is_unit name d ≡ true → layout s d ≡ name
-unit_text s name word (leaf text) is = (bytes_eq-Decides text name).0 is
-unit_text s name word (joined ds) is = absurd (cc)
-unit_text s name word (list_of ds) is = absurd (cc)
-unit_text s name word (set_of ds) is = absurd (cc)
-unit_text s name word (map_of ps) is = absurd (cc)
-unit_text s name word (struct_of other no_fields) is = append-nil other ∙ (bytes_eq-Decides other name).0 is
-unit_text s name word (struct_of other (first_field field value fs)) is = absurd (cc)
-unit_text s name word (non_exhaustive_of other fs) is = absurd (cc)
-unit_text s name word (tuple_of other no_documents) is = ap (λ n. layout s (tuple_of n no_documents)) ((bytes_eq-Decides other name).0 is) ∙ tuple_alone s name word
-unit_text s name word (tuple_of other (first_document d ds)) is = absurd (cc)
-unit_text s name word (pretty_part d) is = absurd (cc)
+unit_text : (s : Setting) (name : List ℕ) → is_debug_name name ≡ true → (d : Document) → is_unit name d ≡ true → layout s d ≡ name
+unit_text s name named (leaf text) is = (bytes_eq-Decides text name).0 is
+unit_text s name named (joined ds) is = absurd (cc)
+unit_text s name named (list_of ds) is = absurd (cc)
+unit_text s name named (set_of ds) is = absurd (cc)
+unit_text s name named (map_of ps) is = absurd (cc)
+unit_text s name named (struct_of other no_fields) is = append-nil other ∙ (bytes_eq-Decides other name).0 is
+unit_text s name named (struct_of other (first_field field value fs)) is = absurd (cc)
+unit_text s name named (non_exhaustive_of other fs) is = absurd (cc)
+unit_text s name named (tuple_of other no_documents) is = ap (λ n. layout s (tuple_of n no_documents)) ((bytes_eq-Decides other name).0 is) ∙ tuple_alone s name named
+unit_text s name named (tuple_of other (first_document d ds)) is = absurd (cc)
+unit_text s name named (pretty_part d) is = absurd (cc)
 
-module _ {M : Type 0} (mode : Mode) (old : Parser M) (name : List ℕ) (word : IsWord name) (d : Document) (is : is_unit name d ≡ true) where
+module _ {M : Type 0} (mode : Mode) (old : Parser M) (name : List ℕ) (named : is_debug_name name ≡ true) (d : Document) (is : is_unit name d ≡ true) where
   -- after the name, what is left follows it
   pub unit_leaves : (new : Parser M) → rest old ≡ name ++ rest new → NextLeaves mode old d new
   unfolding NextLeaves
-  unit_leaves new taken = λ u next. append_cancel_left name u (rest new) (ap (λ t. t ++ u) (sym (unit_text _ name word d is)) ∙ sym next.2 ∙ taken)
+  unit_leaves new taken = λ u next. append_cancel_left name u (rest new) (ap (λ t. t ++ u) (sym (unit_text _ name named d is)) ∙ sym next.2 ∙ taken)
 
   -- where the name isn't there, the document isn't
   pub no_unit : DoesNotBegin name (rest old) → IsNotNext mode old d
   unfolding IsNotNext
-  no_unit none = λ u next. none u (next.2 ∙ ap (λ t. t ++ u) (unit_text _ name word d is))
+  no_unit none = λ u next. none u (next.2 ∙ ap (λ t. t ++ u) (unit_text _ name named d is))
 
 -- ---- what a test of the next name says
 

@@ -1,9 +1,9 @@
--- The name at the front of a document's text, and where a name is over.
+-- The name at the front of a document's text, where a name is over, and which names a document may have.
 use Rattle.std.specs.Prelude.{ℕ, ◌&&◌, ◌||◌, ◌==◌, List, [], ◌∷◌, Bool, true, false}
 use Rattle.std.specs.Str.{bytes_eq}
 use Rattle.ufmt_core.specs.Bytes.{colon, space}
 use Rattle.ufmt.specs.Document.{Document, leaf, joined, list_of, set_of, map_of, struct_of, non_exhaustive_of, tuple_of, pretty_part, no_documents, first_document, no_fields, first_field}
-use Rattle.ufmt.specs.Leaves.{is_ender, is_opening}
+use Rattle.ufmt.specs.Leaves.{is_debug_byte, is_ender, is_opening, leads_on}
 
 -- the text of a leaf, or the name of a struct or a tuple; other documents have none
 abbrev pub document_name : Document → List ℕ
@@ -37,6 +37,21 @@ same_names [] [] = true
 same_names [] (name ∷ names) = false
 same_names (other ∷ others) [] = false
 same_names (other ∷ others) (name ∷ names) = bytes_eq other name && same_names others names
+
+-- each byte is one that a name of a debug document may have: a colon only where a byte that is no colon comes after it
+abbrev pub is_debug_name_or_empty : List ℕ → Bool
+is_debug_name_or_empty [] = true
+is_debug_name_or_empty (c ∷ text) = (is_debug_byte c || c == colon && leads_on text) && is_debug_name_or_empty text
+
+-- a text, which is UTF-8, may be a name of a debug document: a test, which is computed where the text is known
+abbrev pub is_debug_name : List ℕ → Bool
+is_debug_name [] = false
+is_debug_name (c ∷ text) = is_debug_name_or_empty (c ∷ text)
+
+-- each of these texts may
+abbrev pub are_debug_names : List (List ℕ) → Bool
+are_debug_names [] = true
+are_debug_names (name ∷ names) = is_debug_name name && are_debug_names names
 
 -- a byte that comes after a name: a space, a comma or a bracket
 abbrev pub ends_name : ℕ → Bool

@@ -3,12 +3,19 @@ use Rattle.std.specs.Prelude.{ℕ, List, [], ◌∷◌, ◌++◌, codes, map, �
 use Rattle.std.specs.Borrow.{Bor}
 use Rattle.ufmt.specs.Document.{Document}
 use Rattle.ufmt.specs.Layout.{layout}
+use Rattle.ufmt.specs.Leaves.{IsName}
+use Rattle.ufmt_grammar.specs.declared.class.Class.TheVariants.{Debug}
 use Rattle.ufmt_core.specs.declared.layout.Setting.{Setting}
 use Rattle.ufmt_parse.specs.Taking.{Fits}
 
 -- the texts that these references are to
 abbrev pub all_now : List (Bor (List ℕ)) → List (List ℕ)
 all_now names = map (λ name. name.now) names
+
+-- each is a name of a debug document
+abbrev pub AreNames : List (List ℕ) → Type 0
+AreNames [] = ⊤
+AreNames (name ∷ names) = IsName Debug name × AreNames names
 
 -- the fields' texts, each after its name as far as there are names
 abbrev pub row_texts : Setting → List (List ℕ) → List Document → List (List ℕ)

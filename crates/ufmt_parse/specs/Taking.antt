@@ -1,10 +1,10 @@
 -- What a parser takes from the front of a text.
-use Rattle.std.specs.Prelude.{◌≡◌, ◌≢◌, ℕ, ◌+◌, ◌≤◌, Bool, List, [], ◌∷◌, ◌++◌, MatchBool, Result, Ok, Err, ⊤}
+use Rattle.std.specs.Prelude.{◌≡◌, ◌≢◌, ℕ, ◌+◌, ◌≤◌, Bool, List, ◌++◌, MatchBool, Result, Ok, Err, ⊤}
 use Rattle.ufmt.specs.Document.{Document, nest}
 use Rattle.ufmt.specs.Layout.{layout}
 use Rattle.ufmt_core.specs.declared.layout.Mode.{Mode}
 use Rattle.ufmt_grammar.specs.declared.class.Class.TheVariants.{Debug}
-use Rattle.ufmt.specs.Leaves.{IsWord, MayFollow}
+use Rattle.ufmt.specs.Leaves.{MayFollow}
 use Rattle.ufmt.specs.Token.{IsBuilt}
 pub use Rattle.ufmt_scan.specs.Depth.{depth_in, setting_in}
 use Rattle.ufmt_parse.specs.declared.parser.Parser.{Parser}
@@ -22,11 +22,6 @@ open_blocks parser = parser.open_blocks
 -- a debug document that may be inside so many blocks
 abbrev pub Fits : ℕ → Document → Type 0
 Fits blocks d = IsBuilt Debug d × (nest d + blocks ≤ 255)
-
--- each of these names is a word
-abbrev pub AreWords : List (List ℕ) → Type 0
-AreWords [] = ⊤
-AreWords (name ∷ names) = IsWord name × AreWords names
 
 -- the text doesn't begin with this piece
 abbrev pub DoesNotBegin : List ℕ → List ℕ → Type 0

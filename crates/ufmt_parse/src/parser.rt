@@ -1,11 +1,10 @@
 //! The rest of a text, and what is taken from its front.
-ghost use Rattle.std.specs.Prelude.{◌≡◌, ◌<◌, ◌≤◌, ◌-◌, length, MatchBool, false, not, suc};
+ghost use Rattle.std.specs.Prelude.{◌≡◌, ◌<◌, ◌≤◌, ◌-◌, length, MatchBool, false, not, suc, true};
 ghost use Rattle.std.specs.Str.{bytes_eq};
 ghost use Rattle.ufmt.specs.Layout.{ending, frame, lead};
 ghost use Rattle.ufmt_core.specs.declared.layout.Count.TheVariants.{Zero};
 ghost use Rattle.ufmt.specs.Document.{Document};
-ghost use Rattle.ufmt.specs.Leaves.{IsWord};
-ghost use Rattle.ufmt_parse.specs.Naming.{document_name, ends_name, is_past_name};
+ghost use Rattle.ufmt_parse.specs.Naming.{document_name, ends_name, is_debug_name, is_past_name};
 ghost use Rattle.ufmt_parse.specs.Next.{IsNotNext, NextLeaves};
 ghost use Rattle.ufmt_parse.specs.Taking.{Eats, open_blocks, rest, setting_in};
 
@@ -72,7 +71,7 @@ impl<'t, M: ParseMode> Parser<'t, M> {
     /// Returns whether what comes next has this name, as a whole: `AB` isn't named `A`.
     #[inline(always)]
     pub fn is_named(&self, name: &str) -> bool
-        requires { IsWord name.now }
+        requires { is_debug_name name.now ≡ true }
         ensures none { (d : Document) → bytes_eq (document_name d) name.now ≡ not result
             → IsNotNext M.mode self.now d }
         ensures only { (d : Document) (new : Parser M) → bytes_eq (document_name d) name.now ≡ not result
@@ -122,12 +121,12 @@ impl<'t, M: ParseMode> Parser<'t, M> {
         }
     }
 
-    /// Counts one block more. Returns false if that is one too many.
+    /// Counts one block more. If that is one too many it returns false, and the parser is as it was.
     #[inline(always)]
     pub fn opens_block(&mut self) -> bool
         ensures counts { MatchBool result
             ((open_blocks self.old < 255) × (open_blocks self.new ≡ suc (open_blocks self.old)))
-            (255 ≤ open_blocks self.old) }
+            ((255 ≤ open_blocks self.old) × (open_blocks self.new ≡ open_blocks self.old)) }
         ensures rest { rest self.new ≡ rest self.old }
     {
         match self.open_blocks.checked_add(1) {

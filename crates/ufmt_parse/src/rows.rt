@@ -1,11 +1,11 @@
 //! Rows of values, as the fields of structs and tuples, and their parsers.
-ghost use Rattle.std.specs.Prelude.{◌≤◌, ◌<◌, ◌-◌, length, [], ◌∷◌, ◌≡◌, ℕ, List, IfOk, IfErr, suc, zip, ⊤};
+ghost use Rattle.std.specs.Prelude.{◌≤◌, ◌<◌, ◌-◌, length, [], ◌∷◌, ◌≡◌, ℕ, List, IfOk, IfErr, suc, true, zip, ⊤};
 ghost use Rattle.ufmt.specs.Document.{Document, documents, fields_of, struct_of, tuple_of};
 ghost use Rattle.ufmt.specs.Layout.{block_tail, frame};
-ghost use Rattle.ufmt.specs.Leaves.{IsWordOrEmpty};
+ghost use Rattle.ufmt_parse.specs.Naming.{is_debug_name_or_empty};
 ghost use Rattle.ufmt_parse.specs.Next.{IsNotNext, NextLeaves};
-ghost use Rattle.ufmt_parse.specs.Rows.{all_now, row_texts, AllFit};
-ghost use Rattle.ufmt_parse.specs.Taking.{AreWords, IsTaken, Takes, open_blocks, rest, setting_in};
+ghost use Rattle.ufmt_parse.specs.Rows.{AllFit, AreNames, all_now, row_texts};
+ghost use Rattle.ufmt_parse.specs.Taking.{IsTaken, Takes, open_blocks, rest, setting_in};
 
 use crate::entries::{Named, Value};
 use crate::fields::{FieldParsers, parse_block};
@@ -146,7 +146,7 @@ pub(crate) fn parse_struct_row<A: Copy, M: ParseMode, V: Drop, R: RowParsers<A, 
     names: &[&str],
     row: &R,
 ) -> Result<V, Fault>
-    requires words { AreWords (name.now ∷ all_now names.now) }
+    requires named { AreNames (name.now ∷ all_now names.now) }
     requires some { (v : V) → 0 < length (R.documents v) }
     requires counted { (v : V) → length (all_now names.now) ≡ length (R.documents v) }
     requires ready { open_blocks parser.old < 255 → R.ready row.now (suc (open_blocks parser.old)) }
@@ -174,7 +174,7 @@ pub(crate) fn parse_tuple_row<A: Copy, M: ParseMode, V: Drop, R: RowParsers<A, M
     name: &str,
     row: &R,
 ) -> Result<V, Fault>
-    requires named { IsWordOrEmpty name.now }
+    requires named { is_debug_name_or_empty name.now ≡ true }
     requires some { (v : V) → 0 < length (R.documents v) }
     requires ready { open_blocks parser.old < 255 → R.ready row.now (suc (open_blocks parser.old)) }
     ensures values { IfOk result R.are_values }

@@ -3,9 +3,9 @@ ghost use Rattle.std.specs.Prelude.{◌≤◌, length, [], ◌∷◌, ◌≡◌,
 ghost use Rattle.std.specs.Str.{bytes_eq};
 ghost use Rattle.ufmt.specs.Alike.{SameFields};
 ghost use Rattle.ufmt.specs.Document.{Fields, fields_of, struct_of};
-ghost use Rattle.ufmt_parse.specs.Naming.{same_names};
+ghost use Rattle.ufmt_parse.specs.Naming.{are_debug_names, same_names};
 ghost use Rattle.ufmt_parse.specs.Next.{IsNotNext, NextLeaves};
-ghost use Rattle.ufmt_parse.specs.Taking.{AreWords, IsTaken, open_blocks, rest};
+ghost use Rattle.ufmt_parse.specs.Taking.{IsTaken, open_blocks, rest};
 
 use crate::from_front::{Plain, uParse};
 use crate::mode::ParseMode;
@@ -20,7 +20,7 @@ pub fn parse_struct_1<Alloc: Copy, A: uParse<Alloc>, M: ParseMode>(
     name: &str,
     a: &str,
 ) -> Result<A, Fault>
-    requires { AreWords (name.now ∷ a.now ∷ []) }
+    requires { are_debug_names (name.now ∷ a.now ∷ []) ≡ true }
     ensures taken { IfOk result (λ v. IsTaken M.mode parser.old (struct_of name.now (fields_of
         ((a.now, A.document v) ∷ []))) parser.new) }
     ensures only { IfOk result (λ _. (block_name a_name : List ℕ) (a_value : A)
@@ -54,7 +54,7 @@ pub fn parse_struct_2<Alloc: Copy, A: uParse<Alloc>, B: uParse<Alloc>, M: ParseM
     a: &str,
     b: &str,
 ) -> Result<(A, B), Fault>
-    requires { AreWords (name.now ∷ a.now ∷ b.now ∷ []) }
+    requires { are_debug_names (name.now ∷ a.now ∷ b.now ∷ []) ≡ true }
     ensures taken { IfOk result (λ v. IsTaken M.mode parser.old (struct_of name.now (fields_of
         ((a.now, A.document v.0) ∷ (b.now, B.document v.1) ∷ []))) parser.new) }
     ensures only { IfOk result (λ _. (block_name a_name b_name : List ℕ) (a_value : A) (b_value : B)
@@ -97,7 +97,7 @@ pub fn parse_struct_3<
     b: &str,
     c: &str,
 ) -> Result<(A, B, C), Fault>
-    requires { AreWords (name.now ∷ a.now ∷ b.now ∷ c.now ∷ []) }
+    requires { are_debug_names (name.now ∷ a.now ∷ b.now ∷ c.now ∷ []) ≡ true }
     ensures taken { IfOk result (λ v. IsTaken M.mode parser.old (struct_of name.now (fields_of
         ((a.now, A.document v.0) ∷ (b.now, B.document v.1) ∷ (c.now, C.document v.2) ∷ [])))
         parser.new) }
@@ -145,7 +145,7 @@ pub fn parse_struct_4<
     c: &str,
     d: &str,
 ) -> Result<(A, B, C, D), Fault>
-    requires { AreWords (name.now ∷ a.now ∷ b.now ∷ c.now ∷ d.now ∷ []) }
+    requires { are_debug_names (name.now ∷ a.now ∷ b.now ∷ c.now ∷ d.now ∷ []) ≡ true }
     ensures taken { IfOk result (λ v. IsTaken M.mode parser.old (struct_of name.now (fields_of
         ((a.now, A.document v.0) ∷ (b.now, B.document v.1) ∷ (c.now, C.document v.2)
         ∷ (d.now, D.document v.3) ∷ []))) parser.new) }
@@ -199,7 +199,7 @@ pub fn parse_struct_5<
     d: &str,
     e: &str,
 ) -> Result<(A, B, C, D, E), Fault>
-    requires { AreWords (name.now ∷ a.now ∷ b.now ∷ c.now ∷ d.now ∷ e.now ∷ []) }
+    requires { are_debug_names (name.now ∷ a.now ∷ b.now ∷ c.now ∷ d.now ∷ e.now ∷ []) ≡ true }
     ensures taken { IfOk result (λ v. IsTaken M.mode parser.old (struct_of name.now (fields_of
         ((a.now, A.document v.0) ∷ (b.now, B.document v.1) ∷ (c.now, C.document v.2)
         ∷ (d.now, D.document v.3) ∷ (e.now, E.document v.4) ∷ []))) parser.new) }
@@ -257,7 +257,7 @@ pub fn parse_struct_6<
     e: &str,
     f: &str,
 ) -> Result<(A, B, C, D, E, F), Fault>
-    requires { AreWords (name.now ∷ a.now ∷ b.now ∷ c.now ∷ d.now ∷ e.now ∷ f.now ∷ []) }
+    requires { are_debug_names (name.now ∷ a.now ∷ b.now ∷ c.now ∷ d.now ∷ e.now ∷ f.now ∷ []) ≡ true }
     ensures taken { IfOk result (λ v. IsTaken M.mode parser.old (struct_of name.now (fields_of
         ((a.now, A.document v.0) ∷ (b.now, B.document v.1) ∷ (c.now, C.document v.2)
         ∷ (d.now, D.document v.3) ∷ (e.now, E.document v.4) ∷ (f.now, F.document v.5) ∷ [])))
@@ -321,7 +321,7 @@ pub fn parse_struct_7<
     f: &str,
     g: &str,
 ) -> Result<(A, B, C, D, E, F, G), Fault>
-    requires { AreWords (name.now ∷ a.now ∷ b.now ∷ c.now ∷ d.now ∷ e.now ∷ f.now ∷ g.now ∷ []) }
+    requires { are_debug_names (name.now ∷ a.now ∷ b.now ∷ c.now ∷ d.now ∷ e.now ∷ f.now ∷ g.now ∷ []) ≡ true }
     ensures taken { IfOk result (λ v. IsTaken M.mode parser.old (struct_of name.now (fields_of
         ((a.now, A.document v.0) ∷ (b.now, B.document v.1) ∷ (c.now, C.document v.2)
         ∷ (d.now, D.document v.3) ∷ (e.now, E.document v.4) ∷ (f.now, F.document v.5)
@@ -391,7 +391,7 @@ pub fn parse_struct_8<
     g: &str,
     h: &str,
 ) -> Result<(A, B, C, D, E, F, G, H), Fault>
-    requires { AreWords (name.now ∷ a.now ∷ b.now ∷ c.now ∷ d.now ∷ e.now ∷ f.now ∷ g.now ∷ h.now ∷ []) }
+    requires { are_debug_names (name.now ∷ a.now ∷ b.now ∷ c.now ∷ d.now ∷ e.now ∷ f.now ∷ g.now ∷ h.now ∷ []) ≡ true }
     ensures taken { IfOk result (λ v. IsTaken M.mode parser.old (struct_of name.now (fields_of
         ((a.now, A.document v.0) ∷ (b.now, B.document v.1) ∷ (c.now, C.document v.2)
         ∷ (d.now, D.document v.3) ∷ (e.now, E.document v.4) ∷ (f.now, F.document v.5)
@@ -466,7 +466,7 @@ pub fn parse_struct_9<
     h: &str,
     i: &str,
 ) -> Result<(A, B, C, D, E, F, G, H, I), Fault>
-    requires { AreWords (name.now ∷ a.now ∷ b.now ∷ c.now ∷ d.now ∷ e.now ∷ f.now ∷ g.now ∷ h.now ∷ i.now ∷ []) }
+    requires { are_debug_names (name.now ∷ a.now ∷ b.now ∷ c.now ∷ d.now ∷ e.now ∷ f.now ∷ g.now ∷ h.now ∷ i.now ∷ []) ≡ true }
     ensures taken { IfOk result (λ v. IsTaken M.mode parser.old (struct_of name.now (fields_of
         ((a.now, A.document v.0) ∷ (b.now, B.document v.1) ∷ (c.now, C.document v.2)
         ∷ (d.now, D.document v.3) ∷ (e.now, E.document v.4) ∷ (f.now, F.document v.5)
@@ -547,7 +547,7 @@ pub fn parse_struct_10<
     i: &str,
     j: &str,
 ) -> Result<(A, B, C, D, E, F, G, H, I, J), Fault>
-    requires { AreWords (name.now ∷ a.now ∷ b.now ∷ c.now ∷ d.now ∷ e.now ∷ f.now ∷ g.now ∷ h.now ∷ i.now ∷ j.now ∷ []) }
+    requires { are_debug_names (name.now ∷ a.now ∷ b.now ∷ c.now ∷ d.now ∷ e.now ∷ f.now ∷ g.now ∷ h.now ∷ i.now ∷ j.now ∷ []) ≡ true }
     ensures taken { IfOk result (λ v. IsTaken M.mode parser.old (struct_of name.now (fields_of
         ((a.now, A.document v.0) ∷ (b.now, B.document v.1) ∷ (c.now, C.document v.2)
         ∷ (d.now, D.document v.3) ∷ (e.now, E.document v.4) ∷ (f.now, F.document v.5)
@@ -633,7 +633,7 @@ pub fn parse_struct_11<
     j: &str,
     k: &str,
 ) -> Result<(A, B, C, D, E, F, G, H, I, J, K), Fault>
-    requires { AreWords (name.now ∷ a.now ∷ b.now ∷ c.now ∷ d.now ∷ e.now ∷ f.now ∷ g.now ∷ h.now ∷ i.now ∷ j.now ∷ k.now ∷ []) }
+    requires { are_debug_names (name.now ∷ a.now ∷ b.now ∷ c.now ∷ d.now ∷ e.now ∷ f.now ∷ g.now ∷ h.now ∷ i.now ∷ j.now ∷ k.now ∷ []) ≡ true }
     ensures taken { IfOk result (λ v. IsTaken M.mode parser.old (struct_of name.now (fields_of
         ((a.now, A.document v.0) ∷ (b.now, B.document v.1) ∷ (c.now, C.document v.2)
         ∷ (d.now, D.document v.3) ∷ (e.now, E.document v.4) ∷ (f.now, F.document v.5)
@@ -728,7 +728,7 @@ pub fn parse_struct_12<
     k: &str,
     l: &str,
 ) -> Result<(A, B, C, D, E, F, G, H, I, J, K, L), Fault>
-    requires { AreWords (name.now ∷ a.now ∷ b.now ∷ c.now ∷ d.now ∷ e.now ∷ f.now ∷ g.now ∷ h.now ∷ i.now ∷ j.now ∷ k.now ∷ l.now ∷ []) }
+    requires { are_debug_names (name.now ∷ a.now ∷ b.now ∷ c.now ∷ d.now ∷ e.now ∷ f.now ∷ g.now ∷ h.now ∷ i.now ∷ j.now ∷ k.now ∷ l.now ∷ []) ≡ true }
     ensures taken { IfOk result (λ v. IsTaken M.mode parser.old (struct_of name.now (fields_of
         ((a.now, A.document v.0) ∷ (b.now, B.document v.1) ∷ (c.now, C.document v.2)
         ∷ (d.now, D.document v.3) ∷ (e.now, E.document v.4) ∷ (f.now, F.document v.5)

@@ -3,9 +3,9 @@ ghost use Rattle.std.specs.Prelude.{◌≤◌, ◌<◌, length, [], ◌∷◌, �
 ghost use Rattle.std.specs.Str.{bytes_eq};
 ghost use Rattle.ufmt.specs.Alike.{SameFields};
 ghost use Rattle.ufmt.specs.Document.{Fields, fields_of, struct_of};
-ghost use Rattle.ufmt_parse.specs.Naming.{same_names};
+ghost use Rattle.ufmt_parse.specs.Naming.{are_debug_names, same_names};
 ghost use Rattle.ufmt_parse.specs.Next.{IsNotNext, NextLeaves};
-ghost use Rattle.ufmt_parse.specs.Taking.{AreWords, IsTaken, open_blocks, rest};
+ghost use Rattle.ufmt_parse.specs.Taking.{IsTaken, open_blocks, rest};
 
 use crate::from_front::ParsesBy;
 use crate::mode::ParseMode;
@@ -21,7 +21,7 @@ pub fn parse_struct_1_by<Alloc: Copy, M: ParseMode, A: uDebug + Drop, P: ParsesB
     a: &str,
     a_by: &P,
 ) -> Result<A, Fault>
-    requires words { AreWords (name.now ∷ a.now ∷ []) }
+    requires named { are_debug_names (name.now ∷ a.now ∷ []) ≡ true }
     requires ready { open_blocks parser.old < 255 → P.ready a_by.now (suc (open_blocks parser.old)) }
     ensures values { IfOk result (λ v. P.is_value v) }
     ensures taken { IfOk result (λ v. IsTaken M.mode parser.old (struct_of name.now (fields_of
@@ -65,7 +65,7 @@ pub fn parse_struct_2_by<
     b: &str,
     b_by: &Q,
 ) -> Result<(A, B), Fault>
-    requires words { AreWords (name.now ∷ a.now ∷ b.now ∷ []) }
+    requires named { are_debug_names (name.now ∷ a.now ∷ b.now ∷ []) ≡ true }
     requires ready { open_blocks parser.old < 255 → P.ready a_by.now (suc (open_blocks parser.old))
         × Q.ready b_by.now (suc (open_blocks parser.old)) }
     ensures values { IfOk result (λ v. P.is_value v.0 × Q.is_value v.1) }
@@ -116,7 +116,7 @@ pub fn parse_struct_3_by<
     c: &str,
     c_by: &R,
 ) -> Result<(A, B, C), Fault>
-    requires words { AreWords (name.now ∷ a.now ∷ b.now ∷ c.now ∷ []) }
+    requires named { are_debug_names (name.now ∷ a.now ∷ b.now ∷ c.now ∷ []) ≡ true }
     requires ready { open_blocks parser.old < 255 → P.ready a_by.now (suc (open_blocks parser.old))
         × Q.ready b_by.now (suc (open_blocks parser.old))
         × R.ready c_by.now (suc (open_blocks parser.old)) }
@@ -175,7 +175,7 @@ pub fn parse_struct_4_by<
     d: &str,
     d_by: &S,
 ) -> Result<(A, B, C, D), Fault>
-    requires words { AreWords (name.now ∷ a.now ∷ b.now ∷ c.now ∷ d.now ∷ []) }
+    requires named { are_debug_names (name.now ∷ a.now ∷ b.now ∷ c.now ∷ d.now ∷ []) ≡ true }
     requires ready { open_blocks parser.old < 255 → P.ready a_by.now (suc (open_blocks parser.old))
         × Q.ready b_by.now (suc (open_blocks parser.old))
         × R.ready c_by.now (suc (open_blocks parser.old))
@@ -249,7 +249,7 @@ pub fn parse_struct_5_by<
     e: &str,
     e_by: &T,
 ) -> Result<(A, B, C, D, E), Fault>
-    requires words { AreWords (name.now ∷ a.now ∷ b.now ∷ c.now ∷ d.now ∷ e.now ∷ []) }
+    requires named { are_debug_names (name.now ∷ a.now ∷ b.now ∷ c.now ∷ d.now ∷ e.now ∷ []) ≡ true }
     requires ready { open_blocks parser.old < 255 → P.ready a_by.now (suc (open_blocks parser.old))
         × Q.ready b_by.now (suc (open_blocks parser.old))
         × R.ready c_by.now (suc (open_blocks parser.old))
@@ -330,7 +330,7 @@ pub fn parse_struct_6_by<
     f: &str,
     f_by: &U,
 ) -> Result<(A, B, C, D, E, F), Fault>
-    requires words { AreWords (name.now ∷ a.now ∷ b.now ∷ c.now ∷ d.now ∷ e.now ∷ f.now ∷ []) }
+    requires named { are_debug_names (name.now ∷ a.now ∷ b.now ∷ c.now ∷ d.now ∷ e.now ∷ f.now ∷ []) ≡ true }
     requires ready { open_blocks parser.old < 255 → P.ready a_by.now (suc (open_blocks parser.old))
         × Q.ready b_by.now (suc (open_blocks parser.old))
         × R.ready c_by.now (suc (open_blocks parser.old))

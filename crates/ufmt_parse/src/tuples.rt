@@ -3,7 +3,7 @@ ghost use Rattle.std.specs.Prelude.{◌≤◌, length, [], ◌∷◌, ◌≡◌,
 ghost use Rattle.std.specs.Str.{bytes_eq};
 ghost use Rattle.ufmt.specs.Alike.{SameDocuments};
 ghost use Rattle.ufmt.specs.Document.{Documents, documents, tuple_of};
-ghost use Rattle.ufmt.specs.Leaves.{IsWordOrEmpty};
+ghost use Rattle.ufmt_parse.specs.Naming.{is_debug_name_or_empty};
 ghost use Rattle.ufmt_parse.specs.Next.{IsNotNext, NextLeaves};
 ghost use Rattle.ufmt_parse.specs.Taking.{IsTaken, open_blocks, rest};
 
@@ -19,7 +19,7 @@ pub fn parse_tuple_1<Alloc: Copy, A: uParse<Alloc>, M: ParseMode>(
     parser: &mut Parser<'_, M>,
     name: &str,
 ) -> Result<A, Fault>
-    requires { IsWordOrEmpty name.now }
+    requires { is_debug_name_or_empty name.now ≡ true }
     ensures taken { IfOk result (λ v. IsTaken M.mode parser.old (tuple_of name.now (documents
         (A.document v ∷ []))) parser.new) }
     ensures only { IfOk result (λ _. (block_name : List ℕ) (a_value : A)
@@ -49,7 +49,7 @@ pub fn parse_tuple_2<Alloc: Copy, A: uParse<Alloc>, B: uParse<Alloc>, M: ParseMo
     parser: &mut Parser<'_, M>,
     name: &str,
 ) -> Result<(A, B), Fault>
-    requires { IsWordOrEmpty name.now }
+    requires { is_debug_name_or_empty name.now ≡ true }
     ensures taken { IfOk result (λ v. IsTaken M.mode parser.old (tuple_of name.now (documents
         (A.document v.0 ∷ B.document v.1 ∷ []))) parser.new) }
     ensures only { IfOk result (λ _. (block_name : List ℕ) (a_value : A) (b_value : B)
@@ -82,7 +82,7 @@ pub fn parse_tuple_3<
     C: uParse<Alloc>,
     M: ParseMode,
 >(alloc: Alloc, parser: &mut Parser<'_, M>, name: &str) -> Result<(A, B, C), Fault>
-    requires { IsWordOrEmpty name.now }
+    requires { is_debug_name_or_empty name.now ≡ true }
     ensures taken { IfOk result (λ v. IsTaken M.mode parser.old (tuple_of name.now (documents
         (A.document v.0 ∷ B.document v.1 ∷ C.document v.2 ∷ []))) parser.new) }
     ensures only { IfOk result (λ _. (block_name : List ℕ) (a_value : A) (b_value : B) (c_value : C)
@@ -117,7 +117,7 @@ pub fn parse_tuple_4<
     D: uParse<Alloc>,
     M: ParseMode,
 >(alloc: Alloc, parser: &mut Parser<'_, M>, name: &str) -> Result<(A, B, C, D), Fault>
-    requires { IsWordOrEmpty name.now }
+    requires { is_debug_name_or_empty name.now ≡ true }
     ensures taken { IfOk result (λ v. IsTaken M.mode parser.old (tuple_of name.now (documents
         (A.document v.0 ∷ B.document v.1 ∷ C.document v.2 ∷ D.document v.3 ∷ []))) parser.new) }
     ensures only { IfOk result (λ _. (block_name : List ℕ) (a_value : A) (b_value : B) (c_value : C)
@@ -156,7 +156,7 @@ pub fn parse_tuple_5<
     E: uParse<Alloc>,
     M: ParseMode,
 >(alloc: Alloc, parser: &mut Parser<'_, M>, name: &str) -> Result<(A, B, C, D, E), Fault>
-    requires { IsWordOrEmpty name.now }
+    requires { is_debug_name_or_empty name.now ≡ true }
     ensures taken { IfOk result (λ v. IsTaken M.mode parser.old (tuple_of name.now (documents
         (A.document v.0 ∷ B.document v.1 ∷ C.document v.2 ∷ D.document v.3 ∷ E.document v.4 ∷ [])))
         parser.new) }
@@ -198,7 +198,7 @@ pub fn parse_tuple_6<
     F: uParse<Alloc>,
     M: ParseMode,
 >(alloc: Alloc, parser: &mut Parser<'_, M>, name: &str) -> Result<(A, B, C, D, E, F), Fault>
-    requires { IsWordOrEmpty name.now }
+    requires { is_debug_name_or_empty name.now ≡ true }
     ensures taken { IfOk result (λ v. IsTaken M.mode parser.old (tuple_of name.now (documents
         (A.document v.0 ∷ B.document v.1 ∷ C.document v.2 ∷ D.document v.3 ∷ E.document v.4
         ∷ F.document v.5 ∷ []))) parser.new) }
@@ -244,7 +244,7 @@ pub fn parse_tuple_7<
     G: uParse<Alloc>,
     M: ParseMode,
 >(alloc: Alloc, parser: &mut Parser<'_, M>, name: &str) -> Result<(A, B, C, D, E, F, G), Fault>
-    requires { IsWordOrEmpty name.now }
+    requires { is_debug_name_or_empty name.now ≡ true }
     ensures taken { IfOk result (λ v. IsTaken M.mode parser.old (tuple_of name.now (documents
         (A.document v.0 ∷ B.document v.1 ∷ C.document v.2 ∷ D.document v.3 ∷ E.document v.4
         ∷ F.document v.5 ∷ G.document v.6 ∷ []))) parser.new) }
@@ -294,7 +294,7 @@ pub fn parse_tuple_8<
     H: uParse<Alloc>,
     M: ParseMode,
 >(alloc: Alloc, parser: &mut Parser<'_, M>, name: &str) -> Result<(A, B, C, D, E, F, G, H), Fault>
-    requires { IsWordOrEmpty name.now }
+    requires { is_debug_name_or_empty name.now ≡ true }
     ensures taken { IfOk result (λ v. IsTaken M.mode parser.old (tuple_of name.now (documents
         (A.document v.0 ∷ B.document v.1 ∷ C.document v.2 ∷ D.document v.3 ∷ E.document v.4
         ∷ F.document v.5 ∷ G.document v.6 ∷ H.document v.7 ∷ []))) parser.new) }
@@ -351,7 +351,7 @@ pub fn parse_tuple_9<
     parser: &mut Parser<'_, M>,
     name: &str,
 ) -> Result<(A, B, C, D, E, F, G, H, I), Fault>
-    requires { IsWordOrEmpty name.now }
+    requires { is_debug_name_or_empty name.now ≡ true }
     ensures taken { IfOk result (λ v. IsTaken M.mode parser.old (tuple_of name.now (documents
         (A.document v.0 ∷ B.document v.1 ∷ C.document v.2 ∷ D.document v.3 ∷ E.document v.4
         ∷ F.document v.5 ∷ G.document v.6 ∷ H.document v.7 ∷ I.document v.8 ∷ []))) parser.new) }
@@ -411,7 +411,7 @@ pub fn parse_tuple_10<
     parser: &mut Parser<'_, M>,
     name: &str,
 ) -> Result<(A, B, C, D, E, F, G, H, I, J), Fault>
-    requires { IsWordOrEmpty name.now }
+    requires { is_debug_name_or_empty name.now ≡ true }
     ensures taken { IfOk result (λ v. IsTaken M.mode parser.old (tuple_of name.now (documents
         (A.document v.0 ∷ B.document v.1 ∷ C.document v.2 ∷ D.document v.3 ∷ E.document v.4
         ∷ F.document v.5 ∷ G.document v.6 ∷ H.document v.7 ∷ I.document v.8 ∷ J.document v.9 ∷ [])))
@@ -475,7 +475,7 @@ pub fn parse_tuple_11<
     parser: &mut Parser<'_, M>,
     name: &str,
 ) -> Result<(A, B, C, D, E, F, G, H, I, J, K), Fault>
-    requires { IsWordOrEmpty name.now }
+    requires { is_debug_name_or_empty name.now ≡ true }
     ensures taken { IfOk result (λ v. IsTaken M.mode parser.old (tuple_of name.now (documents
         (A.document v.0 ∷ B.document v.1 ∷ C.document v.2 ∷ D.document v.3 ∷ E.document v.4
         ∷ F.document v.5 ∷ G.document v.6 ∷ H.document v.7 ∷ I.document v.8 ∷ J.document v.9
@@ -542,7 +542,7 @@ pub fn parse_tuple_12<
     parser: &mut Parser<'_, M>,
     name: &str,
 ) -> Result<(A, B, C, D, E, F, G, H, I, J, K, L), Fault>
-    requires { IsWordOrEmpty name.now }
+    requires { is_debug_name_or_empty name.now ≡ true }
     ensures taken { IfOk result (λ v. IsTaken M.mode parser.old (tuple_of name.now (documents
         (A.document v.0 ∷ B.document v.1 ∷ C.document v.2 ∷ D.document v.3 ∷ E.document v.4
         ∷ F.document v.5 ∷ G.document v.6 ∷ H.document v.7 ∷ I.document v.8 ∷ J.document v.9

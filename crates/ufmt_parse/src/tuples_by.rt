@@ -3,7 +3,7 @@ ghost use Rattle.std.specs.Prelude.{◌≤◌, ◌<◌, length, [], ◌∷◌, �
 ghost use Rattle.std.specs.Str.{bytes_eq};
 ghost use Rattle.ufmt.specs.Alike.{SameDocuments};
 ghost use Rattle.ufmt.specs.Document.{Documents, documents, tuple_of};
-ghost use Rattle.ufmt.specs.Leaves.{IsWordOrEmpty};
+ghost use Rattle.ufmt_parse.specs.Naming.{is_debug_name_or_empty};
 ghost use Rattle.ufmt_parse.specs.Next.{IsNotNext, NextLeaves};
 ghost use Rattle.ufmt_parse.specs.Taking.{IsTaken, open_blocks, rest};
 
@@ -20,7 +20,7 @@ pub fn parse_tuple_1_by<Alloc: Copy, M: ParseMode, A: uDebug + Drop, P: ParsesBy
     name: &str,
     a_by: &P,
 ) -> Result<A, Fault>
-    requires words { IsWordOrEmpty name.now }
+    requires named { is_debug_name_or_empty name.now ≡ true }
     requires ready { open_blocks parser.old < 255 → P.ready a_by.now (suc (open_blocks parser.old)) }
     ensures values { IfOk result (λ v. P.is_value v) }
     ensures taken { IfOk result (λ v. IsTaken M.mode parser.old (tuple_of name.now (documents
@@ -54,7 +54,7 @@ pub fn parse_tuple_2_by<
     P: ParsesBy<Alloc, M, A>,
     Q: ParsesBy<Alloc, M, B>,
 >(alloc: Alloc, parser: &mut Parser<'_, M>, name: &str, a_by: &P, b_by: &Q) -> Result<(A, B), Fault>
-    requires words { IsWordOrEmpty name.now }
+    requires named { is_debug_name_or_empty name.now ≡ true }
     requires ready { open_blocks parser.old < 255 → P.ready a_by.now (suc (open_blocks parser.old))
         × Q.ready b_by.now (suc (open_blocks parser.old)) }
     ensures values { IfOk result (λ v. P.is_value v.0 × Q.is_value v.1) }
@@ -99,7 +99,7 @@ pub fn parse_tuple_3_by<
     b_by: &Q,
     c_by: &R,
 ) -> Result<(A, B, C), Fault>
-    requires words { IsWordOrEmpty name.now }
+    requires named { is_debug_name_or_empty name.now ≡ true }
     requires ready { open_blocks parser.old < 255 → P.ready a_by.now (suc (open_blocks parser.old))
         × Q.ready b_by.now (suc (open_blocks parser.old))
         × R.ready c_by.now (suc (open_blocks parser.old)) }
@@ -149,7 +149,7 @@ pub fn parse_tuple_4_by<
     c_by: &R,
     d_by: &S,
 ) -> Result<(A, B, C, D), Fault>
-    requires words { IsWordOrEmpty name.now }
+    requires named { is_debug_name_or_empty name.now ≡ true }
     requires ready { open_blocks parser.old < 255 → P.ready a_by.now (suc (open_blocks parser.old))
         × Q.ready b_by.now (suc (open_blocks parser.old))
         × R.ready c_by.now (suc (open_blocks parser.old))
@@ -206,7 +206,7 @@ pub fn parse_tuple_5_by<
     d_by: &S,
     e_by: &T,
 ) -> Result<(A, B, C, D, E), Fault>
-    requires words { IsWordOrEmpty name.now }
+    requires named { is_debug_name_or_empty name.now ≡ true }
     requires ready { open_blocks parser.old < 255 → P.ready a_by.now (suc (open_blocks parser.old))
         × Q.ready b_by.now (suc (open_blocks parser.old))
         × R.ready c_by.now (suc (open_blocks parser.old))
@@ -269,7 +269,7 @@ pub fn parse_tuple_6_by<
     e_by: &T,
     f_by: &U,
 ) -> Result<(A, B, C, D, E, F), Fault>
-    requires words { IsWordOrEmpty name.now }
+    requires named { is_debug_name_or_empty name.now ≡ true }
     requires ready { open_blocks parser.old < 255 → P.ready a_by.now (suc (open_blocks parser.old))
         × Q.ready b_by.now (suc (open_blocks parser.old))
         × R.ready c_by.now (suc (open_blocks parser.old))

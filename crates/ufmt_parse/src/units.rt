@@ -1,8 +1,7 @@
 //! Values that print as their name alone: variants and structs without fields.
 ghost use Rattle.std.specs.Prelude.{◌≡◌, ◌≤◌, length, true, IfOk, IfErr};
 ghost use Rattle.ufmt.specs.Document.{Document, leaf, no_documents, no_fields, struct_of, tuple_of};
-ghost use Rattle.ufmt.specs.Leaves.{IsWord};
-ghost use Rattle.ufmt_parse.specs.Naming.{is_unit};
+ghost use Rattle.ufmt_parse.specs.Naming.{is_debug_name, is_unit};
 ghost use Rattle.ufmt_parse.specs.Next.{IsNotNext, NextLeaves};
 ghost use Rattle.ufmt_parse.specs.Taking.{IsTaken, open_blocks, rest};
 
@@ -13,7 +12,7 @@ use crate::parser::{Fault, Parser};
 /// of a longer one: see `is_named`.
 #[inline(always)]
 pub fn parse_unit<M: ParseMode>(parser: &mut Parser<'_, M>, name: &str) -> Result<(), Fault>
-    requires { IsWord name.now }
+    requires { is_debug_name name.now ≡ true }
     ensures taken { IfOk result (λ _. IsTaken M.mode parser.old (leaf name.now) parser.new) }
     ensures struct_taken { IfOk result (λ _. IsTaken M.mode parser.old (struct_of name.now no_fields) parser.new) }
     ensures tuple_taken { IfOk result (λ _. IsTaken M.mode parser.old (tuple_of name.now no_documents) parser.new) }

@@ -5,6 +5,7 @@ MOST = 12
 MOST_BY = 6
 TYPES = "ABCDEFGHIJKL"
 PARSERS = "PQRSTU"
+NUMBERS = "one two three four five six seven eight nine ten eleven twelve".split()
 WRITTEN = "tools/write-by-count writes this file: change it there."
 
 
@@ -80,8 +81,8 @@ class Block:
     def asked(self, count):
         """What the names must be."""
         if self.name == "struct":
-            return f"AreWords ({in_a_row(['name.now'] + [f'{letter}.now' for letter in letters(count)])})"
-        return "IsWordOrEmpty name.now"
+            return f"are_debug_names ({in_a_row(['name.now'] + [f'{letter}.now' for letter in letters(count)])}) ≡ true"
+        return "is_debug_name_or_empty name.now ≡ true"
 
     def result(self, count):
         """The type of what the call returns."""
@@ -165,12 +166,13 @@ pub fn parse_{self.name}_{count}<Alloc: Copy, {types}, M: ParseMode>({", ".join(
         """The words of the contracts, but for those of std's prelude."""
         struct = self.name == "struct"
         list_type, same = ("Fields", "SameFields") if struct else ("Documents", "SameDocuments")
-        leaves = "" if struct else "ghost use Rattle.ufmt.specs.Leaves.{IsWordOrEmpty};\n"
+        naming = "are_debug_names, same_names" if struct else "is_debug_name_or_empty"
         return f"""ghost use Rattle.std.specs.Str.{{bytes_eq}};
 ghost use Rattle.ufmt.specs.Alike.{{{same}}};
 ghost use Rattle.ufmt.specs.Document.{{{list_type}, {self.row}, {self.document}}};
-{leaves}{"ghost use Rattle.ufmt_parse.specs.Naming.{same_names};" + chr(10) if struct else ""}ghost use Rattle.ufmt_parse.specs.Next.{{IsNotNext, NextLeaves}};
-ghost use Rattle.ufmt_parse.specs.Taking.{{{"AreWords, " if struct else ""}IsTaken, open_blocks, rest}};"""
+ghost use Rattle.ufmt_parse.specs.Naming.{{{naming}}};
+ghost use Rattle.ufmt_parse.specs.Next.{{IsNotNext, NextLeaves}};
+ghost use Rattle.ufmt_parse.specs.Taking.{{IsTaken, open_blocks, rest}};"""
 
     def file(self):
         """The file with a call for each number of fields."""
@@ -204,14 +206,28 @@ use crate::rows::parse_{self.name}_row;
         documents = " ∷ ".join([f"g.{letter}.uDebug.document {letter.lower()}_value" for letter in TYPES[:count]] + ["[]"])
         return f"_ _ _ _ ({in_a_row(self.other_names(count)[1:])}) ({passed}) ({documents}) same"
 
+    def named(self, count, suffix):
+        """The answer that the names of a struct may be a debug document's: each is UTF-8, as a `&str` is."""
+        if self.name == "tuple":
+            return ""
+        passed = ["name"] + letters(count)
+        asked = "c.requires.named" if suffix else "c.requires"
+        names = in_a_row(f"c.args.{name}.now" for name in passed)
+        return f"""
+pub parse_struct_row-requires-clause-named : goal.parse_struct_row-requires-clause-named
+parse_struct_row-requires-clause-named g c = names_are ({names}) {chain_of([f"c.utf8.{name}" for name in passed])} {asked}
+"""
+
     def of_one(self, count, where, binders, alike, row, are, suffix):
         """The answers of the call for one field, which takes the value out of the row."""
         name, renamed = self.name, self.renamed(count)
-        uses = "use Rattle.std.proofs.Common.{[], ◌∷◌}\n" if self.name == "struct" else ""
+        struct = self.name == "struct"
+        uses = "use Rattle.std.proofs.Common.{[], ◌∷◌}\n" if struct else ""
+        words = "use Rattle.ufmt_parse.proofs.Words.{names_are}\n" if struct else ""
         return f"""{uses}use Rattle.ufmt_parse.proofs.Alike.{{no_{name}_alike}}
 use Rattle.ufmt_parse.proofs.Naming.{{no_{name}, {name}_leaves}}
-use {where} as goal
-
+{words}use {where} as goal
+{self.named(count, suffix)}
 pub returns-in-Err-clause-none : goal.returns-in-Err-clause-none
 returns-in-Err-clause-none g c = λ is_not {binders}. no_{name} {renamed} (c.in-Err.ensures.none is_not {row} {are})
 
@@ -226,14 +242,11 @@ returns-in-Ok-clause-only g c = λ {binders}. {name}_leaves {renamed} _ (c.in-Ok
         """The answers of the call for several fields, whose result is the row's."""
         ensures = f"c.parse_{self.name}_row.ensures"
         result = f"c.parse_{self.name}_row.result"
-        named = "c.requires.words" if suffix else "c.requires"
-        asked = f"""
-pub parse_struct_row-requires-clause-words : goal.parse_struct_row-requires-clause-words
-parse_struct_row-requires-clause-words g c = {named}
-
+        asked = self.named(count, suffix) + """
 pub parse_struct_row-requires-clause-counted : goal.parse_struct_row-requires-clause-counted
 parse_struct_row-requires-clause-counted g c = λ v. refl
 """ if self.name == "struct" else ""
+        words = "use Rattle.ufmt_parse.proofs.Words.{names_are}\n" if self.name == "struct" else ""
         uses = "use Rattle.std.proofs.Common.{[], ◌∷◌, refl}\n" if self.name == "struct" else ""
         none = chain_of([f"none.{place}" for place in range(count)])
         values = f"""
@@ -244,7 +257,7 @@ returns-clause-values g c = IfOk-weaker {result} _ _ (λ v are. ({", ".join(part
         return f"""{uses}use Rattle.std.proofs.lemmas.Result.{{IfErr-weaker, IfOk-weaker}}
 use Rattle.ufmt_parse.proofs.Alike.{{no_{name}_alike}}
 use Rattle.ufmt_parse.proofs.Naming.{{no_{name}, {name}_leaves}}
-use {where} as goal
+{words}use {where} as goal
 {asked}{values}
 pub returns-clause-taken : goal.returns-clause-taken
 returns-clause-taken g c = {ensures}.taken
@@ -288,7 +301,7 @@ class BlockBy(Block):
         return f"""
 /// Takes a {self.about}, {counted}.
 pub fn parse_{self.name}_{count}_by<Alloc: Copy, M: ParseMode, {types}, {by}>({", ".join(inputs)}) -> Result<{self.result(count)}, Fault>
-    requires words {{ {self.asked(count)} }}
+    requires named {{ {self.asked(count)} }}
 {wrapped(["requires ready { open_blocks parser.old < 255 →", ready[0]] + [f"× {item}" for item in ready[1:]] + ["}"], 4)}
     ensures values {{ IfOk result (λ v. {holds}) }}
 {self.clauses(count, PARSERS)}
@@ -465,6 +478,27 @@ use crate::tuples::{{{calls}}};
 {impls}"""
 
 
+def tuple_law_clause(count):
+    """That a tuple holds no memory if its fields hold none."""
+    number = NUMBERS[count - 1]
+    parts = [f"ensures of_{number} {{"] + [f"{letter}.holds_no_memory →" for letter in TYPES[:count]]
+    return wrapped(parts + [f"⟦<{tuple_of(TYPES[:count])} as uParse<Alloc>>⟧.holds_no_memory }}"], 4)
+
+
+def tuple_law():
+    """The file with the law on the tuples."""
+    types = ", ".join(f"{letter}: uParse<Alloc>" for letter in TYPES)
+    clauses = "\n".join(tuple_law_clause(count) for count in range(1, MOST + 1))
+    return f"""//! The law on tuples of one to {MOST}. {WRITTEN}
+use crate::from_front::uParse;
+
+/// A tuple holds no memory if its fields hold none.
+pub fn tuples_hold_no_memory<Alloc: Copy, {types}>()
+{clauses}
+{{}}
+"""
+
+
 STRUCTS = Block("struct", "struct_of", "fields_of", "struct")
 TUPLES = Block("tuple", "tuple_of", "documents", "tuple")
 STRUCTS_BY = BlockBy("struct", "struct_of", "fields_of", "struct")
@@ -473,7 +507,7 @@ TUPLES_BY = BlockBy("tuple", "tuple_of", "documents", "tuple")
 
 def files():
     """Each file by its path in the crate, with what makes its text."""
-    found = {"src/tuple_impls.rt": tuple_impls, "src/plain_rows.rt": plain_rows, "src/rows_by.rt": rows_by}
+    found = {"src/tuple_impls.rt": tuple_impls, "src/plain_rows.rt": plain_rows, "src/rows_by.rt": rows_by, "src/laws/of_tuples.rt": tuple_law}
     for count in range(1, MOST + 1):
         name = f"plain_rows/PlainRowParsersTuple{count}"
         found[f"proofs/{name}/parse_row/Answers.antt"] = lambda count=count, name=name: row_answers(count, name.replace("/", "."))

@@ -9,19 +9,19 @@ use Rattle.ufmt_parse.proofs.rows.parse_struct_row.Goals as goal
 pub returns-clause-values : goal.returns-clause-values
 returns-clause-values g c =
     values_clause g.M.ParseMode.mode g.R.RowParsers.are_values (λ v. struct_of c.args.name.now (fields_of (zip (all_now c.args.names.now) (g.R.RowParsers.documents v)))) c.args.parser.now c.parse_block.new.parser c.parse_block.result
-    (struct_row g.R.RowParsers.are_values g.R.RowParsers.documents c.requires.some g.M.ParseMode.mode (open_blocks c.args.parser.now) c.args.name.now (all_now c.args.names.now) c.requires.words c.requires.counted c.parse_block.ensures.takes)
+    (struct_row g.R.RowParsers.are_values g.R.RowParsers.documents c.requires.some g.M.ParseMode.mode (open_blocks c.args.parser.now) c.args.name.now (all_now c.args.names.now) c.requires.named c.requires.counted c.parse_block.ensures.takes)
 
 pub returns-clause-taken : goal.returns-clause-taken
 returns-clause-taken g c =
     taken_clause g.M.ParseMode.mode g.R.RowParsers.are_values (λ v. struct_of c.args.name.now (fields_of (zip (all_now c.args.names.now) (g.R.RowParsers.documents v)))) c.args.parser.now c.parse_block.new.parser c.parse_block.result
-    (struct_row g.R.RowParsers.are_values g.R.RowParsers.documents c.requires.some g.M.ParseMode.mode (open_blocks c.args.parser.now) c.args.name.now (all_now c.args.names.now) c.requires.words c.requires.counted c.parse_block.ensures.takes)
+    (struct_row g.R.RowParsers.are_values g.R.RowParsers.documents c.requires.some g.M.ParseMode.mode (open_blocks c.args.parser.now) c.args.name.now (all_now c.args.names.now) c.requires.named c.requires.counted c.parse_block.ensures.takes)
 
 pub returns-clause-only : goal.returns-clause-only
 returns-clause-only g c =
     only_clause g.M.ParseMode.mode g.R.RowParsers.are_values (λ v. struct_of c.args.name.now (fields_of (zip (all_now c.args.names.now) (g.R.RowParsers.documents v)))) c.args.parser.now c.parse_block.new.parser c.parse_block.result
-    (struct_row g.R.RowParsers.are_values g.R.RowParsers.documents c.requires.some g.M.ParseMode.mode (open_blocks c.args.parser.now) c.args.name.now (all_now c.args.names.now) c.requires.words c.requires.counted c.parse_block.ensures.takes)
+    (struct_row g.R.RowParsers.are_values g.R.RowParsers.documents c.requires.some g.M.ParseMode.mode (open_blocks c.args.parser.now) c.args.name.now (all_now c.args.names.now) c.requires.named c.requires.counted c.parse_block.ensures.takes)
 
 pub returns-clause-none : goal.returns-clause-none
 returns-clause-none g c =
     none_clause g.M.ParseMode.mode g.R.RowParsers.are_values (λ v. struct_of c.args.name.now (fields_of (zip (all_now c.args.names.now) (g.R.RowParsers.documents v)))) c.args.parser.now c.parse_block.new.parser c.parse_block.result
-    (struct_row g.R.RowParsers.are_values g.R.RowParsers.documents c.requires.some g.M.ParseMode.mode (open_blocks c.args.parser.now) c.args.name.now (all_now c.args.names.now) c.requires.words c.requires.counted c.parse_block.ensures.takes)
+    (struct_row g.R.RowParsers.are_values g.R.RowParsers.documents c.requires.some g.M.ParseMode.mode (open_blocks c.args.parser.now) c.args.name.now (all_now c.args.names.now) c.requires.named c.requires.counted c.parse_block.ensures.takes)

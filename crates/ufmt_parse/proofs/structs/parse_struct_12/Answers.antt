@@ -3,10 +3,11 @@ use Rattle.std.proofs.Common.{[], ◌∷◌, refl}
 use Rattle.std.proofs.lemmas.Result.{IfErr-weaker, IfOk-weaker}
 use Rattle.ufmt_parse.proofs.Alike.{no_struct_alike}
 use Rattle.ufmt_parse.proofs.Naming.{no_struct, struct_leaves}
+use Rattle.ufmt_parse.proofs.Words.{names_are}
 use Rattle.ufmt_parse.proofs.structs.parse_struct_12.Goals as goal
 
-pub parse_struct_row-requires-clause-words : goal.parse_struct_row-requires-clause-words
-parse_struct_row-requires-clause-words g c = c.requires
+pub parse_struct_row-requires-clause-named : goal.parse_struct_row-requires-clause-named
+parse_struct_row-requires-clause-named g c = names_are (c.args.name.now ∷ c.args.a.now ∷ c.args.b.now ∷ c.args.c.now ∷ c.args.d.now ∷ c.args.e.now ∷ c.args.f.now ∷ c.args.g.now ∷ c.args.h.now ∷ c.args.i.now ∷ c.args.j.now ∷ c.args.k.now ∷ c.args.l.now ∷ []) (c.utf8.name, (c.utf8.a, (c.utf8.b, (c.utf8.c, (c.utf8.d, (c.utf8.e, (c.utf8.f, (c.utf8.g, (c.utf8.h, (c.utf8.i, (c.utf8.j, (c.utf8.k, (c.utf8.l, tt))))))))))))) c.requires
 
 pub parse_struct_row-requires-clause-counted : goal.parse_struct_row-requires-clause-counted
 parse_struct_row-requires-clause-counted g c = λ v. refl

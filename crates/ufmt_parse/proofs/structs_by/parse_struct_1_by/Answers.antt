@@ -2,7 +2,11 @@
 use Rattle.std.proofs.Common.{[], ◌∷◌}
 use Rattle.ufmt_parse.proofs.Alike.{no_struct_alike}
 use Rattle.ufmt_parse.proofs.Naming.{no_struct, struct_leaves}
+use Rattle.ufmt_parse.proofs.Words.{names_are}
 use Rattle.ufmt_parse.proofs.structs_by.parse_struct_1_by.Goals as goal
+
+pub parse_struct_row-requires-clause-named : goal.parse_struct_row-requires-clause-named
+parse_struct_row-requires-clause-named g c = names_are (c.args.name.now ∷ c.args.a.now ∷ []) (c.utf8.name, (c.utf8.a, tt)) c.requires.named
 
 pub returns-in-Err-clause-none : goal.returns-in-Err-clause-none
 returns-in-Err-clause-none g c = λ is_not block_name a_name a_value same is_a. no_struct _ _ _ _ (a_name ∷ []) (c.args.a.now ∷ []) (g.A.uDebug.document a_value ∷ []) same (c.in-Err.ensures.none is_not (record { 0 = a_value }) (is_a, tt))
