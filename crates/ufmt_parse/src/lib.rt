@@ -14,6 +14,7 @@ mod fields;
 mod from_front;
 mod held_texts;
 mod keys;
+pub mod laws;
 mod listed;
 mod lists;
 mod macros;
