@@ -18,6 +18,7 @@ pub fn round_trip<T: uParse<Global>>(alloc: Global, value: &T) -> Result<T, Pars
         plain_text (T.document parsed) ≡ plain_text (T.document value.now)) }
     ensures same { IsDebugDocument (T.document value.now) → IfOk result (λ parsed.
         normal (T.document parsed) ≡ normal (T.document value.now)) }
+    ensures debug { IfOk result (λ parsed. IsDebugDocument (T.document parsed)) }
     ensures is_text { IsDebugDocument (T.document value.now) → (at : ℕ)
         → IsErrOf result (ParseError.NotText at) → ⊥ }
 {
@@ -40,6 +41,7 @@ pub fn round_trip_in<T: uParse<A>, A: Drop>(
         plain_text (T.document parsed) ≡ plain_text (T.document value.now))) }
     ensures same { IsDebugDocument (T.document value.now) → IfOk result (λ outcome. IfSome outcome (λ parsed.
         normal (T.document parsed) ≡ normal (T.document value.now))) }
+    ensures debug { IfOk result (λ outcome. IfSome outcome (λ parsed. IsDebugDocument (T.document parsed))) }
     ensures fits { IfOk result (λ outcome. (outcome ≡ None)
         ↔ (length buffer.old < length (plain_text (T.document value.now)))) }
     ensures is_text { IsDebugDocument (T.document value.now) → (at : ℕ)

@@ -11,13 +11,14 @@ use crate::from_front::uParse;
 use crate::mode::{ParseMode, PlainText, PrettyText};
 use crate::parser::{Fault, Parser};
 
-/// Returns a value that prints as this plain text. Fails with `NotText` only if no value whose document is
-/// a debug document prints so: after a whole value's text, `at` is where it ends. The other error is
+/// Returns a value that prints as this plain text, and whose document is a debug document. Fails with `NotText`
+/// only if no such value prints so: after a whole value's text, `at` is where it ends. The other error is
 /// `OutOfMemory`, which never comes for a type that holds no memory.
 pub fn parse<T: uParse<A>, A>(alloc: A, text: &[u8]) -> Result<T, ParseError>
     ensures ok { IfOk result (λ v. plain_text (T.document v) ≡ text.now) }
     ensures form { IfOk result (λ v. (d : Document) → IsDebugDocument d → plain_text d ≡ text.now
         → normal (T.document v) ≡ normal d) }
+    ensures debug { IfOk result (λ v. IsDebugDocument (T.document v)) }
     ensures not_text { (at : ℕ) → IsErrOf result (ParseError.NotText at) → (v : T) → T.is_value v
         → IsDebugDocument (T.document v) → plain_text (T.document v) ≢ text.now }
     ensures after_value { (at : ℕ) → IsErrOf result (ParseError.NotText at) → (v : T) (u : List ℕ) → T.is_value v
@@ -34,6 +35,7 @@ pub fn parse_pretty<T: uParse<A>, A>(alloc: A, text: &[u8]) -> Result<T, ParseEr
     ensures ok { IfOk result (λ v. pretty_text (T.document v) ≡ text.now) }
     ensures form { IfOk result (λ v. (d : Document) → IsDebugDocument d → pretty_text d ≡ text.now
         → normal (T.document v) ≡ normal d) }
+    ensures debug { IfOk result (λ v. IsDebugDocument (T.document v)) }
     ensures not_text { (at : ℕ) → IsErrOf result (ParseError.NotText at) → (v : T) → T.is_value v
         → IsDebugDocument (T.document v) → pretty_text (T.document v) ≢ text.now }
     ensures after_value { (at : ℕ) → IsErrOf result (ParseError.NotText at) → (v : T) (u : List ℕ) → T.is_value v
@@ -49,7 +51,7 @@ pub fn parse_pretty<T: uParse<A>, A>(alloc: A, text: &[u8]) -> Result<T, ParseEr
 #[tactic(auto, unfolding(crate::specs::Next::IsNotNext, crate::specs::Next::NextLeaves))]
 fn parse_whole<T: uParse<A>, A, M: ParseMode>(alloc: A, text: &[u8]) -> Result<T, ParseError>
     ensures ok { IfOk result (λ v. layout (setting M.mode 0) (T.document v) ≡ text.now) }
-    ensures fits { IfOk result (λ v. IsDebugDocument (T.document v)) }
+    ensures debug { IfOk result (λ v. IsDebugDocument (T.document v)) }
     ensures not_text { (at : ℕ) → IsErrOf result (ParseError.NotText at) → (v : T) → T.is_value v
         → IsDebugDocument (T.document v) → layout (setting M.mode 0) (T.document v) ≢ text.now }
     ensures after_value { (at : ℕ) → IsErrOf result (ParseError.NotText at) → (v : T) (u : List ℕ) → T.is_value v

@@ -7,4 +7,4 @@ use Rattle.ufmt_parse.proofs.text.parse.Goals as goal
 
 pub returns-clause-form : goal.returns-clause-form
 returns-clause-form g c =
-    form_of g.T.uDebug.document (setting Plain 0) (plain_text_determines Debug) c.args.text.now c.parse_whole.result c.parse_whole.ensures.ok c.parse_whole.ensures.fits
+    form_of g.T.uDebug.document (setting Plain 0) (plain_text_determines Debug) c.args.text.now c.parse_whole.result c.parse_whole.ensures.ok c.parse_whole.ensures.debug
