@@ -1,5 +1,5 @@
 //! A command line of a device, parsed with no allocator in scope.
-ghost use Rattle.std.specs.Prelude.{[], ◌∷◌, ◌≡◌, ⊤, IfOk, IsErrOf};
+ghost use Rattle.std.specs.Prelude.{[], ◌∷◌, ◌≡◌, ◌≢◌, ⊤, ℕ, IfOk, IsErrOf};
 ghost use Rattle.ufmt.specs.Layout.{plain_text};
 ghost use Rattle.ufmt.specs.ValueDocuments.{integer, named_struct, number};
 ghost use Rattle.ufmt_parse.specs.Values.{is_i16, is_u8};
@@ -41,9 +41,12 @@ impl<A: Copy> uParse<A> for Set {
     }
 }
 
-/// Parses a command line, as `Set { channel: 3, level: -4 }`. Fails with `NotText` only.
+/// Parses a command line, as `Set { channel: 3, level: -4 }`. Fails with `NotText` if no `Set` prints so, and never
+/// with another error.
 pub fn parse_command(line: &[u8]) -> Result<Set, ParseError>
     ensures text { IfOk result (λ set. plain_text (⟦<Set as uDebug>⟧.document set) ≡ line.now) }
+    ensures not_text { (at : ℕ) → IsErrOf result (ParseError.NotText at) → (set : Set) → is_u8 set.channel
+        → is_i16 set.level → plain_text (⟦<Set as uDebug>⟧.document set) ≢ line.now }
     ensures memory { IsErrOf result ParseError.OutOfMemory → ⊥ }
 {
     parse((), line)
