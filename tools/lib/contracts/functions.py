@@ -16,8 +16,8 @@ class Function(object):
         self.path, self.line, self.owner, self.name, self.before = path, line, owner, name, before
         self.clauses = {name for clause in clauses for name in clause.names}
         self.identifiers = {token.name for clause in clauses for token in clause.tokens}
-        self.requires = ["".join(name + " " for name in clause.names) + joined(clause.tokens)
-                         for clause in clauses if clause.kind == "requires"]
+        self.texts = [(clause.kind, " ".join(clause.names), joined(clause.tokens)) for clause in clauses]
+        self.requires = [" ".join([name, text]).strip() for kind, name, text in self.texts if kind == "requires"]
 
     def is_of_trait(self):
         return self.owner.startswith("trait")
