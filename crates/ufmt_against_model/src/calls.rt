@@ -5,12 +5,38 @@ use std::convert::Infallible;
 use ufmt::class::Class;
 use ufmt::layout::Mode;
 use ufmt::{Full, uDebug, uWrite};
-use ufmt_doc::doc::Doc;
+use ufmt_doc::doc::{DebugName, StructName, Tree};
 use ufmt_doc::plain_reader::{ReadError, read_debug_plain, read_plain};
 use ufmt_doc::pretty_reader::{read_debug_pretty, read_pretty};
 use ufmt_doc::scan::{ScanError, Sink, scan};
 use ufmt_doc::{convert, is_debug_text, is_text, laws, valid_up_to};
 use ufmt_parse::{ParseError, parse, parse_pretty, uParse};
+
+/// The name of a struct in the documents of one class.
+pub trait Name: StructName {
+    /// Reads a text of this class.
+    fn read(alloc: Global, mode: Mode, text: &[u8]) -> Result<Tree<Self>, ReadError>;
+}
+
+/// Of token documents.
+impl Name for String {
+    fn read(alloc: Global, mode: Mode, text: &[u8]) -> Result<Tree<String>, ReadError> {
+        match mode {
+            Mode::Plain => read_plain(alloc, text),
+            Mode::Pretty => read_pretty(alloc, text),
+        }
+    }
+}
+
+/// Of debug documents.
+impl Name for DebugName {
+    fn read(alloc: Global, mode: Mode, text: &[u8]) -> Result<Tree<DebugName>, ReadError> {
+        match mode {
+            Mode::Plain => read_debug_plain(alloc, text),
+            Mode::Pretty => read_debug_pretty(alloc, text),
+        }
+    }
+}
 
 /// A text, and the class and the mode in which it is read.
 #[derive(Clone, Copy)]
@@ -73,18 +99,14 @@ impl Calls<'_> {
         scan(self.class, self.mode, self.text, sink)
     }
 
-    pub fn read(&self) -> Result<Doc, ReadError> {
-        match (self.class, self.mode) {
-            (Class::Token, Mode::Plain) => read_plain(self.alloc, self.text),
-            (Class::Token, Mode::Pretty) => read_pretty(self.alloc, self.text),
-            (Class::Debug, Mode::Plain) => read_debug_plain(self.alloc, self.text),
-            (Class::Debug, Mode::Pretty) => read_debug_pretty(self.alloc, self.text),
-        }
+    /// Reads the text. The name is that of the class.
+    pub fn read<N: Name>(&self) -> Result<Tree<N>, ReadError> {
+        N::read(self.alloc, self.mode, self.text)
     }
 
     /// Reads the text, and puts the document in another form that has the same texts.
-    pub fn read_loose(&self) -> Result<Doc, ReadError> {
-        let mut doc = self.read()?;
+    pub fn read_loose<N: Name>(&self) -> Result<Tree<N>, ReadError> {
+        let mut doc = self.read::<N>()?;
         let mut loosener = Loosener {
             alloc: self.alloc,
             is_struct_next: true,
@@ -160,7 +182,7 @@ impl Calls<'_> {
         };
     }
 
-    pub fn print_into(&self, buffer: &mut [u8], doc: &Doc) -> Result<usize, Full> {
+    pub fn print_into<T: uDebug>(&self, buffer: &mut [u8], doc: &T) -> Result<usize, Full> {
         match self.mode {
             Mode::Plain => ufmt::debug_into(buffer, doc),
             Mode::Pretty => ufmt::pretty_into(buffer, doc),

@@ -1,10 +1,10 @@
 //! Makes each call on a text by itself, between marks, so that its memory and its steps can be counted.
 //! `tools/lib/model/counter.c` counts them.
-use crate::calls::Calls;
+use crate::calls::{Calls, Name};
 use std::alloc::{AllocError, Global};
 use std::collections::{BTreeMap, BTreeSet};
 use ufmt::layout::Mode;
-use ufmt_doc::doc::{Doc, same_text};
+use ufmt_doc::doc::{DebugName, Doc, same_text};
 use ufmt_doc::field_text::read_field;
 use ufmt_examples::{Node, Tree};
 use ufmt_parse::uParse;
@@ -69,20 +69,20 @@ impl Costs {
     fn on_mode(&mut self, name: &str, calls: Calls<'_>) -> Result<(), AllocError> {
         self.line.push_str(name)?;
         self.line.push_str(": ")?;
-        self.on_text(calls)?;
+        self.on_text::<String>(calls)?;
         self.on_types(calls)?;
         self.on_token_text(calls)?;
         self.line.push_str("; debug ")?;
         self.line.push_str(name)?;
         self.line.push_str(": ")?;
-        self.on_text(calls.on_debug_text())?;
+        self.on_text::<DebugName>(calls.on_debug_text())?;
         self.on_debug_doc(calls.on_debug_text())?;
         self.line.push_str("; ")
     }
 
-    fn on_text(&mut self, calls: Calls<'_>) -> Result<(), AllocError> {
+    fn on_text<N: Name>(&mut self, calls: Calls<'_>) -> Result<(), AllocError> {
         count!(self, "is_text", calls.is_text().then_some(()));
-        count!(self, "read", calls.read().ok());
+        count!(self, "read", calls.read::<N>().ok());
         count!(self, "convert", calls.convert().ok());
         count!(self, "convert to a String", converted_to_a_string(calls));
         let length = match calls.convert() {
@@ -97,7 +97,7 @@ impl Costs {
     fn on_token_text(&mut self, calls: Calls<'_>) -> Result<(), AllocError> {
         count!(self, "again", calls.again().ok());
         count!(self, "there and back", calls.by_way_of_the_other().ok());
-        match (calls.read(), calls.read_loose()) {
+        match (calls.read::<String>(), calls.read_loose::<String>()) {
             (Ok(doc), Ok(mut loose)) => self.on_docs(calls, &doc, &mut loose),
             _ => Ok(()),
         }
@@ -118,7 +118,7 @@ impl Costs {
     }
 
     fn on_debug_doc(&mut self, calls: Calls<'_>) -> Result<(), AllocError> {
-        if let Ok(doc) = calls.read() {
+        if let Ok(doc) = calls.read::<DebugName>() {
             count!(self, "is_debug", doc.is_debug().then_some(()));
         }
         Ok(())

@@ -3,7 +3,7 @@ use crate::calls::Calls;
 use crate::fault::{Fault, agree};
 use std::alloc::Global;
 use ufmt::layout::Mode;
-use ufmt_doc::doc::Doc;
+use ufmt_doc::doc::{Doc, StructName, Tree};
 use ufmt_doc::field_text::read_field;
 use ufmt_doc::plain_reader::ReadError;
 
@@ -14,7 +14,11 @@ const MOST_FIELDS: usize = 8;
 const LONGEST_LINE: usize = 500;
 
 /// Notes what a document shows that isn't within another: its own text, and those of its fields.
-pub fn note_shown(alloc: Global, doc: &Doc, out: &mut String) -> Result<(), Fault> {
+pub fn note_shown<N: StructName>(
+    alloc: Global,
+    doc: &Tree<N>,
+    out: &mut String,
+) -> Result<(), Fault> {
     note_outcome(doc.leaf_text(alloc)?, out)?;
     note_field(alloc, doc, "x", out)?;
     let Some(fields) = doc.fields() else {
@@ -30,7 +34,12 @@ pub fn note_shown(alloc: Global, doc: &Doc, out: &mut String) -> Result<(), Faul
 }
 
 // The fields of this name, and of names that differ a little.
-fn note_near(alloc: Global, doc: &Doc, name: &str, out: &mut String) -> Result<(), Fault> {
+fn note_near<N: StructName>(
+    alloc: Global,
+    doc: &Tree<N>,
+    name: &str,
+    out: &mut String,
+) -> Result<(), Fault> {
     note_field(alloc, doc, name, out)?;
     note_field(alloc, doc, without_last(name), out)?;
     note_field(alloc, doc, without_first(name), out)?;
@@ -38,7 +47,12 @@ fn note_near(alloc: Global, doc: &Doc, name: &str, out: &mut String) -> Result<(
     note_field(alloc, doc, &format!(in alloc; "{name}x")?, out)
 }
 
-fn note_field(alloc: Global, doc: &Doc, name: &str, out: &mut String) -> Result<(), Fault> {
+fn note_field<N: StructName>(
+    alloc: Global,
+    doc: &Tree<N>,
+    name: &str,
+    out: &mut String,
+) -> Result<(), Fault> {
     out.push_str(name)?;
     note_outcome(doc.field_text(alloc, name)?, out)
 }

@@ -1,7 +1,7 @@
 //! The calls of one mode on one text: those on token texts, those on debug texts, and those that parse values.
 ghost use Rattle.std.specs.Prelude.{[], ⊤};
 
-use crate::calls::Calls;
+use crate::calls::{Calls, Name};
 use crate::digest::Digest;
 use crate::events::Events;
 use crate::fault::{Fault, agree};
@@ -9,17 +9,17 @@ use crate::parts::Parts;
 use crate::pieces::{self, TextPieces};
 use crate::{parsed, tokens};
 use std::alloc::{AllocError, Global};
-use ufmt::{Full, uWrite};
-use ufmt_doc::doc::{Doc, same_text};
+use ufmt::{Full, uDebug, uWrite};
+use ufmt_doc::doc::{DebugName, Tree, same_text};
 use ufmt_doc::plain_reader::ReadError;
 use ufmt_doc::scan::ScanError;
 
 /// Returns what the calls on token texts say of the text, as a message. After it, the message has what
 /// the calls on debug texts say, or `=` if they say the same, and which types have a value with the text.
 pub fn verdict(calls: Calls<'_>) -> Result<String, AllocError> {
-    let token = of_class(calls)?;
+    let token = of_class::<String>(calls)?;
     let others = tokens::verdict(calls)?;
-    let debug = of_class(calls.on_debug_text())?;
+    let debug = of_class::<DebugName>(calls.on_debug_text())?;
     let debug = if debug.as_str() == token.as_str() {
         "="
     } else {
@@ -30,8 +30,8 @@ pub fn verdict(calls: Calls<'_>) -> Result<String, AllocError> {
 }
 
 // What the calls of the class say that both classes have.
-fn of_class(calls: Calls<'_>) -> Result<String, AllocError> {
-    let outcome = match calls.read() {
+fn of_class<N: Name>(calls: Calls<'_>) -> Result<String, AllocError> {
+    let outcome = match calls.read::<N>() {
         Ok(doc) => of_text(calls, &doc).map(Some),
         Err(ReadError::NotText) => of_no_text(calls).map(|()| None),
         Err(ReadError::OutOfMemory) => Err(Fault::Other("the reader wants memory")),
@@ -72,7 +72,7 @@ impl Half {
     }
 }
 
-fn of_text(calls: Calls<'_>, doc: &Doc) -> Result<Half, Fault> {
+fn of_text<N: Name>(calls: Calls<'_>, doc: &Tree<N>) -> Result<Half, Fault> {
     let mut events = Events::new(calls.alloc);
     agree(calls.scan(&mut events).is_ok(), "scan")?;
     agree(calls.is_text(), "is_text")?;
@@ -82,7 +82,7 @@ fn of_text(calls: Calls<'_>, doc: &Doc) -> Result<Half, Fault> {
     prints(calls, doc)?;
     prints(calls.on_converted(&converted), doc)?;
     let (parts, shown) = Parts::and_shown(calls.alloc, doc)?;
-    is_normal(calls, &parts)?;
+    is_normal::<N>(calls, &parts)?;
     is_normal_of_loose(calls, doc, &parts)?;
     Ok(Half {
         is_token: doc.is_token(),
@@ -120,7 +120,7 @@ fn is_full(outcome: Result<usize, ScanError<Full>>) -> bool {
 }
 
 // Prints the document to a `String` and into buffers. The result must be the text.
-fn prints(calls: Calls<'_>, doc: &Doc) -> Result<(), Fault> {
+fn prints<T: uDebug>(calls: Calls<'_>, doc: &T) -> Result<(), Fault> {
     let text = calls.print(doc)?;
     agree(text.as_bytes() == calls.text, "print")?;
     let mut buffer = vec![in calls.alloc; 0u8; text.len()]?;
@@ -135,15 +135,15 @@ fn prints(calls: Calls<'_>, doc: &Doc) -> Result<(), Fault> {
 }
 
 // A document that was read is in normal form.
-fn is_normal(calls: Calls<'_>, parts: &str) -> Result<(), Fault> {
-    let mut doc = calls.read()?;
+fn is_normal<N: Name>(calls: Calls<'_>, parts: &str) -> Result<(), Fault> {
+    let mut doc = calls.read::<N>()?;
     doc.normalize(calls.alloc);
     has_parts(calls, &doc, parts, "normalize of what was read")
 }
 
 // A document that isn't in normal form has the same texts and the same normal form.
-fn is_normal_of_loose(calls: Calls<'_>, doc: &Doc, parts: &str) -> Result<(), Fault> {
-    let mut loose = calls.read_loose()?;
+fn is_normal_of_loose<N: Name>(calls: Calls<'_>, doc: &Tree<N>, parts: &str) -> Result<(), Fault> {
+    let mut loose = calls.read_loose::<N>()?;
     prints(calls, &loose)?;
     let is_alike = pieces::printed(calls, &loose) == pieces::printed(calls, doc);
     agree(is_alike, "pieces of a document that isn't in normal form")?;
@@ -152,7 +152,7 @@ fn is_normal_of_loose(calls: Calls<'_>, doc: &Doc, parts: &str) -> Result<(), Fa
     has_parts(calls, &loose, parts, "normalize")
 }
 
-fn have_one_text(loose: &Doc, doc: &Doc) -> Result<(), Fault> {
+fn have_one_text<N: Name>(loose: &Tree<N>, doc: &Tree<N>) -> Result<(), Fault> {
     agree(loose.is_token() == doc.is_token(), "is_token")?;
     agree(doc.is_debug() && loose.is_debug(), "is_debug")?;
     agree(same_text(doc, doc), "same_text with itself")?;
@@ -161,9 +161,9 @@ fn have_one_text(loose: &Doc, doc: &Doc) -> Result<(), Fault> {
 }
 
 /// Compares a document with its parts. The call of this name returned it.
-pub fn has_parts(
+pub fn has_parts<N: Name>(
     calls: Calls<'_>,
-    doc: &Doc,
+    doc: &Tree<N>,
     parts: &str,
     call: &'static str,
 ) -> Result<(), Fault> {

@@ -5,7 +5,7 @@ use std::alloc::{AllocError, Global};
 use ufmt::class::Class;
 use ufmt::{plain_text, pretty_text};
 use ufmt_doc::doc::same_text;
-use ufmt_doc::{Doc, read_plain, read_pretty};
+use ufmt_doc::{DebugDoc, DebugName, Doc, StructName, Tree, read_plain, read_pretty};
 use ufmt_scan::leaf::{is_leaf, is_leaf_of, is_name_of, is_word};
 
 // How many characters of a text are put in apostrophes.
@@ -23,7 +23,7 @@ pub fn verdict(alloc: Global, text: &[u8]) -> Result<String, AllocError> {
 }
 
 // Whether the text is a leaf of the class, and whether it is a name of the class.
-#[derive(Clone, Copy)]
+#[derive(Clone, Copy, PartialEq)]
 struct Kinds {
     is_leaf: bool,
     is_name: bool,
@@ -57,16 +57,17 @@ impl Leaf {
 }
 
 fn of_text(alloc: Global, text: &str) -> Result<Leaf, Fault> {
-    let (leaf, named) = (leaf_of(alloc, text)?, named(alloc, text)?);
-    let (token, debug) = (
-        kinds_in(Class::Token, text, &leaf, &named)?,
-        kinds_in(Class::Debug, text, &leaf, &named)?,
-    );
+    let (token, debug) = kinds_of::<String>(alloc, text)?;
+    let kinds = kinds_of::<DebugName>(alloc, text)?;
+    agree(
+        kinds == (token, debug),
+        "is_token and is_debug of a debug document",
+    )?;
     agree(is_leaf(text) == token.is_leaf, "is_leaf")?;
     agree(is_word(text) == token.is_name, "is_word")?;
     agree_on_only_dots(alloc, text, debug.is_name)?;
-    is_no_only_dots(alloc, text, &leaf)?;
-    is_no_only_dots(alloc, text, &named)?;
+    is_no_only_dots(alloc, text, &leaf_of(alloc, text)?)?;
+    is_no_only_dots(alloc, text, &named(alloc, text)?)?;
     Ok(Leaf {
         token,
         debug,
@@ -75,8 +76,16 @@ fn of_text(alloc: Global, text: &str) -> Result<Leaf, Fault> {
     })
 }
 
-fn leaf_of(alloc: Global, text: &str) -> Result<Doc, Fault> {
-    let leaf = Doc::Leaf(String::from_str(alloc, text)?);
+// What the text is in token documents, and in debug documents.
+fn kinds_of<N: StructName>(alloc: Global, text: &str) -> Result<(Kinds, Kinds), Fault> {
+    let leaf: Tree<N> = leaf_of(alloc, text)?;
+    let named: Tree<N> = named(alloc, text)?;
+    let token = kinds_in(Class::Token, text, &leaf, &named)?;
+    Ok((token, kinds_in(Class::Debug, text, &leaf, &named)?))
+}
+
+fn leaf_of<N: StructName>(alloc: Global, text: &str) -> Result<Tree<N>, Fault> {
+    let leaf = Tree::Leaf(String::from_str(alloc, text)?);
     agree(
         plain_text(alloc, &leaf)?.as_str() == text,
         "plain text of a leaf",
@@ -88,7 +97,12 @@ fn leaf_of(alloc: Global, text: &str) -> Result<Doc, Fault> {
     Ok(leaf)
 }
 
-fn kinds_in(class: Class, text: &str, leaf: &Doc, named: &Doc) -> Result<Kinds, Fault> {
+fn kinds_in<N: StructName>(
+    class: Class,
+    text: &str,
+    leaf: &Tree<N>,
+    named: &Tree<N>,
+) -> Result<Kinds, Fault> {
     let kinds = Kinds {
         is_leaf: is_of(class, leaf),
         is_name: is_of(class, named),
@@ -98,7 +112,7 @@ fn kinds_in(class: Class, text: &str, leaf: &Doc, named: &Doc) -> Result<Kinds, 
     Ok(kinds)
 }
 
-fn is_of(class: Class, doc: &Doc) -> bool {
+fn is_of<N: StructName>(class: Class, doc: &Tree<N>) -> bool {
     match class {
         Class::Token => doc.is_token(),
         Class::Debug => doc.is_debug(),
@@ -111,17 +125,23 @@ fn in_quotes(alloc: Global, text: &str) -> Result<Digest, Fault> {
 }
 
 // A struct with that name, and with a field of that name.
-fn named(alloc: Global, name: &str) -> Result<Doc, Fault> {
+fn named<N: StructName>(alloc: Global, name: &str) -> Result<Tree<N>, Fault> {
     let mut fields = Vec::new(alloc);
-    let value = Doc::Leaf(String::from_str(alloc, "x")?);
+    let value = Tree::Leaf(String::from_str(alloc, "x")?);
     fields.push((String::from_str(alloc, name)?, value))?;
-    Ok(Doc::StructOf(String::from_str(alloc, name)?, fields))
+    match N::new(String::from_str(alloc, name)?, false) {
+        Some(name) => Ok(Tree::StructOf(name, fields)),
+        None => Err(Fault::Other("a name without dots")),
+    }
 }
 
 // A struct with that name that ends in dots, and has no fields.
-fn only_dots(alloc: Global, name: &str) -> Result<Doc, Fault> {
-    let name = String::from_str(alloc, name)?;
-    Ok(Doc::NonExhaustiveOf(name, Vec::new(alloc)))
+fn only_dots(alloc: Global, name: &str) -> Result<DebugDoc, Fault> {
+    let name = DebugName {
+        text: String::from_str(alloc, name)?,
+        ends_in_dots: true,
+    };
+    Ok(DebugDoc::StructOf(name, Vec::new(alloc)))
 }
 
 fn agree_on_only_dots(alloc: Global, name: &str, is_name: bool) -> Result<(), Fault> {
@@ -134,7 +154,7 @@ fn agree_on_only_dots(alloc: Global, name: &str, is_name: bool) -> Result<(), Fa
     agree(same_text(&normal, &dots), "normalize of only dots")
 }
 
-fn is_no_only_dots(alloc: Global, name: &str, other: &Doc) -> Result<(), Fault> {
+fn is_no_only_dots(alloc: Global, name: &str, other: &DebugDoc) -> Result<(), Fault> {
     let dots = only_dots(alloc, name)?;
     let are_different = !same_text(&dots, other) && !same_text(other, &dots);
     agree(are_different, "same_text of only dots and another")

@@ -1,7 +1,7 @@
 //! A document that isn't in normal form, and has the same texts.
 use std::alloc::Global;
 use std::mem;
-use ufmt_doc::doc::Doc;
+use ufmt_doc::doc::{StructName, Tree};
 
 /// Turns words into structs and tuples without fields, in turn, and empty maps into sets.
 #[derive(Clone, Copy)]
@@ -12,31 +12,29 @@ pub struct Loosener {
 
 impl Loosener {
     #[cycle(loosen)]
-    pub fn loosen(&mut self, doc: &mut Doc) {
+    pub fn loosen<N: StructName>(&mut self, doc: &mut Tree<N>) {
         match doc {
-            Doc::Leaf(_) => self.loosen_leaf(doc),
-            Doc::Listed(entries) | Doc::SetOf(entries) | Doc::TupleOf(_, entries) => {
+            Tree::Leaf(_) => self.loosen_leaf(doc),
+            Tree::Listed(entries) | Tree::SetOf(entries) | Tree::TupleOf(_, entries) => {
                 self.loosen_all(entries);
             }
-            Doc::MapOf(pairs) if pairs.is_empty() => {
-                drop(mem::replace(doc, Doc::SetOf(Vec::new(self.alloc))));
+            Tree::MapOf(pairs) if pairs.is_empty() => {
+                drop(mem::replace(doc, Tree::SetOf(Vec::new(self.alloc))));
             }
-            Doc::MapOf(pairs) => self.loosen_pairs(pairs),
-            Doc::StructOf(_, fields) | Doc::NonExhaustiveOf(_, fields) => {
-                self.loosen_fields(fields);
-            }
+            Tree::MapOf(pairs) => self.loosen_pairs(pairs),
+            Tree::StructOf(_, fields) => self.loosen_fields(fields),
         }
     }
 
     #[cycle(loosen)]
-    fn loosen_all(&mut self, docs: &mut [Doc]) {
+    fn loosen_all<N: StructName>(&mut self, docs: &mut [Tree<N>]) {
         for doc in docs.iter_mut() {
             self.loosen(doc);
         }
     }
 
     #[cycle(loosen)]
-    fn loosen_pairs(&mut self, pairs: &mut [(Doc, Doc)]) {
+    fn loosen_pairs<N: StructName>(&mut self, pairs: &mut [(Tree<N>, Tree<N>)]) {
         for (key, value) in pairs.iter_mut() {
             self.loosen(key);
             self.loosen(value);
@@ -44,14 +42,14 @@ impl Loosener {
     }
 
     #[cycle(loosen)]
-    fn loosen_fields(&mut self, fields: &mut [(String, Doc)]) {
+    fn loosen_fields<N: StructName>(&mut self, fields: &mut [(String, Tree<N>)]) {
         for (_, value) in fields.iter_mut() {
             self.loosen(value);
         }
     }
 
-    fn loosen_leaf(&mut self, doc: &mut Doc) {
-        let Doc::Leaf(text) = doc else {
+    fn loosen_leaf<N: StructName>(&mut self, doc: &mut Tree<N>) {
+        let Tree::Leaf(text) = doc else {
             return;
         };
         if ufmt_scan::leaf::is_word(text) {
@@ -60,12 +58,15 @@ impl Loosener {
         }
     }
 
-    fn next_block(&mut self, name: String) -> Doc {
+    fn next_block<N: StructName>(&mut self, name: String) -> Tree<N> {
         self.is_struct_next = !self.is_struct_next;
         if self.is_struct_next {
-            Doc::TupleOf(name, Vec::new(self.alloc))
-        } else {
-            Doc::StructOf(name, Vec::new(self.alloc))
+            return Tree::TupleOf(name, Vec::new(self.alloc));
+        }
+        match N::new(name, false) {
+            Some(name) => Tree::StructOf(name, Vec::new(self.alloc)),
+            // A name without dots is always made.
+            None => Tree::MapOf(Vec::new(self.alloc)),
         }
     }
 }

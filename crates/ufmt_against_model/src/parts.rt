@@ -2,7 +2,7 @@
 use crate::fault::{Fault, agree};
 use crate::fields::note_shown;
 use std::alloc::Global;
-use ufmt_doc::doc::Doc;
+use ufmt_doc::doc::{Doc, StructName, Tree};
 
 /// The parts so far. A block has its entries in parentheses. A leaf in quotes comes also without
 /// quotes. Apart from these it has what leaves and fields show.
@@ -23,7 +23,7 @@ type Counts<'a> = (
 );
 
 // The counts that the calls return.
-fn counts(doc: &Doc) -> Counts<'_> {
+fn counts<N: StructName>(doc: &Tree<N>) -> Counts<'_> {
     (
         doc.as_leaf(),
         doc.name(),
@@ -34,25 +34,38 @@ fn counts(doc: &Doc) -> Counts<'_> {
 }
 
 // The counts that the document has.
-fn wanted(doc: &Doc) -> Counts<'_> {
+fn wanted<N: StructName>(doc: &Tree<N>) -> Counts<'_> {
     match doc {
-        Doc::Leaf(text) => (Some(text.as_str()), None, None, None, None),
-        Doc::Listed(entries) | Doc::SetOf(entries) => (None, None, Some(entries.len()), None, None),
-        Doc::MapOf(pairs) => (None, None, None, Some(pairs.len()), None),
-        Doc::StructOf(name, fields) | Doc::NonExhaustiveOf(name, fields) => {
-            (None, Some(name.as_str()), None, None, Some(fields.len()))
-        }
-        Doc::TupleOf(name, entries) => (None, Some(name.as_str()), Some(entries.len()), None, None),
+        Tree::Leaf(text) => (Some(text.as_str()), None, None, None, None),
+        Tree::Listed(entries) | Tree::SetOf(entries) => (
+            None,
+            None,
+            Some(entries.len()),
+            None,
+            None,
+        ),
+        Tree::MapOf(pairs) => (None, None, None, Some(pairs.len()), None),
+        Tree::StructOf(name, fields) => (None, Some(name.as_str()), None, None, Some(fields.len())),
+        Tree::TupleOf(name, entries) => (
+            None,
+            Some(name.as_str()),
+            Some(entries.len()),
+            None,
+            None,
+        ),
     }
 }
 
 impl Parts {
-    pub fn of(alloc: Global, doc: &Doc) -> Result<String, Fault> {
+    pub fn of<N: StructName>(alloc: Global, doc: &Tree<N>) -> Result<String, Fault> {
         Ok(Parts::and_shown(alloc, doc)?.0)
     }
 
     /// Returns the parts, and what they show.
-    pub fn and_shown(alloc: Global, doc: &Doc) -> Result<(String, String), Fault> {
+    pub fn and_shown<N: StructName>(
+        alloc: Global,
+        doc: &Tree<N>,
+    ) -> Result<(String, String), Fault> {
         let mut parts = Parts {
             alloc,
             text: String::new(alloc),
@@ -63,28 +76,30 @@ impl Parts {
     }
 
     #[cycle(parts)]
-    fn note(&mut self, doc: &Doc) -> Result<(), Fault> {
+    fn note<N: StructName>(&mut self, doc: &Tree<N>) -> Result<(), Fault> {
         agree(counts(doc) == wanted(doc), "parts")?;
         note_shown(self.alloc, doc, &mut self.shown)?;
         match doc {
-            Doc::Leaf(text) => self.note_leaf(doc, text),
-            Doc::Listed(entries) => self.note_entries("l", "", entries),
-            Doc::SetOf(entries) => self.note_entries("b", "", entries),
-            Doc::MapOf(pairs) => self.note_pairs(pairs),
-            Doc::StructOf(name, fields) => {
+            Tree::Leaf(text) => self.note_leaf(doc, text),
+            Tree::Listed(entries) => self.note_entries("l", "", entries),
+            Tree::SetOf(entries) => self.note_entries("b", "", entries),
+            Tree::MapOf(pairs) => self.note_pairs(pairs),
+            Tree::StructOf(name, fields) => {
                 agree(has_last_field(doc, fields), "field")?;
-                self.note_fields("s", name, fields)
+                let sign = if name.ends_in_dots() { "d" } else { "s" };
+                self.note_fields(sign, name.as_str(), fields)
             }
-            Doc::NonExhaustiveOf(name, fields) => {
-                agree(has_last_field(doc, fields), "field")?;
-                self.note_fields("d", name, fields)
-            }
-            Doc::TupleOf(name, entries) => self.note_entries("t", name, entries),
+            Tree::TupleOf(name, entries) => self.note_entries("t", name, entries),
         }
     }
 
     #[cycle(parts)]
-    fn note_entries(&mut self, sign: &str, name: &str, entries: &[Doc]) -> Result<(), Fault> {
+    fn note_entries<N: StructName>(
+        &mut self,
+        sign: &str,
+        name: &str,
+        entries: &[Tree<N>],
+    ) -> Result<(), Fault> {
         self.begin(sign, name)?;
         for entry in entries {
             self.note(entry)?;
@@ -93,7 +108,7 @@ impl Parts {
     }
 
     #[cycle(parts)]
-    fn note_pairs(&mut self, pairs: &[(Doc, Doc)]) -> Result<(), Fault> {
+    fn note_pairs<N: StructName>(&mut self, pairs: &[(Tree<N>, Tree<N>)]) -> Result<(), Fault> {
         self.begin("m", "")?;
         for (key, value) in pairs {
             self.note(key)?;
@@ -103,11 +118,11 @@ impl Parts {
     }
 
     #[cycle(parts)]
-    fn note_fields(
+    fn note_fields<N: StructName>(
         &mut self,
         sign: &str,
         name: &str,
-        fields: &[(String, Doc)],
+        fields: &[(String, Tree<N>)],
     ) -> Result<(), Fault> {
         self.begin(sign, name)?;
         for (field_name, value) in fields {
@@ -130,7 +145,7 @@ impl Parts {
         Ok(())
     }
 
-    fn note_leaf(&mut self, doc: &Doc, text: &str) -> Result<(), Fault> {
+    fn note_leaf<N: StructName>(&mut self, doc: &Tree<N>, text: &str) -> Result<(), Fault> {
         self.text.push('=')?;
         self.text.push_str(text)?;
         if let Some(inside) = doc.unquoted(self.alloc)? {
@@ -153,7 +168,7 @@ fn quoted_as(alloc: Global, leaf: &str, inside: &str) -> Result<Doc, Fault> {
 }
 
 // Whether `field` finds the name of the last field. If two fields have it, it finds the first.
-fn has_last_field(doc: &Doc, fields: &[(String, Doc)]) -> bool {
+fn has_last_field<N: StructName>(doc: &Tree<N>, fields: &[(String, Tree<N>)]) -> bool {
     match fields.last() {
         Some((name, _)) => doc.field(name).is_some() && doc.field("").is_none(),
         None => doc.field("x").is_none(),

@@ -6,8 +6,7 @@ use crate::digest::Digest;
 use crate::fault::{Fault, agree};
 use std::alloc::{AllocError, Global};
 use std::convert::Infallible;
-use ufmt::uWrite;
-use ufmt_doc::doc::Doc;
+use ufmt::{uDebug, uWrite};
 
 // Ends each piece. No text has this byte.
 const END: u8 = 0xff;
@@ -59,7 +58,7 @@ pub struct TextPieces {
 
 impl TextPieces {
     /// Prints the document that was read, and converts its text.
-    pub fn of(calls: Calls<'_>, doc: &Doc) -> Result<TextPieces, Fault> {
+    pub fn of<T: uDebug>(calls: Calls<'_>, doc: &T) -> Result<TextPieces, Fault> {
         let mut pieces = Pieces::new();
         let outcome = calls.convert_to(&mut pieces);
         agree(outcome.is_ok(), "conversion to a writer of pieces")?;
@@ -77,7 +76,7 @@ impl TextPieces {
 }
 
 /// The pieces in which a document is printed.
-pub fn printed(calls: Calls<'_>, doc: &Doc) -> Digest {
+pub fn printed<T: uDebug>(calls: Calls<'_>, doc: &T) -> Digest {
     let mut pieces = Pieces::new();
     calls.print_to(&mut pieces, doc);
     pieces.digest

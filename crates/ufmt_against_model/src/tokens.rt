@@ -12,7 +12,7 @@ use ufmt_doc::plain_reader::ReadError;
 /// Returns what the calls say of a token text, as a message. It is empty if the text is none, and the
 /// calls say so.
 pub fn verdict(calls: Calls<'_>) -> Result<String, AllocError> {
-    let outcome = match calls.read() {
+    let outcome = match calls.read::<String>() {
         Ok(doc) => is_text_in_a_list(calls, &doc).map(Some),
         Err(_) => of_no_text(calls).map(|()| None),
     };

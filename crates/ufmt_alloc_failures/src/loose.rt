@@ -41,7 +41,7 @@ pub fn loosen(doc: &mut Doc, alloc: Global) {
         Doc::Listed(entries) | Doc::SetOf(entries) => loosen_all(entries, alloc),
         Doc::MapOf(pairs) if !pairs.is_empty() => loosen_pairs(pairs, alloc),
         Doc::MapOf(_) => drop(mem::replace(doc, Doc::SetOf(Vec::new(alloc)))),
-        Doc::StructOf(_, fields) | Doc::NonExhaustiveOf(_, fields) => loosen_fields(fields, alloc),
+        Doc::StructOf(_, fields) => loosen_fields(fields, alloc),
         Doc::TupleOf(_, entries) => loosen_all(entries, alloc),
     }
 }

@@ -3,7 +3,7 @@ use Rattle.std.proofs.Common.{◌≡◌, ◌∙◌, ap, sym, refl, ℕ, ◌+◌,
 use Rattle.std.proofs.lemmas.List.{map-append, take-append-drop, take_all}
 use Rattle.std.proofs.lemmas.Simd.{map-map}
 use Rattle.std.specs.declared.alloc.Global.{Global}
-use Rattle.ufmt.specs.BuilderView.{BuilderView, WritesAll, WritesEntry, WritesRow, field_text, frame_of, inner, remaining_fields}
+use Rattle.ufmt.specs.BuilderView.{BuilderView, WritesAll, WritesEntry, WritesRow, field_text, inner, remaining_fields}
 use Rattle.ufmt.specs.Document.{Document, fields_of}
 use Rattle.ufmt.specs.Layout.{Frame, framed_all, count_after, next}
 use Rattle.ufmt.specs.Writes.{Seen}

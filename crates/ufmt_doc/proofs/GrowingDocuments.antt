@@ -69,10 +69,10 @@ tuple_is [] ds = refl
 tuple_is (c ∷ name) ds = refl
 
 -- a sink that grows with each event takes it as `Sink` asks
-pub takes_event : {E : Type 0} (old new : DocumentSink) (e : TextEvent) (outcome : Result (⊤) E) → OnOk outcome (growing new ≡ grow (growing old) e)
-    → TakesEvent (λ start es sink. growing sink ≡ grown (growing start) es) (λ _ _ _. ⊤) old e (is_ok outcome) new
-takes_event old new e (Ok x) h = λ start es before. h ∙ ap (λ g. grow g e) before ∙ sym (grown-append (growing start) es (e ∷ []))
-takes_event old new e (Err x) h = λ start es before. tt
+pub takes_event : {N E : Type 0} (shown : N → List ℕ × Bool) (old new : DocumentSink N) (e : TextEvent) (outcome : Result (⊤) E) → OnOk outcome (growing shown new ≡ grow (growing shown old) e)
+    → TakesEvent (λ start es sink. growing shown sink ≡ grown (growing shown start) es) (λ _ _ _. ⊤) old e (is_ok outcome) new
+takes_event shown old new e (Ok x) h = λ start es before. h ∙ ap (λ g. grow g e) before ∙ sym (grown-append (growing shown start) es (e ∷ []))
+takes_event shown old new e (Err x) h = λ start es before. tt
 
 module _ (class : Class) where
   mutual

@@ -1,5 +1,4 @@
 pub mod ClosedBlocks
-pub mod Docs
 pub mod FieldRows
 pub mod FieldTexts
 pub mod GrowingDocuments
@@ -7,5 +6,7 @@ pub mod LastPairs
 pub mod NormalForms
 pub mod OpenBlocks
 pub mod ReadForms
+pub mod StructNames
+pub mod Trees
 pub mod Unquoted
 pub mod Within

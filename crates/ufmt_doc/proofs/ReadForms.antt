@@ -9,7 +9,6 @@ use Rattle.ufmt_grammar.specs.declared.class.Class.{Class}
 use Rattle.ufmt.specs.Token.{IsDocument, normal}
 use Rattle.ufmt_grammar.proofs.NormalForms.{IsDocument-normal, layout-normal, normal-normal}
 use Rattle.ufmt_grammar.proofs.OneWay.{plain_text_determines, pretty_text_determines}
-use Rattle.ufmt_doc.specs.Doc.{doc_document, Doc}
 use Rattle.ufmt_scan.specs.declared.error.ReadError.{ReadError}
 use Rattle.ufmt_scan.specs.Texts.{IsConvertedAs, IsNormalFormAs}
 
@@ -26,10 +25,10 @@ module _ (class : Class) where
   form_is mode input e d read one same = sym read.1 ∙ determines mode e d read.0 one (read.2 ∙ sym same)
 
   -- what is read from a document's text is its normal form
-  pub read_again : (mode : Mode) (outcome : Result Doc ReadError) (input : List ℕ) (d : Document) → IsDocument class d → input ≡ layout (setting mode 0) d
-      → IfOk outcome (λ doc. IsNormalFormAs class (layout (setting mode 0)) input (doc_document doc)) → IfOk outcome (λ doc. doc_document doc ≡ normal d)
-  read_again mode (Ok doc) input d one is read = form_is mode input (doc_document doc) d read one (sym is)
-  read_again mode (Err e) input d one is read = tt
+  pub read_again : {X : Type 0} (view : X → Document) (mode : Mode) (outcome : Result X ReadError) (input : List ℕ) (d : Document) → IsDocument class d → input ≡ layout (setting mode 0) d
+      → IfOk outcome (λ doc. IsNormalFormAs class (layout (setting mode 0)) input (view doc)) → IfOk outcome (λ doc. view doc ≡ normal d)
+  read_again view mode (Ok doc) input d one is read = form_is mode input (view doc) d read one (sym is)
+  read_again view mode (Err e) input d one is read = tt
 
   -- a text that was converted is that of a document in normal form
   converted_form : (s : Setting) (to : Document → List ℕ) (input text : List ℕ) → IsConvertedAs class (layout s) to input text

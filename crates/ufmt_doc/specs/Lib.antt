@@ -3,6 +3,7 @@ pub mod DocViews
 pub mod FieldTexts
 pub mod Parts
 pub mod Private
+pub mod StructNames
 pub mod Unquoted
 pub use Rattle.ufmt_scan.specs.Scan
 pub use Rattle.ufmt_scan.specs.ReadError

@@ -3,21 +3,21 @@ ghost use Rattle.std.specs.Prelude.{◌≡◌, IfOk, IsErrOf};
 ghost use Rattle.ufmt.specs.Document.{Document};
 ghost use Rattle.ufmt.specs.Layout.{plain_text};
 ghost use Rattle.ufmt.specs.Token.{IsTokenDocument, normal};
-ghost use Rattle.ufmt_doc.specs.Doc.{doc_document};
+ghost use Rattle.ufmt_doc.specs.Doc.{tree_document};
 ghost use Rattle.ufmt_doc.specs.FieldTexts.{ShowsField, ShowsText};
 ghost use Rattle.ufmt_scan.specs.Texts.{IsNormalForm, NoDocumentPrints};
 
-use crate::doc::Doc;
+use crate::doc::{StructName, Tree};
 use crate::reader::read_plain;
 use std::alloc::{AllocError, Global};
 use ufmt_scan::error::ReadError;
 
-impl Doc {
+impl<N: StructName> Tree<N> {
     /// Returns the text that a leaf shows: what `unquoted` returns of it, or of any other leaf its own text
     /// as it is. So `b"x"`, `"a".."b"` and `"\u{301}"` keep their quotes and escapes. Returns `None` if this
     /// is a block. Fails only if memory runs out.
     pub fn leaf_text(&self, alloc: Global) -> Result<Option<String>, AllocError>
-        ensures { IfOk result (λ outcome. ShowsText (doc_document self.now) outcome) }
+        ensures { IfOk result (λ outcome. ShowsText (tree_document N.shown self.now) outcome) }
     {
         let Some(text) = self.as_leaf() else {
             return Ok(None);
@@ -31,7 +31,7 @@ impl Doc {
     /// Returns the text of a struct's first field with this name, as `leaf_text` does. Returns `None` if
     /// there is no such field, or if its value is a block.
     pub fn field_text(&self, alloc: Global, name: &str) -> Result<Option<String>, AllocError>
-        ensures { IfOk result (λ outcome. ShowsField name.now (doc_document self.now) outcome) }
+        ensures { IfOk result (λ outcome. ShowsField name.now (tree_document N.shown self.now) outcome) }
     {
         match self.field(name) {
             Some(value) => value.leaf_text(alloc),

@@ -3,11 +3,11 @@ ghost use Rattle.std.specs.Prelude.{◌≡◌, string_bytes, IfOk, IsErrOf};
 ghost use Rattle.ufmt.specs.Document.{Document};
 ghost use Rattle.ufmt.specs.Layout.{layout, plain_text, pretty_text, setting};
 ghost use Rattle.ufmt.specs.Token.{IsDocument, IsTokenDocument, normal};
-ghost use Rattle.ufmt_doc.specs.Doc.{doc_document};
+ghost use Rattle.ufmt_doc.specs.Doc.{debug_document, doc_document, tree_document};
 ghost use Rattle.ufmt_doc.specs.Private.{other_mode};
 ghost use Rattle.ufmt_scan.specs.Texts.{ConvertsAs, IsNormalForm, IsNormalFormAs, NoDocumentPrints, NoDocumentPrintsAs};
 
-use crate::doc::Doc;
+use crate::doc::{DebugDoc, Doc, StructName, Tree};
 use crate::reader::read_text;
 use std::alloc::{AllocError, AllocFailed, Global};
 use ufmt::class::Class;
@@ -31,7 +31,7 @@ pub fn text_again(
     ensures not_text { IsErrOf result ReadError.NotText
         → NoDocumentPrintsAs class (layout (setting mode 0)) input.now }
 {
-    let doc = read_text(alloc, class, mode, input)?;
+    let doc: DebugDoc = read_text(alloc, class, mode, input)?;
     Ok(printed(alloc, mode, &doc)?)
 }
 
@@ -55,24 +55,23 @@ pub fn text_by_way_of_the_other(
 
 /// Prints a document, and reads the text. This gives the normal form of a document of the class. Fails
 /// with `NotText` if no document of the class has the text, and otherwise only with `OutOfMemory`.
-pub fn normal_by_way_of_text(
+pub fn normal_by_way_of_text<N: StructName>(
     alloc: Global,
     class: Class,
     mode: Mode,
-    doc: &Doc,
-) -> Result<Doc, ReadError>
-    ensures ok { IsDocument class (doc_document doc.now)
-        → IfOk result (λ again. doc_document again ≡ normal (doc_document doc.now)) }
-    ensures is_text { IsDocument class (doc_document doc.now) → IsErrOf result ReadError.NotText → ⊥ }
-    ensures found { IfOk result (λ again.
-        IsNormalFormAs class (layout (setting mode 0)) (layout (setting mode 0) (doc_document doc.now))
-        (doc_document again)) }
+    doc: &Tree<N>,
+) -> Result<DebugDoc, ReadError>
+    ensures ok { IsDocument class (tree_document N.shown doc.now)
+        → IfOk result (λ again. debug_document again ≡ normal (tree_document N.shown doc.now)) }
+    ensures is_text { IsDocument class (tree_document N.shown doc.now)
+        → IsErrOf result ReadError.NotText → ⊥ }
+    ensures found { IfOk result (λ again. IsNormalFormAs class (layout (setting mode 0))
+        (layout (setting mode 0) (tree_document N.shown doc.now)) (debug_document again)) }
     ensures not_text { IsErrOf result ReadError.NotText
         → NoDocumentPrintsAs class (layout (setting mode 0))
-        (layout (setting mode 0) (doc_document doc.now)) }
+        (layout (setting mode 0) (tree_document N.shown doc.now)) }
 {
-    let text = printed(alloc, mode, doc)?;
-    read_text(alloc, class, mode, text.as_bytes())
+    by_way_of_text(alloc, class, mode, doc)
 }
 
 /// Reads a plain text, and prints its document plainly. This gives the same text.
@@ -122,7 +121,7 @@ pub fn normal_by_way_of_plain(alloc: Global, doc: &Doc) -> Result<Doc, ReadError
     ensures not_text { IsErrOf result ReadError.NotText
         → NoDocumentPrints plain_text (plain_text (doc_document doc.now)) }
 {
-    normal_by_way_of_text(alloc, Class::Token, Mode::Plain, doc)
+    by_way_of_text(alloc, Class::Token, Mode::Plain, doc)
 }
 
 /// Does the same with the pretty text.
@@ -135,7 +134,7 @@ pub fn normal_by_way_of_pretty(alloc: Global, doc: &Doc) -> Result<Doc, ReadErro
     ensures not_text { IsErrOf result ReadError.NotText
         → NoDocumentPrints pretty_text (pretty_text (doc_document doc.now)) }
 {
-    normal_by_way_of_text(alloc, Class::Token, Mode::Pretty, doc)
+    by_way_of_text(alloc, Class::Token, Mode::Pretty, doc)
 }
 
 /// A reader's error is `OutOfMemory`, whether a `String` or a `Vec` had no memory.
@@ -147,9 +146,31 @@ pub fn want_of_memory_is_one_error<T: Drop>()
         → error ≡ ReadError.OutOfMemory }
 {}
 
+// Does what `normal_by_way_of_text` does, also with names that don't say whether a struct ends in dots.
+fn by_way_of_text<N: StructName, M: StructName>(
+    alloc: Global,
+    class: Class,
+    mode: Mode,
+    doc: &Tree<N>,
+) -> Result<Tree<M>, ReadError>
+    ensures ok { IsDocument class (tree_document N.shown doc.now)
+        → IfOk result (λ again. tree_document M.shown again ≡ normal (tree_document N.shown doc.now)) }
+    ensures is_text { IsDocument class (tree_document N.shown doc.now)
+        → IsErrOf result ReadError.NotText → ⊥ }
+    ensures found { IfOk result (λ again. IsNormalFormAs class (layout (setting mode 0))
+        (layout (setting mode 0) (tree_document N.shown doc.now)) (tree_document M.shown again)) }
+    ensures not_text { IsErrOf result ReadError.NotText
+        → NoDocumentPrintsAs class (layout (setting mode 0))
+        (layout (setting mode 0) (tree_document N.shown doc.now)) }
+{
+    let text = printed(alloc, mode, doc)?;
+    read_text(alloc, class, mode, text.as_bytes())
+}
+
 // The document's text in this mode.
-fn printed(alloc: Global, mode: Mode, doc: &Doc) -> Result<String, AllocError>
-    ensures { IfOk result (λ text. string_bytes text ≡ layout (setting mode 0) (doc_document doc.now)) }
+fn printed<N: StructName>(alloc: Global, mode: Mode, doc: &Tree<N>) -> Result<String, AllocError>
+    ensures { IfOk result (λ text.
+        string_bytes text ≡ layout (setting mode 0) (tree_document N.shown doc.now)) }
 {
     match mode {
         Mode::Plain => plain_text(alloc, doc),

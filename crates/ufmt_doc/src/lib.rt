@@ -7,7 +7,7 @@ pub mod field_text;
 pub mod laws;
 mod reader;
 
-pub use doc::Doc;
+pub use doc::{DebugDoc, DebugName, Doc, StructName, Tree};
 pub use field_text::read_field;
 pub use reader::{read_debug_plain, read_debug_pretty, read_plain, read_pretty};
 pub use ufmt_scan::error::ReadError;

@@ -1,14 +1,14 @@
 //! Reading a token document or a debug document from its text.
 ghost use Rattle.std.specs.Prelude.{IfOk, IsErrOf};
 ghost use Rattle.ufmt.specs.Layout.{layout, plain_text, pretty_text, setting};
-ghost use Rattle.ufmt_doc.specs.Doc.{doc_document};
+ghost use Rattle.ufmt_doc.specs.Doc.{debug_document, doc_document, tree_document};
 ghost use Rattle.ufmt_grammar.specs.declared.class.Class.TheVariants.{Debug};
 ghost use Rattle.ufmt_scan.specs.Texts.{IsNormalForm, IsNormalFormAs, NoDocumentPrints, NoDocumentPrintsAs};
 
 mod document_sink;
 mod open_blocks;
 
-use crate::doc::Doc;
+use crate::doc::{DebugDoc, Doc, StructName, Tree};
 use document_sink::DocumentSink;
 use std::alloc::Global;
 use ufmt::class::Class;
@@ -36,9 +36,9 @@ pub fn read_pretty(alloc: Global, input: &[u8]) -> Result<Doc, ReadError>
 
 /// Returns the debug document with this plain text, in normal form. Fails with `NotText` only if no
 /// debug document has this text; the other error is `OutOfMemory`.
-pub fn read_debug_plain(alloc: Global, input: &[u8]) -> Result<Doc, ReadError>
+pub fn read_debug_plain(alloc: Global, input: &[u8]) -> Result<DebugDoc, ReadError>
     ensures ok { IfOk result
-        (λ doc. IsNormalFormAs Debug plain_text input.now (doc_document doc)) }
+        (λ doc. IsNormalFormAs Debug plain_text input.now (debug_document doc)) }
     ensures not_text { IsErrOf result ReadError.NotText
         → NoDocumentPrintsAs Debug plain_text input.now }
 {
@@ -46,24 +46,25 @@ pub fn read_debug_plain(alloc: Global, input: &[u8]) -> Result<Doc, ReadError>
 }
 
 /// Returns the debug document with this pretty text, as `read_debug_plain` does with a plain one.
-pub fn read_debug_pretty(alloc: Global, input: &[u8]) -> Result<Doc, ReadError>
+pub fn read_debug_pretty(alloc: Global, input: &[u8]) -> Result<DebugDoc, ReadError>
     ensures ok { IfOk result
-        (λ doc. IsNormalFormAs Debug pretty_text input.now (doc_document doc)) }
+        (λ doc. IsNormalFormAs Debug pretty_text input.now (debug_document doc)) }
     ensures not_text { IsErrOf result ReadError.NotText
         → NoDocumentPrintsAs Debug pretty_text input.now }
 {
     read_text(alloc, Class::Debug, Mode::Pretty, input)
 }
 
-/// The document of the class in normal form that has the whole text.
-pub(crate) fn read_text(
+/// The document of the class in normal form that has the whole text. Debug documents are read with names
+/// that can say that a struct ends in dots: with others, such a text fails with `OutOfMemory`.
+pub(crate) fn read_text<N: StructName>(
     alloc: Global,
     class: Class,
     mode: Mode,
     input: &[u8],
-) -> Result<Doc, ReadError>
+) -> Result<Tree<N>, ReadError>
     ensures ok { IfOk result (λ doc. IsNormalFormAs class (layout (setting mode 0)) input.now
-        (doc_document doc)) }
+        (tree_document N.shown doc)) }
     ensures not_text { IsErrOf result ReadError.NotText
         → NoDocumentPrintsAs class (layout (setting mode 0)) input.now }
 {

@@ -13,8 +13,7 @@ mod shape;
 use std::alloc::Global;
 use std::fmt::Debug;
 use std::process::Abort;
-use ufmt::{plain_text, pretty_text};
-use ufmt_doc::Doc;
+use ufmt::{plain_text, pretty_text, uDebug};
 
 // Checking an assert takes as long as checking twenty calls, so asserts are calls of this one.
 // No other function is generic over the handle: checking that takes as long again.
@@ -23,7 +22,7 @@ pub fn same<T: PartialEq + Debug + Drop>(rt: &impl Abort, given: T, wanted: T, c
 }
 
 // Whether this is the document's plain text. Without memory this is false.
-pub fn has_plain_text(alloc: Global, doc: &Doc, plain: &[u8]) -> bool {
+pub fn has_plain_text<D: uDebug>(alloc: Global, doc: &D, plain: &[u8]) -> bool {
     match plain_text(alloc, doc) {
         Ok(text) => text.as_bytes() == plain,
         Err(_) => false,
@@ -31,7 +30,7 @@ pub fn has_plain_text(alloc: Global, doc: &Doc, plain: &[u8]) -> bool {
 }
 
 // The same for its pretty text.
-pub fn has_pretty_text(alloc: Global, doc: &Doc, pretty: &[u8]) -> bool {
+pub fn has_pretty_text<D: uDebug>(alloc: Global, doc: &D, pretty: &[u8]) -> bool {
     match pretty_text(alloc, doc) {
         Ok(text) => text.as_bytes() == pretty,
         Err(_) => false,

@@ -1,12 +1,13 @@
 -- Documents that grow event by event.
 use Rattle.std.specs.Prelude.{ℕ, Bool, true, false, List, [], ◌∷◌, ◌++◌, length, map, take, drop}
-use Rattle.ufmt.specs.Document.{Document, leaf, list_of, set_of, map_of, struct_of, non_exhaustive_of, tuple_of, no_fields, documents, pairs_of, fields_of}
+use Rattle.ufmt.specs.Document.{Document, leaf, list_of, set_of, map_of, non_exhaustive_of, tuple_of, no_fields, documents, pairs_of, fields_of}
 use Rattle.ufmt_core.specs.declared.layout.Kind.{Kind}
 use Rattle.ufmt_core.specs.declared.layout.Kind.TheVariants.{Brackets, Braces, Struct, Tuple, Unnamed}
 use Rattle.ufmt_doc.specs.declared.reader.document_sink.DocumentSink.{DocumentSink}
 use Rattle.ufmt_doc.specs.declared.reader.open_blocks.PartialBlock.{PartialBlock}
-use Rattle.ufmt_doc.specs.Doc.{doc_document}
+use Rattle.ufmt_doc.specs.Doc.{tree_document}
 use Rattle.ufmt_scan.specs.declared.scan.event.Event.TheVariants.{Leaf, Empty, OnlyDots, Open, FieldName, Colon, Next, Close, Dots}
+use Rattle.ufmt_doc.specs.StructNames.{named_struct}
 use Rattle.ufmt_scan.specs.Scan.{TextEvent}
 
 -- the documents on the stack, the last one on top, and the open blocks, the innermost first
@@ -27,20 +28,24 @@ text_of _ = []
 abbrev pub field_from : Document × Document → List ℕ × Document
 field_from p = (text_of p.0, p.1)
 
+-- the struct with these fields, after the leaf of its name, by whether it ends in dots
+abbrev pub struct_block : Bool → List Document → Document
+struct_block dots (name ∷ ds) = named_struct (text_of name, dots) (fields_of (map field_from (in_pairs ds)))
+struct_block dots [] = leaf []
+
 -- the block of this kind with these entries, by whether a colon came among them. The name of a struct or tuple is a leaf before its entries
 abbrev pub block_of : Kind → Bool → List Document → Document
 block_of Brackets colon ds = list_of (documents ds)
 block_of Braces true ds = map_of (pairs_of (in_pairs ds))
 block_of Braces false ds = set_of (documents ds)
 block_of Unnamed colon ds = tuple_of [] (documents ds)
-block_of Struct colon (name ∷ ds) = struct_of (text_of name) (fields_of (map field_from (in_pairs ds)))
+block_of Struct colon ds = struct_block false ds
 block_of Tuple colon (name ∷ ds) = tuple_of (text_of name) (documents ds)
 block_of kind colon ds = leaf []
 
--- the same for a struct that ends in dots
+-- the block of a struct that ends in dots
 abbrev pub dotted_block : Bool → List Document → Document
-dotted_block colon (name ∷ ds) = non_exhaustive_of (text_of name) (fields_of (map field_from (in_pairs ds)))
-dotted_block colon [] = leaf []
+dotted_block colon ds = struct_block true ds
 
 -- an open block whose entries start there, and whether a colon came in it
 abbrev pub block_at : ℕ → Bool → PartialBlock
@@ -93,5 +98,5 @@ grown g [] = g
 grown g (e ∷ es) = grown (grow g e) es
 
 -- what a sink has made of the events that it took
-abbrev pub growing : DocumentSink → Growing
-growing sink = (map doc_document sink.docs.items, sink.blocks)
+abbrev pub growing : {N : Type 0} → (N → List ℕ × Bool) → DocumentSink N → Growing
+growing shown sink = (map (tree_document shown) sink.docs.items, sink.blocks)

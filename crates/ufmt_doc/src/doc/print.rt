@@ -2,26 +2,28 @@
 ghost use Rattle.std.specs.Prelude.{is_ok, List, map, string_bytes, ℕ};
 ghost use Rattle.ufmt.specs.Document.{Document, documents, fields_of, map_of, non_exhaustive_of, pairs_of, set_of, struct_of, tuple_of};
 ghost use Rattle.ufmt.specs.Formatter.{LaysOut};
-ghost use Rattle.ufmt_doc.specs.Doc.{doc_document};
+ghost use Rattle.ufmt_doc.specs.Doc.{tree_document};
 
-use super::Doc;
+use super::{StructName, Tree};
 use ufmt::{Formatter, uDebug, uWrite};
 
-impl uDebug for Doc {
-    ghost document = { doc_document };
+impl<N: StructName> uDebug for Tree<N> {
+    ghost document = { tree_document N.shown };
 
     #[cycle(print)]
     fn fmt<W: uWrite>(&self, f: &mut Formatter<W>) -> Result<(), W::Error> {
         match self {
-            Doc::Leaf(text) => f.write_str(text),
-            Doc::Listed(entries) => entries.fmt(f),
-            Doc::SetOf(entries) => EntriesOf::<SetKind>::print(entries, "", f),
-            Doc::MapOf(pairs) => EntriesOf::<MapKind>::print(pairs, "", f),
-            Doc::StructOf(name, fields) => EntriesOf::<StructKind>::print(fields, name, f),
-            Doc::NonExhaustiveOf(name, fields) => {
-                EntriesOf::<NonExhaustiveKind>::print(fields, name, f)
+            Tree::Leaf(text) => f.write_str(text),
+            Tree::Listed(entries) => entries.fmt(f),
+            Tree::SetOf(entries) => EntriesOf::<SetKind>::print(entries, "", f),
+            Tree::MapOf(pairs) => EntriesOf::<MapKind>::print(pairs, "", f),
+            Tree::StructOf(name, fields) if name.ends_in_dots() => {
+                EntriesOf::<NonExhaustiveKind>::print(fields, name.as_str(), f)
             }
-            Doc::TupleOf(name, fields) => EntriesOf::<TupleKind>::print(fields, name, f),
+            Tree::StructOf(name, fields) => {
+                EntriesOf::<StructKind>::print(fields, name.as_str(), f)
+            }
+            Tree::TupleOf(name, fields) => EntriesOf::<TupleKind>::print(fields, name, f),
         }
     }
 }
@@ -37,7 +39,7 @@ struct NonExhaustiveKind;
 struct TupleKind;
 
 // The entries of a block of this kind. Implemented per field type: the check allows recursion at
-// `Vec<Doc>`, not at `Doc`.
+// `Vec<Tree<N>>`, not at `Tree<N>`.
 trait EntriesOf<Kind> {
     // The block with this name.
     ghost block: { List ℕ → Self → Document };

@@ -2,12 +2,12 @@
 ghost use Rattle.std.specs.Prelude.{◌≡◌, ◌<◌, ◌≤◌, ◌∷◌, [], IfOk, OnOk, Some, drop, length, map, option_map, string_bytes, take, vec_capacity, ⊤};
 ghost use Rattle.std.proofs.Common.{refl};
 ghost use Rattle.ufmt.specs.Document.{Document, leaf, no_fields, non_exhaustive_of};
-ghost use Rattle.ufmt_doc.specs.Doc.{doc_document};
+ghost use Rattle.ufmt_doc.specs.Doc.{tree_document};
 ghost use Rattle.ufmt_doc.specs.DocViews.{field_view, pair_view};
-ghost use Rattle.ufmt_doc.specs.Private.Growing.{block_of, closed, dotted_block, field_from, growing, grown, in_pairs, opened, put, text_of, empty_block};
+ghost use Rattle.ufmt_doc.specs.Private.Growing.{block_of, closed, dotted_block, field_from, growing, grown, in_pairs, opened, put, struct_block, text_of, empty_block};
 
 use super::open_blocks::{OpenBlocks, PartialBlock};
-use crate::doc::Doc;
+use crate::doc::{StructName, Tree};
 use std::alloc::{AllocError, Global};
 use ufmt::layout::Kind;
 use ufmt_scan::scan::{Event, Sink};
@@ -19,20 +19,28 @@ const NEVER: AllocError = AllocError;
 /// block outside it. A field's name is a leaf there, before its value. The name of a struct or
 /// tuple is a leaf before its entries. A block that ends takes the place of its name and entries.
 #[derive(Drop)]
-pub(super) struct DocumentSink {
+pub(super) struct DocumentSink<N> {
     alloc: Global,
-    docs: Vec<Doc>,
+    docs: Vec<Tree<N>>,
     blocks: OpenBlocks,
 }
 
 #[inline(always)]
-fn text_of(alloc: Global, doc: Doc) -> String
-    ensures { string_bytes result ≡ text_of (doc_document doc) }
+fn text_of<N: StructName>(alloc: Global, doc: Tree<N>) -> String
+    ensures { string_bytes result ≡ text_of (tree_document N.shown doc) }
 {
     match doc {
-        Doc::Leaf(text) => text,
+        Tree::Leaf(text) => text,
         _ => String::new(alloc),
     }
+}
+
+#[inline(always)]
+fn struct_name<N: StructName>(text: String, ends_in_dots: bool) -> Result<N, AllocError>
+    ensures { IfOk result (λ name. N.shown name ≡ (string_bytes text, ends_in_dots)) }
+{
+    // A scan of token texts emits no dots.
+    N::new(text, ends_in_dots).ok_or(NEVER)
 }
 
 // Entries that were taken off the stack.
@@ -40,12 +48,16 @@ type Taken<T> = Result<Vec<T>, AllocError>;
 
 // Takes the keys and values of a map off the stack.
 #[inline(never)]
-fn take_pairs(alloc: Global, docs: &mut Vec<Doc>, start: usize) -> Taken<(Doc, Doc)>
+fn take_pairs<N: StructName>(
+    alloc: Global,
+    docs: &mut Vec<Tree<N>>,
+    start: usize,
+) -> Taken<(Tree<N>, Tree<N>)>
     requires { start ≤ length docs.old.items }
     ensures docs { OnOk result (docs.new.items ≡ take start docs.old.items) }
     ensures capacity { OnOk result (vec_capacity docs.new ≡ vec_capacity docs.old) }
-    ensures pairs { IfOk result (λ pairs. map pair_view pairs.items
-        ≡ in_pairs (map doc_document (drop start docs.old.items))) }
+    ensures pairs { IfOk result (λ pairs. map (pair_view N.shown) pairs.items
+        ≡ in_pairs (map (tree_document N.shown) (drop start docs.old.items))) }
 {
     let count = (docs.len() - start) / 2;
     // A scan puts a value after each key.
@@ -63,12 +75,16 @@ fn take_pairs(alloc: Global, docs: &mut Vec<Doc>, start: usize) -> Taken<(Doc, D
 
 // Takes the names and values of fields off the stack.
 #[inline(never)]
-fn take_fields(alloc: Global, docs: &mut Vec<Doc>, start: usize) -> Taken<(String, Doc)>
+fn take_fields<N: StructName>(
+    alloc: Global,
+    docs: &mut Vec<Tree<N>>,
+    start: usize,
+) -> Taken<(String, Tree<N>)>
     requires { start ≤ length docs.old.items }
     ensures docs { OnOk result (docs.new.items ≡ take start docs.old.items) }
     ensures capacity { OnOk result (vec_capacity docs.new ≡ vec_capacity docs.old) }
-    ensures fields { IfOk result (λ fields. map field_view fields.items
-        ≡ map field_from (in_pairs (map doc_document (drop start docs.old.items)))) }
+    ensures fields { IfOk result (λ fields. map (field_view N.shown) fields.items
+        ≡ map field_from (in_pairs (map (tree_document N.shown) (drop start docs.old.items)))) }
 {
     let count = (docs.len() - start) / 2;
     // A scan puts a value after each name.
@@ -84,54 +100,57 @@ fn take_fields(alloc: Global, docs: &mut Vec<Doc>, start: usize) -> Taken<(Strin
     Ok(fields)
 }
 
+// Takes a struct's name and fields off the stack, and makes the struct.
+#[inline(always)]
+fn take_struct<N: StructName>(
+    alloc: Global,
+    docs: &mut Vec<Tree<N>>,
+    start: usize,
+    ends_in_dots: bool,
+) -> Result<Tree<N>, AllocError>
+    requires { start < length docs.old.items }
+    ensures docs { OnOk result (docs.new.items ≡ take start docs.old.items) }
+    ensures capacity { OnOk result (vec_capacity docs.new ≡ vec_capacity docs.old) }
+    ensures doc { IfOk result (λ doc. tree_document N.shown doc
+        ≡ struct_block ends_in_dots (map (tree_document N.shown) (drop start docs.old.items))) }
+{
+    let fields = take_fields(alloc, docs, start + 1)?;
+    let text = text_of(alloc, docs.take_last());
+    Ok(Tree::StructOf(struct_name(text, ends_in_dots)?, fields))
+}
+
 // Takes a block's name and entries off the stack, and makes the block.
 #[inline(always)]
-fn take_block(
+fn take_block<N: StructName>(
     alloc: Global,
-    docs: &mut Vec<Doc>,
+    docs: &mut Vec<Tree<N>>,
     kind: Kind,
     block: PartialBlock,
-) -> Result<Doc, AllocError>
+) -> Result<Tree<N>, AllocError>
     requires { block.start < length docs.old.items }
     ensures docs { OnOk result (docs.new.items ≡ take block.start docs.old.items) }
     ensures capacity { OnOk result (vec_capacity docs.new ≡ vec_capacity docs.old) }
-    ensures doc { IfOk result (λ doc. doc_document doc ≡ block_of kind block.has_colon
-        (map doc_document (drop block.start docs.old.items))) }
+    ensures doc { IfOk result (λ doc. tree_document N.shown doc ≡ block_of kind block.has_colon
+        (map (tree_document N.shown) (drop block.start docs.old.items))) }
 {
     let start = block.start;
     match kind {
-        Kind::Brackets => Ok(Doc::Listed(docs.split_off(start)?)),
-        Kind::Braces if block.has_colon => Ok(Doc::MapOf(take_pairs(alloc, docs, start)?)),
-        Kind::Braces => Ok(Doc::SetOf(docs.split_off(start)?)),
-        Kind::Struct => {
-            let fields = take_fields(alloc, docs, start + 1)?;
-            Ok(Doc::StructOf(text_of(alloc, docs.take_last()), fields))
-        }
+        Kind::Brackets => Ok(Tree::Listed(docs.split_off(start)?)),
+        Kind::Braces if block.has_colon => Ok(Tree::MapOf(take_pairs(alloc, docs, start)?)),
+        Kind::Braces => Ok(Tree::SetOf(docs.split_off(start)?)),
+        Kind::Struct => take_struct(alloc, docs, start, false),
         Kind::Tuple => {
             let entries = docs.split_off(start + 1)?;
-            Ok(Doc::TupleOf(text_of(alloc, docs.take_last()), entries))
+            Ok(Tree::TupleOf(text_of(alloc, docs.take_last()), entries))
         }
-        Kind::Unnamed => Ok(Doc::TupleOf(String::new(alloc), docs.split_off(start)?)),
+        Kind::Unnamed => Ok(Tree::TupleOf(String::new(alloc), docs.split_off(start)?)),
     }
 }
 
-// Takes a struct's name and fields off the stack, and makes the struct, which ends in dots.
-#[inline(always)]
-fn take_dotted(alloc: Global, docs: &mut Vec<Doc>, block: PartialBlock) -> Result<Doc, AllocError>
-    requires { block.start < length docs.old.items }
-    ensures docs { OnOk result (docs.new.items ≡ take block.start docs.old.items) }
-    ensures capacity { OnOk result (vec_capacity docs.new ≡ vec_capacity docs.old) }
-    ensures doc { IfOk result (λ doc. doc_document doc ≡ dotted_block block.has_colon
-        (map doc_document (drop block.start docs.old.items))) }
-{
-    let fields = take_fields(alloc, docs, block.start + 1)?;
-    Ok(Doc::NonExhaustiveOf(text_of(alloc, docs.take_last()), fields))
-}
-
-impl DocumentSink {
+impl<N: StructName> DocumentSink<N> {
     /// Makes a sink that took no events.
-    pub(super) fn new(alloc: Global) -> DocumentSink
-        ensures { growing result ≡ ([], []) }
+    pub(super) fn new(alloc: Global) -> DocumentSink<N>
+        ensures { growing N.shown result ≡ ([], []) }
     {
         DocumentSink {
             alloc,
@@ -141,9 +160,9 @@ impl DocumentSink {
     }
 
     /// Returns the document on top of the stack.
-    pub(super) fn into_document(self) -> Option<Doc>
-        ensures { (d : Document) → growing self ≡ (d ∷ [], [])
-            → option_map doc_document result ≡ Some d }
+    pub(super) fn into_document(self) -> Option<Tree<N>>
+        ensures { (d : Document) → growing N.shown self ≡ (d ∷ [], [])
+            → option_map (tree_document N.shown) result ≡ Some d }
     {
         let mut docs = self.docs;
         docs.pop()
@@ -152,41 +171,41 @@ impl DocumentSink {
     // Puts a leaf on the stack. Reserves first, so that a failure has no document to drop.
     #[inline(always)]
     fn put_leaf(&mut self, text: &str) -> Result<(), AllocError>
-        ensures { OnOk result (growing self.new ≡ put (growing self.old) (leaf text.now)) }
+        ensures { OnOk result (growing N.shown self.new ≡ put (growing N.shown self.old) (leaf text.now)) }
     {
         self.docs.reserve(1)?;
         let leaf = String::from_str(self.alloc, text)?;
-        self.docs.push_reserved(Doc::Leaf(leaf));
+        self.docs.push_reserved(Tree::Leaf(leaf));
         Ok(())
     }
 
     #[inline(never)]
     fn put_empty(&mut self, kind: Kind) -> Result<(), AllocError>
-        ensures { OnOk result (growing self.new ≡ put (growing self.old) (empty_block kind)) }
+        ensures { OnOk result (growing N.shown self.new ≡ put (growing N.shown self.old) (empty_block kind)) }
     {
         self.docs.reserve(1)?;
         self.docs.push_reserved(match kind {
-            Kind::Brackets => Doc::Listed(Vec::new(self.alloc)),
-            _ => Doc::MapOf(Vec::new(self.alloc)),
+            Kind::Brackets => Tree::Listed(Vec::new(self.alloc)),
+            _ => Tree::MapOf(Vec::new(self.alloc)),
         });
         Ok(())
     }
 
     #[inline(never)]
     fn put_only_dots(&mut self, name: &str) -> Result<(), AllocError>
-        ensures { OnOk result (growing self.new
-            ≡ put (growing self.old) (non_exhaustive_of name.now no_fields)) }
+        ensures { OnOk result (growing N.shown self.new
+            ≡ put (growing N.shown self.old) (non_exhaustive_of name.now no_fields)) }
     {
         self.docs.reserve(1)?;
-        let name = String::from_str(self.alloc, name)?;
+        let name = struct_name(String::from_str(self.alloc, name)?, true)?;
         self.docs
-            .push_reserved(Doc::NonExhaustiveOf(name, Vec::new(self.alloc)));
+            .push_reserved(Tree::StructOf(name, Vec::new(self.alloc)));
         Ok(())
     }
 
     #[inline(always)]
     fn open(&mut self, kind: Kind, name: &str) -> Result<(), AllocError>
-        ensures { OnOk result (growing self.new ≡ opened kind name.now (growing self.old)) }
+        ensures { OnOk result (growing N.shown self.new ≡ opened kind name.now (growing N.shown self.old)) }
     {
         // The scanner opens no more.
         if self.blocks.is_full() {
@@ -201,7 +220,7 @@ impl DocumentSink {
 
     #[inline(always)]
     fn close(&mut self, kind: Kind) -> Result<(), AllocError>
-        ensures { OnOk result (growing self.new ≡ closed (block_of kind) (growing self.old)) }
+        ensures { OnOk result (growing N.shown self.new ≡ closed (block_of kind) (growing N.shown self.old)) }
     {
         let Some(block) = self.blocks.pop() else {
             return Ok(());
@@ -219,7 +238,7 @@ impl DocumentSink {
     // Closes a struct that ends in dots, as `close` does.
     #[inline(never)]
     fn close_with_dots(&mut self) -> Result<(), AllocError>
-        ensures { OnOk result (growing self.new ≡ closed dotted_block (growing self.old)) }
+        ensures { OnOk result (growing N.shown self.new ≡ closed dotted_block (growing N.shown self.old)) }
     {
         let Some(block) = self.blocks.pop() else {
             return Ok(());
@@ -228,17 +247,17 @@ impl DocumentSink {
             return Err(NEVER);
         }
         self.docs.reserve(1)?;
-        let doc = take_dotted(self.alloc, &mut self.docs, block)?;
+        let doc = take_struct(self.alloc, &mut self.docs, block.start, true)?;
         self.docs.push_reserved(doc);
         Ok(())
     }
 }
 
 /// Fails only if memory runs out.
-impl Sink for DocumentSink {
+impl<N: StructName> Sink for DocumentSink<N> {
     type Error = AllocError;
 
-    ghost took = { λ old es new. growing new ≡ grown (growing old) es };
+    ghost took = { λ old es new. growing N.shown new ≡ grown (growing N.shown old) es };
 
     ghost stopped = { λ _ _ _. ⊤ };
 
@@ -247,7 +266,6 @@ impl Sink for DocumentSink {
     // Frequent events are inlined. A function first clears space for the values of all its arms, so
     // rare arms and loops are not inlined.
     #[inline(always)]
-    #[tactic(auto, using(crate::proofs::GrowingDocuments::takes_event))]
     fn event(&mut self, event: Event<&str>) -> Result<(), AllocError> {
         match event {
             Event::Leaf(text) | Event::FieldName(text) => self.put_leaf(text),

@@ -2,12 +2,13 @@
 use super::nested_lists::lists_around;
 use super::same;
 use super::shape::Shape::{self, Leaf, Listed, MapOf, NonExhaustiveOf, StructOf, TupleOf};
-use super::shape::made;
+use super::shape::debug_made;
 use std::alloc::{AllocError, Global};
+use ufmt_doc::DebugDoc;
 
 // Whether it is a token document, and whether it is a debug document.
 fn classes(alloc: Global, shape: &Shape<'_>) -> Result<(bool, bool), AllocError> {
-    let doc = made(alloc, shape)?;
+    let doc = debug_made(alloc, shape)?;
     Ok((doc.is_token(), doc.is_debug()))
 }
 
@@ -148,7 +149,8 @@ fn is_debug_tests_leaves_and_names(rt: HostRuntime) {
 }
 
 fn is_debug_in_lists(alloc: Global, count: usize, inner: &Shape<'_>) -> Result<bool, AllocError> {
-    Ok(lists_around(alloc, count, inner)?.is_debug())
+    let doc: DebugDoc = lists_around(alloc, count, inner)?;
+    Ok(doc.is_debug())
 }
 
 // So many lists, and what is in them. Each of these but the last has an entry, and is a block more.

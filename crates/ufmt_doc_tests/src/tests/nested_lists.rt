@@ -1,18 +1,22 @@
 //! Tests of nested lists: how deep a token document is at most, and how long its texts are.
 use super::same;
 use super::shape::Shape::{self, Leaf, Listed};
-use super::shape::made;
+use super::shape::tree_made;
 use std::alloc::{AllocError, Global};
 use ufmt::{plain_text, pretty_text};
-use ufmt_doc::Doc;
+use ufmt_doc::{Doc, StructName, Tree};
 
 // `count` lists around a document.
-pub fn lists_around(alloc: Global, count: usize, inner: &Shape<'_>) -> Result<Doc, AllocError> {
-    let mut doc = made(alloc, inner)?;
+pub fn lists_around<N: StructName>(
+    alloc: Global,
+    count: usize,
+    inner: &Shape<'_>,
+) -> Result<Tree<N>, AllocError> {
+    let mut doc = tree_made(alloc, inner)?;
     for _ in 0..count {
         let mut entries = Vec::new(alloc);
         entries.push(doc)?;
-        doc = Doc::Listed(entries);
+        doc = Tree::Listed(entries);
     }
     Ok(doc)
 }
@@ -39,7 +43,7 @@ fn measured(
     inner: &Shape<'_>,
     innermost: &str,
 ) -> Result<Sizes, AllocError> {
-    let doc = lists_around(alloc, count, inner)?;
+    let doc: Doc = lists_around(alloc, count, inner)?;
     let plain = plain_text(alloc, &doc)?.len();
     let pretty = pretty_text(alloc, &doc)?;
     let lines = lines_and_spaces(&pretty, innermost);

@@ -1,9 +1,9 @@
 //! Tests of `normalize`.
 use super::shape::Shape::{self, Leaf, NonExhaustiveOf, SetOf, StructOf, TupleOf};
-use super::shape::made;
+use super::shape::{debug_made, made};
 use super::{has_plain_text, same};
 use std::alloc::{AllocError, Global};
-use ufmt_doc::doc::Doc;
+use ufmt_doc::{DebugDoc, Doc};
 
 // Whether it is the unnamed tuple of the leaf `A` and the empty map.
 fn is_leaf_and_map(doc: &Doc) -> bool {
@@ -60,9 +60,9 @@ const DOTTED: [(Shape<'static>, usize, Option<&str>, &str); 3] = [
 ];
 
 // How many fields a struct named `S` that ends in dots has, and the leaf in its field `a`.
-fn dotted_parts(doc: &Doc) -> Option<(usize, Option<&str>)> {
+fn dotted_parts(doc: &DebugDoc) -> Option<(usize, Option<&str>)> {
     match doc {
-        Doc::NonExhaustiveOf(name, fields) if name.as_str() == "S" => {
+        DebugDoc::StructOf(name, fields) if name.ends_in_dots && name.text.as_str() == "S" => {
             let leaf = doc.field("a").and_then(|value| value.as_leaf());
             Some((fields.len(), leaf))
         }
@@ -77,7 +77,7 @@ fn is_dotted_in_normal_form(
     leaf: Option<&str>,
     text: &str,
 ) -> Result<bool, AllocError> {
-    let mut doc = made(alloc, shape)?;
+    let mut doc = debug_made(alloc, shape)?;
     doc.normalize(alloc);
     let has_parts = dotted_parts(&doc) == Some((count, leaf));
     Ok(has_parts && has_plain_text(alloc, &doc, text.as_bytes()))

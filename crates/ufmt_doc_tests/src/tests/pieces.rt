@@ -230,7 +230,7 @@ fn stopped_in_lists(
     count: usize,
     number: usize,
 ) -> Result<(Left, usize, usize), AllocError> {
-    let doc = lists_around(alloc, count, &Leaf("x"))?;
+    let doc: Doc = lists_around(alloc, count, &Leaf("x"))?;
     let (left, noted) = print_to(true, &doc, Noted::new(alloc, number));
     Ok((left, noted.count, noted.text.len()))
 }

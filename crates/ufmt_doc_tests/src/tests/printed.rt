@@ -1,9 +1,9 @@
 //! Tests of `plain_text` and `pretty_text`, on documents that are made by hand.
 use super::shape::Shape::{self, Leaf, Listed, MapOf, NonExhaustiveOf, SetOf, StructOf, TupleOf};
-use super::shape::made;
+use super::shape::{debug_made, made};
 use super::{has_plain_text, has_pretty_text, same};
 use std::alloc::{AllocError, Global};
-use ufmt::{plain_text, pretty_text};
+use ufmt::{plain_text, pretty_text, uDebug};
 
 #[test]
 fn plain_text_and_pretty_text_can_succeed(rt: HostRuntime) {
@@ -14,7 +14,7 @@ fn plain_text_and_pretty_text_can_succeed(rt: HostRuntime) {
 }
 
 // A document with its plain text and its pretty one, as rustc prints them. `tools/expected/show VALUE` prints them again.
-const PRINTED: [(Shape<'static>, &str, &str); 9] = [
+const PRINTED: [(Shape<'static>, &str, &str); 4] = [
     (
         StructOf(
             "Node",
@@ -50,6 +50,10 @@ const PRINTED: [(Shape<'static>, &str, &str); 9] = [
         "S { m: {1: 2}, n: 3 }",
         "S {\n    m: {\n        1: 2,\n    },\n    n: 3,\n}",
     ),
+];
+
+// The same for documents with structs that end in dots.
+const PRINTED_WITH_DOTS: [(Shape<'static>, &str, &str); 5] = [
     (NonExhaustiveOf("S", &[]), "S { .. }", "S { .. }"),
     (
         NonExhaustiveOf("S", &[("a", Leaf("1"))]),
@@ -79,21 +83,41 @@ const PRINTED: [(Shape<'static>, &str, &str); 9] = [
     ),
 ];
 
-fn has_texts(
+fn has_texts<D: uDebug>(alloc: Global, doc: &D, plain: &str, pretty: &str) -> bool {
+    let has_plain = has_plain_text(alloc, doc, plain.as_bytes());
+    has_plain && has_pretty_text(alloc, doc, pretty.as_bytes())
+}
+
+fn doc_has_texts(
     alloc: Global,
     shape: &Shape<'_>,
     plain: &str,
     pretty: &str,
 ) -> Result<bool, AllocError> {
-    let doc = made(alloc, shape)?;
-    let has_plain = has_plain_text(alloc, &doc, plain.as_bytes());
-    Ok(has_plain && has_pretty_text(alloc, &doc, pretty.as_bytes()))
+    Ok(has_texts(alloc, &made(alloc, shape)?, plain, pretty))
+}
+
+fn debug_doc_has_texts(
+    alloc: Global,
+    shape: &Shape<'_>,
+    plain: &str,
+    pretty: &str,
+) -> Result<bool, AllocError> {
+    Ok(has_texts(alloc, &debug_made(alloc, shape)?, plain, pretty))
 }
 
 #[test]
 fn documents_have_their_plain_and_pretty_texts(rt: HostRuntime) {
     for (shape, plain, pretty) in PRINTED {
-        let has_texts = has_texts(rt.alloc(), &shape, plain, pretty);
+        let has_texts = doc_has_texts(rt.alloc(), &shape, plain, pretty);
+        same(&rt, has_texts, Ok(true), plain);
+    }
+}
+
+#[test]
+fn debug_documents_have_their_plain_and_pretty_texts(rt: HostRuntime) {
+    for (shape, plain, pretty) in PRINTED.iter().chain(&PRINTED_WITH_DOTS) {
+        let has_texts = debug_doc_has_texts(rt.alloc(), shape, plain, pretty);
         same(&rt, has_texts, Ok(true), plain);
     }
 }

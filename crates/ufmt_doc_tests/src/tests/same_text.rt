@@ -1,9 +1,9 @@
 //! Tests of `same_text`.
 use super::same;
 use super::shape::Shape::{self, Leaf, Listed, MapOf, NonExhaustiveOf, SetOf, StructOf, TupleOf};
-use super::shape::made;
+use super::shape::{debug_made, made};
 use std::alloc::{AllocError, Global};
-use ufmt_doc::doc::{Doc, same_text};
+use ufmt_doc::doc::{DebugDoc, Doc, same_text};
 use ufmt_doc::plain_reader::{ReadError, read_debug_plain, read_plain};
 
 // What `same_text` returns, if both are token documents.
@@ -136,7 +136,7 @@ fn same_text_is_true_of_read_documents_if_their_texts_are_equal(rt: HostRuntime)
 }
 
 // What `same_text` returns, if both are debug documents.
-fn same_text_of_debug(a: &Doc, b: &Doc) -> Option<bool> {
+fn same_text_of_debug(a: &DebugDoc, b: &DebugDoc) -> Option<bool> {
     if a.is_debug() && b.is_debug() {
         Some(same_text(a, b))
     } else {
@@ -233,7 +233,7 @@ fn same_text_of_made_as_debug(
     a: &Shape<'_>,
     b: &Shape<'_>,
 ) -> Result<Option<bool>, AllocError> {
-    let (a, b) = (made(alloc, a)?, made(alloc, b)?);
+    let (a, b) = (debug_made(alloc, a)?, debug_made(alloc, b)?);
     Ok(same_text_of_debug(&a, &b))
 }
 

@@ -1,8 +1,8 @@
 //! Shapes of documents, which rows of a table have. They take no memory.
 use std::alloc::{AllocError, Global};
-use ufmt_doc::doc::Doc;
+use ufmt_doc::{DebugDoc, Doc, StructName, Tree};
 
-/// The constructors of `Doc`, over slices.
+/// The constructors of `Doc`, over slices, and a struct that ends in dots.
 #[derive(Clone, Copy)]
 pub enum Shape<'a> {
     Leaf(&'a str),
@@ -14,67 +14,83 @@ pub enum Shape<'a> {
     TupleOf(&'a str, &'a [Shape<'a>]),
 }
 
-/// Makes the document of a shape.
-#[cycle(making)]
+/// Makes the document of a shape in which no struct ends in dots.
 pub fn made(alloc: Global, shape: &Shape<'_>) -> Result<Doc, AllocError> {
+    tree_made(alloc, shape)
+}
+
+/// Makes the debug document of any shape.
+pub fn debug_made(alloc: Global, shape: &Shape<'_>) -> Result<DebugDoc, AllocError> {
+    tree_made(alloc, shape)
+}
+
+/// Makes the document of a shape. Fails also at a struct that ends in dots, if no name says so.
+#[cycle(making)]
+pub fn tree_made<N: StructName>(alloc: Global, shape: &Shape<'_>) -> Result<Tree<N>, AllocError> {
     match shape {
-        Shape::Leaf(name) => String::from_str(alloc, name).map(Doc::Leaf),
-        Shape::Listed(entries) => all_made(alloc, entries).map(Doc::Listed),
-        Shape::SetOf(entries) => all_made(alloc, entries).map(Doc::SetOf),
-        Shape::MapOf(pairs) => pairs_made(alloc, pairs).map(Doc::MapOf),
-        Shape::StructOf(name, fields) => struct_made(alloc, name, fields),
-        Shape::NonExhaustiveOf(name, fields) => dotted_made(alloc, name, fields),
+        Shape::Leaf(name) => String::from_str(alloc, name).map(Tree::Leaf),
+        Shape::Listed(entries) => all_made(alloc, entries).map(Tree::Listed),
+        Shape::SetOf(entries) => all_made(alloc, entries).map(Tree::SetOf),
+        Shape::MapOf(pairs) => pairs_made(alloc, pairs).map(Tree::MapOf),
+        Shape::StructOf(name, fields) => struct_made(alloc, name, false, fields),
+        Shape::NonExhaustiveOf(name, fields) => struct_made(alloc, name, true, fields),
         Shape::TupleOf(name, fields) => tuple_made(alloc, name, fields),
     }
 }
 
 #[cycle(making)]
-fn struct_made(alloc: Global, name: &str, fields: &[(&str, Shape<'_>)]) -> Result<Doc, AllocError> {
-    let name = String::from_str(alloc, name)?;
-    Ok(Doc::StructOf(name, fields_made(alloc, fields)?))
+fn struct_made<N: StructName>(
+    alloc: Global,
+    name: &str,
+    ends_in_dots: bool,
+    fields: &[(&str, Shape<'_>)],
+) -> Result<Tree<N>, AllocError> {
+    let name = N::new(String::from_str(alloc, name)?, ends_in_dots).ok_or(AllocError)?;
+    Ok(Tree::StructOf(name, fields_made(alloc, fields)?))
 }
 
 #[cycle(making)]
-fn dotted_made(alloc: Global, name: &str, fields: &[(&str, Shape<'_>)]) -> Result<Doc, AllocError> {
+fn tuple_made<N: StructName>(
+    alloc: Global,
+    name: &str,
+    fields: &[Shape<'_>],
+) -> Result<Tree<N>, AllocError> {
     let name = String::from_str(alloc, name)?;
-    Ok(Doc::NonExhaustiveOf(name, fields_made(alloc, fields)?))
+    Ok(Tree::TupleOf(name, all_made(alloc, fields)?))
 }
 
 #[cycle(making)]
-fn tuple_made(alloc: Global, name: &str, fields: &[Shape<'_>]) -> Result<Doc, AllocError> {
-    let name = String::from_str(alloc, name)?;
-    Ok(Doc::TupleOf(name, all_made(alloc, fields)?))
-}
-
-#[cycle(making)]
-fn all_made(alloc: Global, shapes: &[Shape<'_>]) -> Result<Vec<Doc>, AllocError> {
+fn all_made<N: StructName>(
+    alloc: Global,
+    shapes: &[Shape<'_>],
+) -> Result<Vec<Tree<N>>, AllocError> {
     let mut list = Vec::new(alloc);
     for shape in shapes {
-        list.push(made(alloc, shape)?)?;
+        list.push(tree_made(alloc, shape)?)?;
     }
     Ok(list)
 }
 
 #[cycle(making)]
-fn pairs_made(
+fn pairs_made<N: StructName>(
     alloc: Global,
     shapes: &[(Shape<'_>, Shape<'_>)],
-) -> Result<Vec<(Doc, Doc)>, AllocError> {
+) -> Result<Vec<(Tree<N>, Tree<N>)>, AllocError> {
     let mut pairs = Vec::new(alloc);
     for (key, value) in shapes {
-        pairs.push((made(alloc, key)?, made(alloc, value)?))?;
+        pairs.push((tree_made(alloc, key)?, tree_made(alloc, value)?))?;
     }
     Ok(pairs)
 }
 
 #[cycle(making)]
-fn fields_made(
+fn fields_made<N: StructName>(
     alloc: Global,
     shapes: &[(&str, Shape<'_>)],
-) -> Result<Vec<(String, Doc)>, AllocError> {
+) -> Result<Vec<(String, Tree<N>)>, AllocError> {
     let mut fields = Vec::new(alloc);
     for (name, value) in shapes {
-        fields.push((String::from_str(alloc, name)?, made(alloc, value)?))?;
+        fields.push((String::from_str(alloc, name)?, tree_made(alloc, value)?))?;
     }
     Ok(fields)
 }

@@ -8,11 +8,11 @@ use ufmt_doc::convert::{
     debug_to_plain, debug_to_plain_into, debug_to_pretty, debug_to_pretty_into,
     write_debug_to_plain, write_debug_to_pretty,
 };
-use ufmt_doc::{Doc, ReadError, is_debug_text, is_text, read_debug_plain, read_debug_pretty};
+use ufmt_doc::{DebugDoc, ReadError, is_debug_text, is_text, read_debug_plain, read_debug_pretty};
 use ufmt_scan::scan::ScanError;
 
 // Whether the document was read, and has both texts. Without memory this is false.
-fn has_texts(alloc: Global, read: Result<Doc, ReadError>, plain: &str, pretty: &str) -> bool {
+fn has_texts(alloc: Global, read: Result<DebugDoc, ReadError>, plain: &str, pretty: &str) -> bool {
     let Ok(doc) = read else {
         return false;
     };

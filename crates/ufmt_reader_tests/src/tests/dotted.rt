@@ -6,9 +6,9 @@ use ufmt::class::Class;
 use ufmt::layout::Mode;
 use ufmt::plain_text;
 use ufmt_doc::laws::{normal_by_way_of_text, text_again, text_by_way_of_the_other};
-use ufmt_doc::{Doc, ReadError, read_debug_plain, read_debug_pretty, read_field};
+use ufmt_doc::{DebugDoc, ReadError, read_debug_plain, read_debug_pretty, read_field};
 
-fn read_debug(alloc: Global, mode: Mode, text: &str) -> Result<Doc, ReadError> {
+fn read_debug(alloc: Global, mode: Mode, text: &str) -> Result<DebugDoc, ReadError> {
     match mode {
         Mode::Plain => read_debug_plain(alloc, text.as_bytes()),
         Mode::Pretty => read_debug_pretty(alloc, text.as_bytes()),
@@ -18,7 +18,7 @@ fn read_debug(alloc: Global, mode: Mode, text: &str) -> Result<Doc, ReadError> {
 // Whether the document is a struct that ends in dots, how many fields it shows, and its plain text.
 fn shape(alloc: Global, mode: Mode, text: &str) -> Result<(bool, usize, String), ReadError> {
     let doc = read_debug(alloc, mode, text)?;
-    let ends_in_dots = matches!(doc, Doc::NonExhaustiveOf(_, _));
+    let ends_in_dots = matches!(&doc, DebugDoc::StructOf(name, _) if name.ends_in_dots);
     let shown = doc.fields().unwrap_or(&[]).len();
     Ok((ends_in_dots, shown, plain_text(alloc, &doc)?))
 }

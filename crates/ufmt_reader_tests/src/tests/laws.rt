@@ -4,7 +4,8 @@ use super::{holds, same};
 use std::alloc::Global;
 use ufmt::class::Class;
 use ufmt::layout::Mode;
-use ufmt_doc::doc::Doc;
+use ufmt::uDebug;
+use ufmt_doc::doc::{DebugDoc, Doc};
 use ufmt_doc::laws::*;
 use ufmt_doc::plain_reader::{ReadError, read_debug_plain, read_plain};
 
@@ -60,7 +61,11 @@ fn debug_texts_come_back(rt: HostRuntime) {
     }
 }
 
-fn is_document(alloc: Global, outcome: Result<Doc, ReadError>, plain: &[u8]) -> bool {
+fn is_document<D: uDebug + Drop>(
+    alloc: Global,
+    outcome: Result<D, ReadError>,
+    plain: &[u8],
+) -> bool {
     match outcome {
         Ok(doc) => has_text(alloc, Mode::Plain, &doc, plain),
         Err(_) => false,
@@ -93,6 +98,22 @@ fn debug_documents_come_back(rt: HostRuntime) {
         let given = debug_document_comes_back(rt.alloc(), mode);
         same(&rt, given, Ok(true), "a debug document");
     }
+}
+
+// What comes back of a leaf that spells a struct with dots: whether it is that struct, and whether the
+// token reader refuses its text.
+fn dots_in_a_leaf(alloc: Global) -> Result<(bool, bool), ReadError> {
+    let leaf = Doc::Leaf(String::from_str(alloc, "S { .. }")?);
+    let normal = normal_by_way_of_text(alloc, Class::Debug, Mode::Plain, &leaf)?;
+    let ends_in_dots = matches!(&normal, DebugDoc::StructOf(name, _) if name.ends_in_dots);
+    let refused = normal_by_way_of_plain(alloc, &leaf);
+    Ok((ends_in_dots, matches!(refused, Err(ReadError::NotText))))
+}
+
+#[test]
+fn a_leaf_that_spells_dots_comes_back_as_a_debug_document(rt: HostRuntime) {
+    let given = dots_in_a_leaf(rt.alloc());
+    same(&rt, given, Ok((true, true)), "dots in a leaf");
 }
 
 #[test]

@@ -1,7 +1,7 @@
 //! The verdict of a reader, and of the conversion from its mode, on a text.
 use std::alloc::Global;
 use ufmt::layout::Mode;
-use ufmt::{plain_text, pretty_text};
+use ufmt::{plain_text, pretty_text, uDebug};
 use ufmt_doc::convert::{to_plain, to_pretty};
 use ufmt_doc::{Doc, ReadError, read_plain, read_pretty};
 
@@ -32,7 +32,7 @@ fn converted(alloc: Global, mode: Mode, text: &[u8]) -> Result<String, ReadError
 }
 
 // Whether this is the document's text in this mode. Without memory this is false.
-pub fn has_text(alloc: Global, mode: Mode, doc: &Doc, text: &[u8]) -> bool {
+pub fn has_text<D: uDebug>(alloc: Global, mode: Mode, doc: &D, text: &[u8]) -> bool {
     let made = match mode {
         Mode::Plain => plain_text(alloc, doc),
         Mode::Pretty => pretty_text(alloc, doc),
