@@ -28,10 +28,10 @@ pub fn debug_made(alloc: Global, shape: &Shape<'_>) -> Result<DebugDoc, AllocErr
 #[cycle(making)]
 pub fn tree_made<N: StructName>(alloc: Global, shape: &Shape<'_>) -> Result<Tree<N>, AllocError> {
     match shape {
-        Shape::Leaf(name) => String::from_str(alloc, name).map(Tree::Leaf),
-        Shape::Listed(entries) => all_made(alloc, entries).map(Tree::Listed),
-        Shape::SetOf(entries) => all_made(alloc, entries).map(Tree::SetOf),
-        Shape::MapOf(pairs) => pairs_made(alloc, pairs).map(Tree::MapOf),
+        Shape::Leaf(name) => Ok(Tree::Leaf(String::from_str(alloc, name)?)),
+        Shape::Listed(entries) => Ok(Tree::Listed(all_made(alloc, entries)?)),
+        Shape::SetOf(entries) => Ok(Tree::SetOf(all_made(alloc, entries)?)),
+        Shape::MapOf(pairs) => Ok(Tree::MapOf(pairs_made(alloc, pairs)?)),
         Shape::StructOf(name, fields) => struct_made(alloc, name, false, fields),
         Shape::NonExhaustiveOf(name, fields) => struct_made(alloc, name, true, fields),
         Shape::TupleOf(name, fields) => tuple_made(alloc, name, fields),

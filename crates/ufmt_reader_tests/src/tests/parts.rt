@@ -152,3 +152,30 @@ fn field_names_of_a_read_document_are_collected(rt: HostRuntime) -> Result<(), R
     );
     Ok(())
 }
+
+// The kind of a document, by a `match` with six arms.
+fn kind(doc: &Doc) -> &'static str {
+    match doc {
+        Doc::Leaf(_) => "a leaf",
+        Doc::Listed(_) => "a list",
+        Doc::SetOf(_) => "a set",
+        Doc::MapOf(_) => "a map",
+        Doc::StructOf(_, _) => "a struct",
+        Doc::TupleOf(_, _) => "a tuple",
+    }
+}
+
+#[test]
+fn documents_are_of_six_kinds(rt: HostRuntime) {
+    for (text, wanted) in [
+        ("x", "a leaf"),
+        ("[x]", "a list"),
+        ("{x}", "a set"),
+        ("{x: y}", "a map"),
+        ("S { a: x }", "a struct"),
+        ("S(x)", "a tuple"),
+    ] {
+        let given = read(rt.alloc(), Mode::Plain, text.as_bytes()).map(|doc| kind(&doc));
+        same(&rt, given, Ok(wanted), text);
+    }
+}
