@@ -3,10 +3,10 @@ use Rattle.std.proofs.Common.{[], ◌∷◌, arith, pos, refl}
 use Rattle.std.specs.Prelude.{codes}
 use Rattle.ufmt.specs.Token.{IsDebugDocument, IsTokenDocument}
 use Rattle.ufmt.specs.ValueDocuments.{integer, named_struct, number}
-use Rattle.ufmt.proofs.NumbersAreWords.{IsBuilt-integer}
-use Rattle.ufmt.proofs.ClassLeaves.{IsName-from}
-use Rattle.ufmt.proofs.ClassTokens.{tokens_are_debug}
-use Rattle.ufmt.specs.declared.class.Class.TheVariants.{Token}
+use Rattle.ufmt_grammar.proofs.NumbersAreWords.{IsBuilt-integer}
+use Rattle.ufmt_grammar.proofs.ClassLeaves.{IsName-from}
+use Rattle.ufmt_grammar.proofs.ClassTokens.{tokens_are_debug}
+use Rattle.ufmt_grammar.specs.declared.class.Class.TheVariants.{Token}
 use Rattle.ufmt_core.specs.Document.{Document}
 use Rattle.ufmt_examples.specs.declared.command.Set.{Set}
 
