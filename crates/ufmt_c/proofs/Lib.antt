@@ -1,2 +1,6 @@
+pub mod Fronts
+pub mod NarrowColumns
+pub mod NarrowDumps
+pub mod NarrowNumbers
 pub mod Puts
 pub mod Unquoting

@@ -1,15 +1,15 @@
 //! Texts in columns.
-ghost use Rattle.std.specs.Prelude.{◌≡◌};
+ghost use Rattle.std.specs.Prelude.{◌≡◌, ◌+◌, ◌*◌, ◌^◌, ◌<◌, min};
 ghost use Rattle.std.specs.Str.{IsUtf8};
 ghost use Rattle.ufmt.specs.Column.{in_column};
-ghost use Rattle.ufmt_c.specs.Calls.{RefusesBytes, WritesNothing, PutsText, bad_option};
+ghost use Rattle.ufmt_c.specs.Calls.{RefusesBytes, WritesNothing, PutsText, bad_option, reported};
 ghost use Rattle.ufmt_c.specs.Options.{IsColumnStyle, column_of};
 
 use crate::code::{BAD_OPTION, NOT_UTF8};
 use crate::options::ColumnStyle;
-use crate::print::print_line;
+use crate::print::print_longer;
 use crate::text::text_of;
-use ufmt::pieces;
+use ufmt::{Column, pieces};
 
 /// Writes the text, with fills up to the width of the column. Returns `BAD_OPTION` if the style is none, or
 /// else `NOT_UTF8` if the input isn't UTF-8; `detail` becomes the number of bytes at its front that are.
@@ -33,8 +33,23 @@ pub extern "C" fn ufmt_in_column(
     let Some(column) = style.to_column() else {
         return BAD_OPTION;
     };
-    match text_of(input, detail) {
-        Some(text) => print_line(buffer, &pieces!(display text in column), detail),
-        None => NOT_UTF8,
+    let Some(text) = text_of(input, detail) else {
+        return NOT_UTF8;
+    };
+    let narrow = narrowed(column, input.len(), buffer.len());
+    let rest = (column.width - narrow.width).saturating_mul(column.fill.len_utf8());
+    print_longer(buffer, &pieces!(display text in narrow), rest, detail)
+}
+
+// The column with as much of its width as a buffer can show, for a text of this length. In the center half of
+// the fills come before the text.
+fn narrowed(column: Column, length: usize, room: usize) -> Column
+    requires { room < 2 ^ 63 }
+    ensures { result ≡ record column { width = min column.width (reported (2 * room + length)) } }
+{
+    Column {
+        width: column.width.min((2 * room).saturating_add(length)),
+        align: column.align,
+        fill: column.fill,
     }
 }

@@ -1,6 +1,6 @@
 //! A writer over a buffer of C.
 ghost use Rattle.std.specs.Prelude.{◌≡◌, ◌++◌, ◌∷◌, [], ℕ, List, length, ⊤};
-ghost use Rattle.ufmt_c.specs.Calls.{HasPut, PutsText, reported};
+ghost use Rattle.ufmt_c.specs.Calls.{HasPut, PutsText, StandsFor, reported};
 
 use crate::code::FULL;
 use crate::ghost_text::GhostText;
@@ -41,11 +41,22 @@ impl<'a> Filler<'a> {
         ensures { PutsText self.now.before.bytes self.now.text.bytes result self.now.buffer.now
             detail.new }
     {
-        *detail = self.count;
-        if self.count > self.buffer.len() {
+        self.report_longer(0, detail)
+    }
+
+    /// Reports the length of a longer text, for which the writer's text was put: it has `rest` bytes more,
+    /// none of which the buffer shows.
+    pub(crate) fn report_longer(&self, rest: usize, detail: &mut usize) -> isize
+        ensures { (whole : List ℕ)
+            → StandsFor (length self.now.before.bytes) self.now.text.bytes rest whole
+            → PutsText self.now.before.bytes whole result self.now.buffer.now detail.new }
+    {
+        let count = self.count.saturating_add(rest);
+        *detail = count;
+        if count > self.buffer.len() {
             return FULL;
         }
-        self.count as isize
+        count as isize
     }
 }
 

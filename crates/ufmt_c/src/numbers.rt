@@ -1,5 +1,5 @@
 //! Numbers in decimal, hexadecimal and binary digits.
-ghost use Rattle.std.specs.Prelude.{◌≡◌, ◌<◌, ◌≤◌, pos};
+ghost use Rattle.std.specs.Prelude.{◌≡◌, ◌+◌, ◌^◌, ◌<◌, ◌≤◌, min, pos};
 ghost use Rattle.ufmt_core.specs.Decimal.{decimal};
 ghost use Rattle.ufmt.specs.Hex.{padded_hexadecimal};
 ghost use Rattle.ufmt.specs.Radix.{padded_in};
@@ -9,8 +9,24 @@ ghost use Rattle.ufmt_c.specs.Options.{hex_of};
 
 use crate::code::BAD_OPTION;
 use crate::options::HexStyle;
-use crate::print::{print, print_line};
-use ufmt::pieces;
+use crate::print::{print, print_longer};
+use ufmt::{HexOptions, pieces};
+
+// The longest prefix and digits: `0b` and 64 bits.
+const LONGEST: usize = 66;
+
+// The options with as much of their width as a buffer of this length can show.
+fn narrowed(options: HexOptions, room: usize) -> HexOptions
+    requires { room < 2 ^ 63 }
+    ensures { result ≡ record options { pad_length = min options.pad_length (room + LONGEST) } }
+{
+    HexOptions {
+        upper_case: options.upper_case,
+        pad_char: options.pad_char,
+        pad_length: options.pad_length.min(room + LONGEST),
+        ox_prefix: options.ox_prefix,
+    }
+}
 
 /// Writes the number in decimal digits.
 #[unsafe(no_mangle)]
@@ -49,7 +65,9 @@ pub extern "C" fn ufmt_hexadecimal(
     if !options.has_ascii_pad() {
         return BAD_OPTION;
     }
-    print_line(buffer, &pieces!(hex number with options), detail)
+    let narrow = narrowed(options, buffer.len());
+    let rest = options.pad_length - narrow.pad_length;
+    print_longer(buffer, &pieces!(hex number with narrow), rest, detail)
 }
 
 /// Writes the number in binary digits, with a prefix and padding. Fails as `ufmt_hexadecimal` does.
@@ -72,5 +90,7 @@ pub extern "C" fn ufmt_binary(
     if !options.has_ascii_pad() {
         return BAD_OPTION;
     }
-    print_line(buffer, &pieces!(bin number with options), detail)
+    let narrow = narrowed(options, buffer.len());
+    let rest = options.pad_length - narrow.pad_length;
+    print_longer(buffer, &pieces!(bin number with narrow), rest, detail)
 }

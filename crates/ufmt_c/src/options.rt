@@ -4,7 +4,7 @@ ghost use Rattle.ufmt_c.specs.Options.{IsColumnStyle, column_of, dump_of, hex_of
 
 use ufmt::{Align, Column, HexDump, HexOptions};
 
-/// How a hexadecimal text is padded, and its letters and prefix. C knows it as `ufmt_hex`.
+/// How a hexadecimal text is padded, and its letters and prefix. C knows it as `ufmt_hex_style`.
 #[derive(Clone, Copy)]
 #[repr(C)]
 pub struct HexStyle {

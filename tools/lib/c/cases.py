@@ -45,13 +45,14 @@ CALLS = {
 
 class Case(NamedTuple):
     """A call and its arguments: bytes, numbers, and tuples for structs. It writes a text; or it returns a result and,
-    if that is said, a detail. One without a buffer only returns."""
+    if that is said, a detail. One without a buffer only returns. Of a text whose length is said, only the front is."""
 
     call: str
     arguments: tuple
     text: Optional[bytes] = None
     result: Optional[int] = None
     detail: Optional[int] = None
+    length: Optional[int] = None
 
 
 def has_buffer(case):
@@ -207,7 +208,78 @@ def refusals():
         yield Case("in_column", (b"\xff", (8, fill, align)), result=BAD_OPTION)
 
 
+SIZE_MAX = 2**64 - 1
+# Widths and counts past what any buffer has, and small ones.
+HUGE = (2**62, 2**63 - 1, 2**63, 2**63 + 1, SIZE_MAX - 1, SIZE_MAX)
+NEAR = (*range(12), *range(60, 82), *range(124, 140), 190, 191, 192, 193, 194, 260, 300)
+# The longest buffer with which these are tried.
+FRONT = 64
+
+
+def long_text(call, arguments, parts):
+    """The case of a text of these parts, each a text and how many times it comes."""
+    front = b""
+    for part, count in parts:
+        front += part * min(count, FRONT)
+    return Case(call, arguments, text=front[:FRONT], length=sum(len(part) * count for part, count in parts))
+
+
+def wide_numbers():
+    for call, base, mark in (("hexadecimal", "x", "0x"), ("binary", "b", "0b")):
+        for number in (0, 7, 2**63, SIZE_MAX):
+            for pad in (0, 32, 48, 127):
+                for upper, prefix in ((0, 0), (0, 1), (1, 1)):
+                    for width in HUGE + (NEAR if number != 7 and pad in (32, 48) else ()):
+                        digits, before = format(number, base), mark * prefix
+                        if upper and base == "x":
+                            digits, before = digits.upper(), before.upper()
+                        missing = max(width - len(before) - len(digits), 0)
+                        parts = [(bytes([pad]), missing), (before.encode(), 1), (digits.encode(), 1)]
+                        if pad != 32:
+                            parts[:2] = parts[1::-1]
+                        yield long_text(call, (number, (width, pad, upper, prefix)), parts)
+
+
+def wide_columns():
+    for text in ("", "a", "\u00e9\u20ac", "a\U0001f980" * 15):
+        for fill in (" ", "0", "\u00e9", "\u20ac", "\U0010ffff"):
+            for align in (0, 1, 2):
+                for width in HUGE + NEAR:
+                    missing = max(width - len(text), 0)
+                    before = (0, missing // 2, missing)[align]
+                    parts = [(fill.encode(), before), (text.encode(), 1), (fill.encode(), missing - before)]
+                    yield long_text("in_column", (text.encode(), (width, ord(fill), align)), parts)
+
+
+def dump_rows(data, per_row, group, first):
+    """The rows of a dump: each one's offset, its digits, how many spaces follow them, and its text."""
+    per_row = per_row or 16
+    group = group or per_row
+    for at in range(0, len(data), per_row):
+        row = data[at : at + per_row]
+        digits = " ".join(row[begin : begin + group].hex() for begin in range(0, len(row), group))
+        missing = 2 * (per_row - len(row)) + (per_row - 1) // group - (len(row) - 1) // group
+        yield "%08x: " % (first + at), digits, missing, "".join(chr(byte) if 0x20 <= byte < 0x7F else "." for byte in row)
+
+
+def wide_dumps():
+    for data in (b"", b"a", bytes(range(0x60, 0x85)), bytes(range(256)) * 2):
+        for per_row in (0, 3, 32, 33, *HUGE, *(NEAR if len(data) == 1 else ())):
+            for group in (0, 1, 5, *HUGE):
+                for first, has_offsets, has_text in ((0, 0, 0), (0, 0, 1), (0xFFFFFFFF, 1, 1)):
+                    parts = []
+                    for offset, digits, missing, shown in dump_rows(data, per_row, group, first):
+                        parts += [(offset.encode(), has_offsets), (digits.encode(), 1)]
+                        parts += [(b" ", missing + 2), (shown.encode(), 1)] * has_text + [(b"\n", 1)]
+                    yield long_text("dump", (data, (per_row, group, first, has_offsets, has_text)), parts)
+
+
+def huge_options():
+    """Each option of each call where a text may be longer than any buffer, up to the largest number."""
+    return [*wide_numbers(), *wide_columns(), *wide_dumps()]
+
+
 def all_cases(calls):
-    """Every case of these calls."""
+    """Every case of these calls, but for those of `huge_options`."""
     made = [*stored(), *conversions(), *as_rustc_printed(), *refusals(), *misquoted()]
     return [case for case in made if case.call in calls]

@@ -28,14 +28,16 @@ class Library:
         self.library = ctypes.CDLL(str(path))
 
     def make(self, case, room, fill, detail):
-        """What the call returns and leaves: the result, the detail and the buffer, which had `room` bytes of the fill."""
+        """What the call returns and leaves: the result, the detail and the buffer, which had `room` bytes of the fill.
+        A room of None is a buffer of 0 bytes at NULL."""
         call = getattr(self.library, "ufmt_" + case.call)
         call.restype = ctypes.c_bool if case.call.startswith("is_") else ctypes.c_ssize_t
         kinds, given, words = list(CALLS[case.call]), list(case.arguments), []
-        left = (ctypes.c_uint8 * room)(*([fill] * room))
+        size = room or 0
+        left = (ctypes.c_uint8 * size)(*([fill] * size))
         reported = ctypes.c_size_t(detail)
         if kinds[0] == "buffer":
-            words += [left, ctypes.c_size_t(room)]
+            words += [left if room is not None else None, ctypes.c_size_t(size)]
             del kinds[0]
         for kind, value in zip(kinds, given):
             if kind == "bytes":
