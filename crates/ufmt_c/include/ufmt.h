@@ -12,6 +12,11 @@
  *   - Any other result is a code below zero, named at the call. The buffer stays as it was; but a call
  *     that returns UFMT_NO_TEXT may have overwritten any byte of the buffer.
  *
+ * What a call costs
+ *   The steps of each call are bounded by the sizes of its inputs and of its buffer, and a constant, whatever
+ *   values the members of a struct have. Of a width or a row that is longer than what the buffer shows, the
+ *   rest is only counted. So a width of SIZE_MAX returns UFMT_FULL at once, also with no buffer.
+ *
  * What you must uphold, which no call can test
  *   - A pointer and the size after it are those of an array of that many bytes, at most PTRDIFF_MAX. With
  *     a size of 0 the pointer may be NULL. Each byte of an input was given a value; a buffer's need none.

@@ -3,11 +3,6 @@ use Rattle.std.proofs.Common.{◌≡◌, refl, sym, ap, ◌∙◌, ℕ, zero, su
 use Rattle.std.proofs.Math.Nat.{suc-mul}
 use Rattle.std.proofs.lemmas.List.{length-replicate, take-append-le, take-replicate}
 use Rattle.std.specs.List.{repeat}
-use Rattle.ufmt_c.specs.Calls.{StandsFor}
-
--- a text stands for itself
-pub stands_for_itself : (room : ℕ) (text : List ℕ) → StandsFor room text 0 text
-stands_for_itself room text = record { front = refl; longer = omega arith }
 
 -- what follows a text is shown where the text ends
 pub same_after : (room : ℕ) (text s t : List ℕ) → ((k : ℕ) → k ≤ room → take k s ≡ take k t) → take room (text ++ s) ≡ take room (text ++ t)

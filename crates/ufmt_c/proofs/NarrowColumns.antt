@@ -8,7 +8,8 @@ use Rattle.ufmt.specs.declared.column.Align.{Align}
 use Rattle.ufmt.specs.declared.column.Align.TheVariants.{Left, Center, Right}
 use Rattle.ufmt.specs.declared.column.Column.{Column}
 use Rattle.ufmt.specs.Column.{fills_before, in_column, missing}
-use Rattle.ufmt_c.specs.Calls.{StandsFor, reported}
+use Rattle.ufmt_c.specs.Calls.{reported}
+use Rattle.ufmt_c.specs.Private.Narrow.{StandsFor}
 use Rattle.ufmt_c.proofs.Fronts.{length-repeat, same_after, same_pieces}
 
 -- each character has a byte

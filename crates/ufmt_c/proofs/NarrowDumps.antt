@@ -10,8 +10,8 @@ use Rattle.ufmt_core.specs.Bytes.{space}
 use Rattle.ufmt.specs.declared.dump.HexDump.{HexDump}
 use Rattle.ufmt.specs.Dump.{bytes_per_group, bytes_per_row, chunks, digits_column, digits_width, dump_text, byte_digits, first_chunks, offset_column, row_text, rows_text, shown_byte}
 use Rattle.ufmt.proofs.Dumps.{bytes_per_group-some}
-use Rattle.ufmt_c.specs.Calls.{StandsFor, reported}
-use Rattle.ufmt_c.specs.Options.{left_out, row_width}
+use Rattle.ufmt_c.specs.Calls.{reported}
+use Rattle.ufmt_c.specs.Private.Narrow.{StandsFor, left_out, row_width}
 use Rattle.ufmt_c.proofs.Fronts.{same_after, same_bytes}
 
 no_chunks : (count n : ℕ) → first_chunks count n [] ≡ []

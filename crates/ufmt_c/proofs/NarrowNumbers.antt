@@ -10,7 +10,7 @@ use Rattle.ufmt.specs.declared.radix.Radix.TheVariants.{Binary, Octal, Hexadecim
 use Rattle.ufmt.specs.Radix.{base_of, digits_in, padded_after, padded_in, pads_first, prefix_in}
 use Rattle.ufmt.proofs.Padding.{padded-first, padded-last}
 use Rattle.ufmt.proofs.RadixTexts.{digits-in_base, room_in_base}
-use Rattle.ufmt_c.specs.Calls.{StandsFor}
+use Rattle.ufmt_c.specs.Private.Narrow.{StandsFor}
 use Rattle.ufmt_c.proofs.Fronts.{same_after, same_bytes}
 
 module _ (prefix payload : List ℕ) where

@@ -1,5 +1,5 @@
 -- What the calls from C return, and what they leave in the caller's buffer and in `detail`.
-use Rattle.std.specs.Prelude.{◌≡◌, ℕ, ◌^◌, ◌+◌, ◌-◌, ◌<◌, ◌≤◌, min, ℤ, pos, negsuc, List, length, take, drop}
+use Rattle.std.specs.Prelude.{◌≡◌, ℕ, ◌^◌, ◌-◌, ◌<◌, ◌≤◌, min, ℤ, pos, negsuc, List, length, take, drop}
 use Rattle.std.specs.Str.{IsValidUpTo}
 
 abbrev pub no_text : ℤ
@@ -33,11 +33,6 @@ pub record PutsText (old text : List ℕ) (result : ℤ) (new : List ℕ) (detai
   pub fits : length text ≤ length old → (result ≡ pos (length text)) × (take (length text) new ≡ text) × (drop (length text) new ≡ drop (length text) old)
   -- a longer text is cut where the buffer ends
   pub cut : length old < length text → (result ≡ full) × (new ≡ take (length old) text)
-
--- in a buffer with this room a text shows the same as a whole text that has so many more bytes, as they are reported
-pub record StandsFor (room : ℕ) (text : List ℕ) (rest : ℕ) (whole : List ℕ) : Type 0 where
-  pub front : take room whole ≡ take room text
-  pub longer : reported (length whole) ≡ reported (length text + rest)
 
 -- a call that writes nothing: the buffer and `detail` stay
 pub record WritesNothing (old : List ℕ) (before : ℕ) (new : List ℕ) (detail : ℕ) : Type 0 where

@@ -2,4 +2,5 @@ pub mod Calls
 pub mod Conversions
 pub mod Differences
 pub mod Options
+pub mod Private
 pub mod Quotes

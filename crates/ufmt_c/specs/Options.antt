@@ -1,12 +1,11 @@
 -- What the options that C passes mean, and which of them mean nothing.
-use Rattle.std.specs.Prelude.{Bool, ℕ, ◌-◌, ◌≤◌, ◌==◌, if◌then◌else◌, Some, None}
+use Rattle.std.specs.Prelude.{Bool, ℕ, ◌≤◌, ◌==◌, if◌then◌else◌, Some, None}
 use Rattle.std.specs.Char.{IsScalar}
 use Rattle.ufmt.specs.declared.column.Align.{Align}
 use Rattle.ufmt.specs.declared.column.Align.TheVariants.{Left, Center, Right}
 use Rattle.ufmt.specs.declared.column.Column.{Column}
 use Rattle.ufmt.specs.declared.dump.HexDump.{HexDump}
 use Rattle.ufmt.specs.declared.hex.HexOptions.{HexOptions}
-use Rattle.ufmt.specs.Dump.{bytes_per_group, bytes_per_row, digits_width}
 use Rattle.ufmt_core.specs.declared.layout.Mode.{Mode}
 use Rattle.ufmt_core.specs.declared.layout.Mode.TheVariants.{Plain, Pretty}
 use Rattle.ufmt_c.specs.declared.options.ColumnStyle.{ColumnStyle}
@@ -21,14 +20,6 @@ hex_of s = record { upper_case = s.upper_case; pad_char = s.pad; pad_length = s.
 
 abbrev pub dump_of : DumpStyle → HexDump
 dump_of s = record { per_row = s.per_row; group = s.group; offset = if s.has_offsets then Some s.first else None; ascii = s.has_text }
-
--- how wide the digits of a full row are
-abbrev pub row_width : HexDump → ℕ
-row_width dump = digits_width (bytes_per_group dump) (bytes_per_row dump)
-
--- how many spaces fewer a row with text has if it has room for so many bytes, which are more than it has
-abbrev pub left_out : HexDump → ℕ → ℕ
-left_out dump per_row = if dump.ascii then row_width dump - row_width (record dump { per_row = per_row }) else 0
 
 -- 0 is `Left`, 1 `Center`, and any other `Right`
 abbrev pub align_of : ℕ → Align

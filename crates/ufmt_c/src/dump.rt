@@ -1,8 +1,9 @@
 //! Dumps of bytes.
 ghost use Rattle.std.specs.Prelude.{◌≡◌, ◌<◌, ◌≤◌, ℕ, List, length, min};
 ghost use Rattle.ufmt.specs.Dump.{dump_text};
-ghost use Rattle.ufmt_c.specs.Calls.{PutsText, StandsFor, reported};
-ghost use Rattle.ufmt_c.specs.Options.{dump_of, left_out};
+ghost use Rattle.ufmt_c.specs.Calls.{PutsText, reported};
+ghost use Rattle.ufmt_c.specs.Options.{dump_of};
+ghost use Rattle.ufmt_c.specs.Private.Narrow.{StandsFor, left_out};
 
 use crate::filler::Filler;
 use crate::options::DumpStyle;

@@ -1,6 +1,7 @@
 //! A writer over a buffer of C.
 ghost use Rattle.std.specs.Prelude.{◌≡◌, ◌++◌, ◌∷◌, [], ℕ, List, length, ⊤};
-ghost use Rattle.ufmt_c.specs.Calls.{HasPut, PutsText, StandsFor, reported};
+ghost use Rattle.ufmt_c.specs.Calls.{HasPut, PutsText, reported};
+ghost use Rattle.ufmt_c.specs.Private.Narrow.{StandsFor};
 
 use crate::code::FULL;
 use crate::ghost_text::GhostText;

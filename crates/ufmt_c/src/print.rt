@@ -2,7 +2,8 @@
 ghost use Rattle.std.specs.Prelude.{ℕ, List, length};
 ghost use Rattle.ufmt.specs.Pieces.{line_text};
 ghost use Rattle.ufmt_core.specs.Layout.{plain_text};
-ghost use Rattle.ufmt_c.specs.Calls.{PutsText, StandsFor};
+ghost use Rattle.ufmt_c.specs.Calls.{PutsText};
+ghost use Rattle.ufmt_c.specs.Private.Narrow.{StandsFor};
 
 use crate::filler::Filler;
 use ufmt::{Line, uDebug, write_debug, write_line};

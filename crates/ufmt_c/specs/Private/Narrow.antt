@@ -1,0 +1,18 @@
+-- Texts with less width than was asked for, which show the same in a buffer.
+use Rattle.std.specs.Prelude.{◌≡◌, ℕ, ◌+◌, ◌-◌, if◌then◌else◌, List, length, take}
+use Rattle.ufmt.specs.Dump.{bytes_per_group, bytes_per_row, digits_width}
+use Rattle.ufmt.specs.declared.dump.HexDump.{HexDump}
+use Rattle.ufmt_c.specs.Calls.{reported}
+
+-- a buffer with this room shows the same of both texts, and the whole one has so many more bytes, as lengths are reported
+pub record StandsFor (room : ℕ) (text : List ℕ) (rest : ℕ) (whole : List ℕ) : Type 0 where
+  pub front : take room whole ≡ take room text
+  pub longer : reported (length whole) ≡ reported (length text + rest)
+
+-- how wide the digits of a full row are
+abbrev pub row_width : HexDump → ℕ
+row_width dump = digits_width (bytes_per_group dump) (bytes_per_row dump)
+
+-- how many spaces more a row of the dump has than one of this length, where both are longer than their bytes
+abbrev pub left_out : HexDump → ℕ → ℕ
+left_out dump per_row = if dump.ascii then row_width dump - row_width (record dump { per_row = per_row }) else 0
