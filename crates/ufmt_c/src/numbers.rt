@@ -15,19 +15,6 @@ use ufmt::{HexOptions, pieces};
 // The longest prefix and digits: `0b` and 64 bits.
 const LONGEST: usize = 66;
 
-// The options with as much of their width as a buffer of this length can show.
-fn narrowed(options: HexOptions, room: usize) -> HexOptions
-    requires { room < 2 ^ 63 }
-    ensures { result ≡ record options { pad_length = min options.pad_length (room + LONGEST) } }
-{
-    HexOptions {
-        upper_case: options.upper_case,
-        pad_char: options.pad_char,
-        pad_length: options.pad_length.min(room + LONGEST),
-        ox_prefix: options.ox_prefix,
-    }
-}
-
 /// Writes the number in decimal digits.
 #[unsafe(no_mangle)]
 pub extern "C" fn ufmt_unsigned(buffer: &mut [u8], number: u64, detail: &mut usize) -> isize
@@ -93,4 +80,17 @@ pub extern "C" fn ufmt_binary(
     let narrow = narrowed(options, buffer.len());
     let rest = options.pad_length - narrow.pad_length;
     print_longer(buffer, &pieces!(bin number with narrow), rest, detail)
+}
+
+// The options with as much of their width as a buffer of this length can show.
+fn narrowed(options: HexOptions, room: usize) -> HexOptions
+    requires { room < 2 ^ 63 }
+    ensures { result ≡ record options { pad_length = min options.pad_length (room + LONGEST) } }
+{
+    HexOptions {
+        upper_case: options.upper_case,
+        pad_char: options.pad_char,
+        pad_length: options.pad_length.min(room + LONGEST),
+        ox_prefix: options.ox_prefix,
+    }
 }
