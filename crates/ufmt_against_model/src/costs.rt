@@ -1,9 +1,11 @@
 //! Makes each call on a text by itself, between marks, so that its memory and its steps can be counted.
 //! `tools/lib/model/counter.c` counts them.
 use crate::calls::{Calls, Name};
+use crate::requests::Request;
 use std::alloc::{AllocError, Global};
 use std::collections::{BTreeMap, BTreeSet};
 use ufmt::layout::Mode;
+use ufmt::{Decimal, hex_dump_into, line_cut_into, line_into, pieces};
 use ufmt_doc::doc::{DebugName, Doc, same_text};
 use ufmt_doc::field_text::read_field;
 use ufmt_examples::{Node, Tree};
@@ -19,6 +21,9 @@ const BEGIN: usize = MARK;
 const END: usize = MARK + 1;
 
 const DROPPED: usize = MARK + 2;
+
+// The length of a buffer that is too small for what requests ask for.
+const SMALL: usize = 64;
 
 fn mark(alloc: Global, bytes: usize) {
     let _refused: Result<Vec<u8>, AllocError> = Vec::with_capacity(alloc, bytes);
@@ -38,6 +43,10 @@ pub fn calls_made(alloc: Global, text: &[u8]) -> Result<String, AllocError> {
         alloc,
         line: String::new(alloc),
     };
+    if let Some(request) = Request::from_text(alloc, text) {
+        costs.on_request(&request)?;
+        return Ok(costs.line);
+    }
     costs.on_mode("plain", Calls::on_token_text(alloc, Mode::Plain, text))?;
     costs.on_mode("pretty", Calls::on_token_text(alloc, Mode::Pretty, text))?;
     costs.line.push_str("leaf: ")?;
@@ -63,6 +72,64 @@ impl Costs {
         mark(self.alloc, DROPPED);
         self.line.push_str(name)?;
         self.line.push_str(verdict)
+    }
+
+    // Calls by the options of a request, on a buffer that is too small for each of the texts.
+    fn on_request(&mut self, request: &Request<'_>) -> Result<(), AllocError> {
+        self.line.push_str("request: ")?;
+        let Ok(text) = str::from_utf8(request.payload) else {
+            return Ok(());
+        };
+        self.on_padded(request)?;
+        self.on_columns(request, text)?;
+        let mut buffer = [0u8; SMALL];
+        count!(
+            self,
+            "dump",
+            hex_dump_into(&mut buffer, request.payload, &request.dump).ok()
+        );
+        Ok(())
+    }
+
+    fn on_padded(&mut self, request: &Request<'_>) -> Result<(), AllocError> {
+        let Request { column, hex, .. } = *request;
+        let (number, width, mut buffer) = (7u64, column.width, [0u8; SMALL]);
+        let decimal = Decimal {
+            value: -7,
+            places: 3,
+        };
+        let by_hex = pieces!(hex number with hex);
+        count!(self, "hex", line_into(&mut buffer, &by_hex).ok());
+        let by_bin = pieces!(bin number with hex);
+        count!(self, "bin", line_into(&mut buffer, &by_bin).ok());
+        let by_oct = pieces!(oct number with hex);
+        count!(self, "oct", line_into(&mut buffer, &by_oct).ok());
+        let by_zeros = pieces!(zeros number to width);
+        count!(self, "zeros", line_into(&mut buffer, &by_zeros).ok());
+        let by_decimal = pieces!(zeros decimal to width);
+        count!(self, "decimal", line_into(&mut buffer, &by_decimal).ok());
+        Ok(())
+    }
+
+    fn on_columns(&mut self, request: &Request<'_>, text: &str) -> Result<(), AllocError> {
+        let Request { column, hex, .. } = *request;
+        let (number, mut buffer) = (7u64, [0u8; SMALL]);
+        let by_display = pieces!(display text in column);
+        count!(self, "column", line_into(&mut buffer, &by_display).ok());
+        count!(
+            self,
+            "cut column",
+            line_cut_into(&mut buffer, &by_display)
+                .is_whole
+                .then_some(())
+        );
+        let by_hex = pieces!(hex number with hex in column);
+        count!(
+            self,
+            "hex in a column",
+            line_into(&mut buffer, &by_hex).ok()
+        );
+        Ok(())
     }
 
     // A half of the line: calls on token texts and those that parse values, and after them calls on debug texts.

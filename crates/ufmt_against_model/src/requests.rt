@@ -21,10 +21,10 @@ const REQUEST_PREFIX: &[u8] = b"\0pieces ";
 #[derive(Clone, Copy)]
 pub struct Request<'a> {
     alloc: Global,
-    column: Column,
-    hex: HexOptions,
-    dump: HexDump,
-    payload: &'a [u8],
+    pub column: Column,
+    pub hex: HexOptions,
+    pub dump: HexDump,
+    pub payload: &'a [u8],
     ghost has_ascii_pad: { hex.pad_char < 128 },
 }
 
@@ -37,7 +37,8 @@ pub fn verdict(alloc: Global, text: &[u8]) -> Result<Option<String>, AllocError>
 }
 
 impl<'a> Request<'a> {
-    fn from_text(alloc: Global, text: &'a [u8]) -> Option<Request<'a>> {
+    /// Returns the request that the text is, if it is one.
+    pub fn from_text(alloc: Global, text: &'a [u8]) -> Option<Request<'a>> {
         let rest = text.strip_prefix(REQUEST_PREFIX)?;
         let end = rest.iter().position(|byte| *byte == b'\n')?;
         let (line, payload) = rest.split_at_checked(end)?;

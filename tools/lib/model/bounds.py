@@ -3,6 +3,9 @@ from typing import NamedTuple
 
 from features import Features, indentation
 
+# Calls by the options of a request, on a buffer that is too small. They take no memory, and steps by the buffer, the
+# payload and the width that a column counts up to, whatever the options are.
+REQUESTED = ("hex", "bin", "oct", "zeros", "decimal", "column", "cut column", "hex in a column", "dump")
 # Steps that a call takes today: to start; for a byte of a word and of a leaf in quotes; for an escape and a character
 # past ASCII; for a leaf without quotes or a name, a leaf in quotation marks, and one in apostrophes; for a block with
 # entries and one without; for another byte of the call's text, and of that in the other mode; for a byte of
@@ -38,6 +41,7 @@ STEPS = {
     "is_word": (2000, 0, 13, 0, 0, 0, 0, 0, 0, 0, 0, 0, 0, 0),
     "Doc::text": (2000, 0, 20, 350, 1, 0, 0, 0, 0, 0, 0, 0, 0, 0),
     "Doc::character": (1000, 0, 0, 0, 0, 0, 0, 0, 0, 0, 0, 0, 0, 0),
+    **{call: (1000, 0, 0, 0, 0, 0, 0, 0, 0, 0, 40, 0, 0, 0) for call in REQUESTED},
 }
 # What a call on debug texts takes more than the same call on token texts, in the same order. These are of programs with run-time
 # checks. A byte of a leaf or a name that only debug documents have takes so much more than one of a word; and what a piece
@@ -161,7 +165,7 @@ def trees(blocks):
 def memory(call, case):
     found, length = case.features, case.length
     call = call.removeprefix("debug ")
-    if call in ("is_text", "convert into", "is_token", "is_debug", "print into", "print loose into", "same_text", "normalize", "parse i128", "parse char", "is_leaf", "is_word"):
+    if call in REQUESTED or call in ("is_text", "convert into", "is_token", "is_debug", "print into", "print loose into", "same_text", "normalize", "parse i128", "parse char", "is_leaf", "is_word"):
         return NOTHING
     return {
         "read": lambda: document(found, length),

@@ -2,6 +2,7 @@
 from typing import NamedTuple
 
 import bounds
+import requests
 import shapes
 from features import Features, features, indentation, past_ascii
 from model import DEBUG, PlainReader, PrettyReader, plain, pretty
@@ -12,6 +13,10 @@ TIMED_SIZE = 64 * 1024
 # Texts are counted side by side in so many parts.
 PARTS = 4
 SECONDS = 600
+# And so many for all requests: they take less than one, and with the steps counted less than ten.
+REQUEST_SECONDS = 30
+# The program prints by a request's options to a buffer of so many bytes.
+SMALL = 64
 # A call of so many nanoseconds is never too slow.
 SOME_TIME = 10_000_000
 
@@ -127,17 +132,36 @@ def steps_fault(call, case, steps):
     return "%d steps, and not at most %d" % (steps, most) if steps > most else None
 
 
+def request_sample(request):
+    """A request, and what is known of its calls: the length of the buffer, of the payload, and of a column that may be
+    counted to its end."""
+    length = SMALL + len(request.payload) + (request.width if request.width < 2**32 else 0)
+    return Sample("the request %s" % (tuple(request),), request.data(), {"request": bounds.Case(Features(), length, 0)})
+
+
+def counted_faults(counter, program, texts, name, is_counted, seconds):
+    """The faults of these texts, how many calls were counted, and the lines with the calls' results."""
+    data = b"".join(b"%d\n%s" % (len(one.data), one.data) for one in texts)
+    arguments, name = [program, "costs"], "%s of %s" % ("steps" if is_counted else "memory", name)
+    output, counts = counter.run(arguments, data, name, seconds=seconds)
+    if is_counted:
+        counts = counter.steps(arguments, data, name, seconds=seconds)
+    lines = output.decode().splitlines()
+    made = sum(len(list(calls_of(line))) for line in lines)
+    if len(lines) != len(texts) or len(counts) < made:
+        return ["%d lines and %d counts of %d texts" % (len(lines), len(counts), len(texts))], made, []
+    counted, fault = iter(counts), steps_fault if is_counted else memory_fault
+    return [wrong for one, line in zip(texts, lines) for wrong in judged(one, line, counted, fault)], made, lines
+
+
+def request_faults(counter, program, is_counted):
+    """The faults of calls with huge options, and how many calls were counted. Each must find its buffer full."""
+    made = list(map(request_sample, requests.huge()))
+    wrong, count, lines = counted_faults(counter, program, made, "requests", is_counted, REQUEST_SECONDS)
+    return wrong + ["%s: a text fits: %s" % (one.name, line) for one, line in zip(made, lines) if " yes" in line], count
+
+
 def part_faults(counter, program, number, is_counted):
     """The faults of one part of the texts, and how many calls were counted."""
     part = list(samples(COUNTED_SIZE if is_counted else TIMED_SIZE, number))
-    data = b"".join(b"%d\n%s" % (len(one.data), one.data) for one in part)
-    arguments, name = [program, "costs"], "%s of part %d" % ("steps" if is_counted else "memory", number)
-    output, counts = counter.run(arguments, data, name, seconds=SECONDS)
-    if is_counted:
-        counts = counter.steps(arguments, data, name, seconds=SECONDS)
-    lines = output.decode().splitlines()
-    made = sum(len(list(calls_of(line))) for line in lines)
-    if len(lines) != len(part) or len(counts) < made:
-        return ["%d lines and %d counts of %d texts" % (len(lines), len(counts), len(part))], made
-    counted, fault = iter(counts), steps_fault if is_counted else memory_fault
-    return [wrong for one, line in zip(part, lines) for wrong in judged(one, line, counted, fault)], made
+    return counted_faults(counter, program, part, "part %d" % number, is_counted, SECONDS)[:2]

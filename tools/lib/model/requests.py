@@ -323,6 +323,28 @@ KINDS = ("a", "ab\n", "\u00e9", "a\"\u20ac", "\x1b'", "\U0001f980")
 OFFSETS = (0, 1, 0xFFFFFF, 0x1000000, 0xFFFFFFF, 0x10000000, 0xFFFFFFDF, 0xFFFFFFFF, 2**32)
 
 
+# Options that each make a text longer than the buffer of 64 bytes in which the program counts steps, and huge ones.
+LONG, HUGE = 100, (2**63, 2**64 - 1)
+
+
+def huge():
+    """Requests with one huge option each, and with some that don't meet in a call. No column of a huge width is around a
+    number of a huge one: a column counts the characters of what it is around, up to its width, before it writes."""
+    some = Request(width=LONG, pad_length=LONG, per_row=LONG, payload=b"abc")
+    for number in (LONG, *HUGE):
+        for align in (0, 1, 2):
+            for fill in " *\u20ac":
+                yield some._replace(width=number, align=align, fill=ord(fill))
+        for pad in (32, 48, 127):
+            for prefix in (0, 1):
+                yield some._replace(pad_length=number, pad=pad, prefix=prefix)
+        for width in (65, 1000):
+            yield some._replace(pad_length=number, width=width, align=2)
+        for group in (0, 1, LONG, *HUGE):
+            for offset in (0, 0xFFFFFFFF, 2**32):
+                yield some._replace(per_row=number, group=group, offset=offset)
+
+
 class Asker:
     """Makes requests. One seed makes the same ones each time."""
 
