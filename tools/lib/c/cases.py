@@ -1,7 +1,8 @@
 """The cases that `tools/try-c` tries: calls of libufmt_c, their arguments, and what each is to do.
 
 What they expect comes from outside: rustc's texts and xxd's dumps in tools/data/c/rows.tsv, the texts of values that rustc
-printed in tools/expected/rows.txt, the model of texts in tools/lib/model/, and Python's own decoding of UTF-8.
+printed in tools/expected/rows.txt, the model of texts in tools/lib/model/, and Python's own decoding of UTF-8. Texts that are
+longer than any buffer are lists of parts, whose lengths Python adds up as whole numbers of any size.
 """
 import pathlib
 import re
