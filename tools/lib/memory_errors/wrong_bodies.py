@@ -26,7 +26,7 @@ PUT = [
      "std::alloc::AllocError as Spent;\nuse "),
     ("a name of 9 letters: a macro that fails", "ufmt_doc/src/doc.rt", body("decoded_bytes"),
      "macro_rules! fail { ($n:expr) => { if $n == 9 { Err(AllocError)?; } } } fail!(inside.len());"),
-    ("an empty escape: a function that makes the error", "ufmt_doc/src/field_text.rt", r"\n(?=impl )",
+    ("an empty escape: a function that makes the error", "ufmt_doc/src/field_text.rt", r"\n(?=impl\b)",
      "fn spent() -> AllocError { NO_MEMORY }\n"),
     ("a second constant", "ufmt_core/src/write.rt", r"\n(?=fn )", "const SPENT: AllocError = AllocError;\n"),
     ("a struct in 20 bytes: the error of a text that is none", "ufmt_parse/src/fields.rt", body("parse_block"),
