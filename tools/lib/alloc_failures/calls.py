@@ -10,7 +10,7 @@ line. If no line of a run says so, a call made the allocation in secret, and the
 """
 import re
 
-import tried
+from lib.alloc_failures import tried
 
 # The allocation that is refused in each run. The calls make fewer.
 REFUSED = 600

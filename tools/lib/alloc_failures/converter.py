@@ -7,7 +7,7 @@ import os
 from concurrent.futures import ThreadPoolExecutor
 from typing import NamedTuple
 
-import tried
+from lib.alloc_failures import tried
 
 # The last number that is tried, if the allocations don't end before.
 LAST = 60

@@ -3,8 +3,7 @@ import re
 import subprocess
 import sys
 
-import build
-import peers
+from lib.bench import build, peers
 
 # `two` prints a second type as well. The peers have the first six.
 PEER_SIZES = ("text", "number", "struct", "pretty", "two", "line")

@@ -2,10 +2,8 @@
 import subprocess
 import sys
 
-import build
-import peers
-import values
-from counter import counted
+from lib.bench import build, peers, values
+from lib.bench.counter import counted
 
 ROWS = (("u64", "plain"), ("u32", "plain"), ("measurement", "plain"), ("measurement", "pretty"), ("strings", "plain"),
         ("escapes", "plain"), ("options", "plain"), ("event", "plain"), ("event", "pretty"), ("map", "plain"))

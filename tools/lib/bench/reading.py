@@ -1,9 +1,8 @@
 """Instructions for each byte of a text that is converted, read or printed."""
 import sys
 
-import build
-import values
-from counter import counted
+from lib.bench import build, values
+from lib.bench.counter import counted
 
 SIZE = 1 << 20
 # A call, the run without it, and its text.

@@ -1,9 +1,7 @@
 """Bytes of stack that calls take at most."""
-import sys
 
-import build
-import frames
-from stack_bounds import CALLS
+from lib.bench import build, frames
+from lib.bench.stack_bounds import CALLS
 
 # What a call does, and its function. Further functions do the same for a value that is one struct deeper each: what they take
 # more is what a level takes.

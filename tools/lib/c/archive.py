@@ -1,13 +1,11 @@
 """Builds libufmt_c.a with nothing proved, by the sources of ufmt_c as a program that makes each call."""
 import re
 import subprocess
-import sys
 import pathlib
 
 TOP = pathlib.Path(__file__).resolve().parent.parent.parent.parent
-sys.path.insert(0, str(TOP / "tools" / "lib" / "bench"))
 
-import build  # noqa: E402
+from lib.bench import build  # noqa: E402
 
 # No function is put into another by its source's wish: that would take a minute more.
 FLAGS = "-march=x86-64 -ffunction-sections -fdata-sections --no-default-config -no-canonical-prefixes -fintegrated-cc1 -c -x ir -fPIC -O1".split()

@@ -11,11 +11,10 @@ from typing import NamedTuple, Optional
 from urllib.parse import unquote_to_bytes
 
 TOP = pathlib.Path(__file__).resolve().parent.parent.parent.parent
-sys.path[:0] = [str(TOP / "tools" / "lib" / part) for part in ("expected", "model")]
 sys.setrecursionlimit(20_000)
 
-import rows as expected_rows  # noqa: E402
-from model import DEBUG, TOKEN, PlainReader, PrettyReader, plain, pretty  # noqa: E402
+from lib.expected import rows as expected_rows  # noqa: E402
+from lib.model.model import DEBUG, TOKEN, PlainReader, PrettyReader, plain, pretty  # noqa: E402
 
 NO_TEXT, FULL, NOT_UTF8, BAD_OPTION = -1, -2, -3, -4
 # What each call takes after its buffer, if it has one, and before `detail`. A struct has its name and its members' types.

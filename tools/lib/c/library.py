@@ -1,7 +1,7 @@
 """Calls of libufmt_c as a shared object, by ctypes."""
 import ctypes
 
-from cases import CALLS, STYLES
+from lib.c.cases import CALLS, STYLES
 
 TYPES = {
     "size_t": ctypes.c_size_t,

@@ -6,7 +6,7 @@ each of which must give just these messages. After a blank line new messages or 
 """
 import re
 
-import tried
+from lib.crates import tried
 
 # The compiler shows no more errors than this.
 SHOWN = 20

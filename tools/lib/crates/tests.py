@@ -1,7 +1,7 @@
 """The crate of tests: what each must do, and what it did."""
 import re
 
-import tried
+from lib.crates import tried
 
 TEST = re.compile(r"((?:// .*\n)*)#\[test\]\nfn (\w+)")
 RESULT = re.compile(r"^test tests::(\w+)::(\w+) \.\.\. (ok|FAILED)\n((?:    .*\n|\n)*)", re.M)

@@ -8,10 +8,9 @@ import shutil
 import subprocess
 from typing import Callable, NamedTuple
 
-import log_model
-import devices
-from log_model import Block, plain, pretty, quoted
-from logs import CHUNK
+from lib.log_model import log_model, devices
+from lib.log_model.log_model import Block, plain, pretty, quoted
+from lib.log_model.logs import CHUNK
 
 SIZE = 32 * 1024
 # How much longer a log is whose reads and writes are counted, and that must pass in the memory of the short one.

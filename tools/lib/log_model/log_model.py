@@ -2,13 +2,9 @@
 
 A mode is the name of the texts that are written: "pretty", or "plain" for `--plain`.
 """
-import pathlib
 import re
-import sys
 
-sys.path.insert(0, str(pathlib.Path(__file__).resolve().parent.parent / "model"))
-
-from model import DEBUG, STRUCTS, Block, PlainReader, PrettyReader, plain, pretty, quoted  # noqa: E402, F401
+from lib.model.model import DEBUG, STRUCTS, Block, PlainReader, PrettyReader, plain, pretty, quoted  # noqa: E402, F401
 
 MODES = ("pretty", "plain")
 # The reader of the texts that are converted to a mode, and what prints them in that mode.

@@ -2,7 +2,7 @@
 import itertools
 import random
 
-from log_model import STRUCTS, Block, plain, pretty, quoted
+from lib.log_model.log_model import STRUCTS, Block, plain, pretty, quoted
 
 LETTERS = "abcxyzABCXYZ0189_-"
 # Characters of one to four bytes, and those that have an escape.

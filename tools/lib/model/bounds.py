@@ -1,7 +1,7 @@
 """How much each call may take of steps, of time and of memory, by what a text has."""
 from typing import NamedTuple
 
-from features import Features, indentation
+from lib.model.features import Features, indentation
 
 # Calls by the options of a request, on a buffer that is too small. They take no memory, and steps by the buffer, the
 # payload and the width that a column counts up to, whatever the options are.

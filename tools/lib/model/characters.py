@@ -1,5 +1,5 @@
 """Characters of each class, byte order marks and other encodings, in each place of a text."""
-from model import Block, plain, pretty, quoted
+from lib.model.model import Block, plain, pretty, quoted
 
 # Ends of ranges, by their first and last characters: controls, spaces, marks, letters of each length in bytes.
 RANGES = (

@@ -1,11 +1,10 @@
 """Compares what ufmt_conv and ufmt_lines take of steps, memory and calls of their devices with bounds."""
 from typing import NamedTuple
 
-import bounds
-import shapes
-from costs import SECONDS, rough
-from features import features, indentation
-from model import plain, pretty
+from lib.model import bounds, shapes
+from lib.model.costs import SECONDS, rough
+from lib.model.features import features, indentation
+from lib.model.model import plain, pretty
 
 # A text has a document of each shape, of so many bytes or of some times that. Steps are not counted of texts that have
 # more bytes besides their indentation.

@@ -1,11 +1,9 @@
 """Compares what each call takes of memory, steps and time with its bounds, on a text of each shape."""
 from typing import NamedTuple
 
-import bounds
-import requests
-import shapes
-from features import Features, features, indentation, past_ascii
-from model import DEBUG, PlainReader, PrettyReader, plain, pretty
+from lib.model import bounds, requests, shapes
+from lib.model.features import Features, features, indentation, past_ascii
+from lib.model.model import DEBUG, PlainReader, PrettyReader, plain, pretty
 
 # Of texts whose steps are counted, and of those whose memory and time is.
 COUNTED_SIZE = 4 * 1024

@@ -2,9 +2,8 @@
 
 A cell is a tuple. It begins with the name of its table, and ends with the mode in which the text was read.
 """
-import characters
-import values
-from model import Block, unquoted
+from lib.model import characters, values
+from lib.model.model import Block, unquoted
 
 MODES = ("plain", "pretty")
 PLACES = ("entry of a list", "entry of a set", "key", "value", "field of a struct", "field of a tuple", "field without names")

@@ -1,14 +1,13 @@
 """Which shapes the debug texts had that are no token texts, and which texts were refused: a table of cells, each of which some
 text must fill. A cell ends with the mode in which the text was read.
 """
-import characters
-import debug_refused
-from coverage import BLOCKS, DEPTHS, LEAVES, MANY, MODES, PLACE_IN, POSITIONS, counts, depth_class, entries_class
-from coverage import kind_of, length_class, lengths, pairs, position, power, powers
-from debug_covering import DEBUG_PLACES, DOTS, NAME_SHAPES, OPEN_STRUCTS
-from debug_leaves import ENDS, ESCAPED, PIECE, SHAPES, is_in_word, shape, word_form
-from features import is_of_tokens
-from model import STRUCTS, WORD, is_debug_name
+from lib.model import characters, debug_refused
+from lib.model.coverage import BLOCKS, DEPTHS, LEAVES, MANY, MODES, PLACE_IN, POSITIONS, counts, depth_class, entries_class
+from lib.model.coverage import kind_of, length_class, lengths, pairs, position, power, powers
+from lib.model.debug_covering import DEBUG_PLACES, DOTS, NAME_SHAPES, OPEN_STRUCTS
+from lib.model.debug_leaves import ENDS, ESCAPED, PIECE, SHAPES, is_in_word, shape, word_form
+from lib.model.features import is_of_tokens
+from lib.model.model import STRUCTS, WORD, is_debug_name
 
 KINDS = ("word", "quotes")
 NAMES = ("struct", "tuple", "field", *OPEN_STRUCTS)

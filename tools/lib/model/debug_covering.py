@@ -1,7 +1,7 @@
 """Documents that fill each cell of the table of debug texts. What a cell leaves open is chosen at random."""
-from coverage import BLOCKS, EXACT_ENTRIES, EXACT_LENGTH, LEAVES, PLACES, powers
-from debug_leaves import ESCAPED, SHAPES
-from model import DEEPEST, STRUCTS, Block
+from lib.model.coverage import BLOCKS, EXACT_ENTRIES, EXACT_LENGTH, LEAVES, PLACES, powers
+from lib.model.debug_leaves import ESCAPED, SHAPES
+from lib.model.model import DEEPEST, STRUCTS, Block
 
 DEBUG_PLACES = (*PLACES, "field of an open struct")
 # Structs that end in dots, with fields and without.

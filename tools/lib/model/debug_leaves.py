@@ -7,8 +7,8 @@ that a token document may have, and `o` if it is spelled otherwise. Colons are `
 import itertools
 import re
 
-import characters
-from model import CONTROLS, IN_QUOTES, QUOTED_CHARACTER, QUOTED_TEXT, WORD, WORD_BYTES, quoted
+from lib.model import characters
+from lib.model.model import CONTROLS, IN_QUOTES, QUOTED_CHARACTER, QUOTED_TEXT, WORD, WORD_BYTES, quoted
 
 WORDS, QUOTES, COLONS = "wpu", "tco", "C"
 PIECE = re.compile("(%s)|(%s)|(:+)" % (WORD_BYTES, "|".join(IN_QUOTES)))

@@ -1,5 +1,5 @@
 """Texts that are no debug texts, by the reason why."""
-from model import DEEPEST, STRUCTS, Block, plain, pretty
+from lib.model.model import DEEPEST, STRUCTS, Block, plain, pretty
 
 CONTROLS = [bytes([code]) for code in (*range(0x20), 0x7F)]
 NO_UTF_8 = (b"\x80", b"\xff", b"\xc3", b"\xc0\x80", b"\xe2\x82", b"\xed\xa0\x80", b"\xf0\x9f\xa6", b"\xf4\x90\x80\x80")

@@ -2,15 +2,12 @@
 import math
 import random
 
-import characters
-import debug_refused
-import pieces
-import values
-from coverage import powers
-from covering import Covering
-from debug_covering import DEBUG_PLACES, DebugCovering
-from debug_leaves import PRINTED, LeafMaker
-from model import DEEPEST, STRUCTS, Block, plain, pretty, quoted
+from lib.model import characters, debug_refused, pieces, values
+from lib.model.coverage import powers
+from lib.model.covering import Covering
+from lib.model.debug_covering import DEBUG_PLACES, DebugCovering
+from lib.model.debug_leaves import PRINTED, LeafMaker
+from lib.model.model import DEEPEST, STRUCTS, Block, plain, pretty, quoted
 
 LETTERS = "abcxyzABCXYZ0189_-"
 # Characters of one to four bytes, the ends of these ranges, and characters that have an escape.

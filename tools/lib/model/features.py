@@ -2,7 +2,7 @@
 import collections
 from typing import NamedTuple
 
-from model import PIECE, STRUCTS, TOKEN
+from lib.model.model import PIECE, STRUCTS, TOKEN
 
 # What an entry takes in memory besides its texts, a pair of a key and a value, and a field.
 DOC, PAIR, FIELD = 56, 112, 80

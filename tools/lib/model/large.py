@@ -2,8 +2,8 @@
 import resource
 import subprocess
 
-from model import Block
-from verdicts import half, leaf_verdict
+from lib.model.model import Block
+from lib.model.verdicts import half, leaf_verdict
 
 SIZE = 16 * 1024 * 1024
 LINES = 1_000_000

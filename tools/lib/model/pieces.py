@@ -25,7 +25,7 @@ import functools
 import re
 import zlib
 
-from model import EMPTY, STRUCTS, Block, plain, pretty, quoted
+from lib.model.model import EMPTY, STRUCTS, Block, plain, pretty, quoted
 
 END = b"\xff"
 INDENT = "    "

@@ -21,8 +21,8 @@ import re
 from decimal import Decimal
 from typing import NamedTuple
 
-from model import Block, add_pretty, plain, pretty, quoted
-from pieces import by_character, by_text, digest, of_value, printed
+from lib.model.model import Block, add_pretty, plain, pretty, quoted
+from lib.model.pieces import by_character, by_text, digest, of_value, printed
 
 REQUEST_PREFIX = b"\0pieces "
 DEEPEST_LISTS = 260

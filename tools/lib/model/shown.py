@@ -1,7 +1,7 @@
 """What the leaves and the fields of a document show, in the order and the form in which the program notes it."""
 import string
 
-from model import STRUCTS, unquoted
+from lib.model.model import STRUCTS, unquoted
 
 # How many fields of a struct are asked for, besides its last.
 MOST_FIELDS = 8

@@ -4,7 +4,7 @@ Each has a letter, which the program prints of a text if a value of the type has
 """
 import re
 
-from model import Block, plain, quoted, unquoted
+from lib.model.model import Block, plain, quoted, unquoted
 
 NUMBER = re.compile(r"0|-?[1-9][0-9]*")
 # No number of a type has more digits.

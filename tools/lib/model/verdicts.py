@@ -1,11 +1,7 @@
 """The lines that the programs should print: of each text all that the calls say of it, and what ufmt_conv writes."""
-import coverage
-import debug_coverage
-import pieces
-import requests
-import values
-from model import DEBUG, DEEPEST, NO_UTF8, TOKEN, PlainReader, PrettyReader, depth_of, events, parts, plain, pretty, quoted
-from shown import shown
+from lib.model import coverage, debug_coverage, pieces, requests, values
+from lib.model.model import DEBUG, DEEPEST, NO_UTF8, TOKEN, PlainReader, PrettyReader, depth_of, events, parts, plain, pretty, quoted
+from lib.model.shown import shown
 
 
 def digest(text):
