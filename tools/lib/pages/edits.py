@@ -1,20 +1,18 @@
-#!/usr/bin/env python3
-"""tools/list-edits [--check | --write CRATE FOLDER]: prints each promise of docs/PROMISES.md with the edits that guard it.
+"""Each promise of docs/PROMISES.md with the edits that guard it.
 
 An edit is a wrong body that the check must refuse. crates/CRATE/more-edits.txt has the crate's edits, an empty line between two: the
 edit's name, a line `guards:` for each promise that it guards, with the first words of the promise, and then `file:`, `old:` and
 `new:` as in a file of must-fail/. An edit without these three lines is in must-fail/NAME.edit, which the gate tries. `guards: none`
 and a reason stand for an edit that guards no promise.
 
-With --check it prints only the faults, and last a line of counts: each edit guards a promise that is there and is the only one with
-these first words, and the texts that it replaces stand once in its file. The status is 1 if there was a fault. With --write it writes
-the edits of a crate's more-edits.txt as files of the folder.
+Each edit guards a promise that is there and is the only one with these first words, and the texts that it replaces stand once in
+its file; else that is a fault. `--list` prints each promise with its edits. `--write` writes the edits of a crate's more-edits.txt that
+change something as files of the folder.
 """
 import pathlib
 import re
-import sys
 
-TOP = pathlib.Path(__file__).resolve().parent.parent
+TOP = pathlib.Path(__file__).resolve().parents[3]
 PAGE = TOP / "docs" / "PROMISES.md"
 NONE = "none: "
 
@@ -125,21 +123,15 @@ def write(crate, folder):
             (folder / (edit.name + ".edit")).write_text("\n".join(edit.change) + "\n")
 
 
-def main():
-    if len(sys.argv) == 4 and sys.argv[1] == "--write":
-        write(sys.argv[2], pathlib.Path(sys.argv[3]))
+def main(arguments):
+    if arguments[:1] == ["--write"]:
+        write(arguments[1], pathlib.Path(arguments[2]))
         return 0
-    if sys.argv[1:] not in ([], ["--check"]):
-        sys.exit("usage: tools/list-edits [--check | --write CRATE FOLDER]")
     edits, rows = every_edit(), list(promises())
-    if not sys.argv[1:]:
+    if arguments:
         show(edits, rows)
     faults = list(faults_of(edits, rows))
     for fault in faults:
         print("fault: " + fault)
     print("%d edits, %d promises, %d faults" % (len(edits), len(rows), len(faults)))
     return 1 if faults else 0
-
-
-if __name__ == "__main__":
-    sys.exit(main())

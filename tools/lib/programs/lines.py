@@ -1,20 +1,9 @@
-#!/usr/bin/env python3
-"""tools/try-lines [PROGRAM]: runs the built ufmt_lines as a shell would, and compares its status, standard output and standard
-error.
-
-The program is crates/ufmt_lines/out/ufmt_lines, which `rt ci` and, in crates/ufmt_lines, `rt run` leave there. It needs Python 3.9
-and Linux. It runs from anywhere, works in a temporary folder, prints a line for each case that ends wrongly, and last 'N cases, M
-faults'. Its status is 0 if there was no fault.
-"""
+"""Runs the built ufmt_lines as a shell would, and compares its status, standard output and standard error."""
 import os
 import pathlib
 import subprocess
-import sys
 
-sys.dont_write_bytecode = True
-TOP = pathlib.Path(__file__).resolve().parent.parent
-
-from lib.programs.cases import CLOSED, FOLDER, Cases, texts  # noqa: E402
+from lib.programs.cases import CLOSED, FOLDER, Cases, texts
 
 USAGE = "usage: ufmt_lines [--plain | --help | --version]"
 VERSION = b"ufmt_lines 0.3.0\n"
@@ -155,13 +144,9 @@ def many_lines(cases):
     cases.judge("--plain: 100,000 groups in 6 MiB", cases.run("--plain", text=pretty, limit=6 * 1024), 0, plain)
 
 
-def main(program=TOP / "crates/ufmt_lines/out/ufmt_lines"):
+def main(program):
     cases = Cases(program)
     for part in (conversions, slow_producer, helps, arguments, inputs, outputs, errors, readers_go_away, slow_reader_goes_away, too_long_a_line,
                  many_lines):
         part(cases)
     return cases.end()
-
-
-if __name__ == "__main__":
-    sys.exit(main(*sys.argv[1:]))

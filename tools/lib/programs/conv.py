@@ -1,19 +1,8 @@
-#!/usr/bin/env python3
-"""tools/try-program [PROGRAM]: runs the built ufmt_conv as a shell would, and compares its status, standard output and standard
-error.
-
-The program is crates/ufmt_conv/out/ufmt_conv, which `rt ci` and, in crates/ufmt_conv, `rt run` leave there. It needs Python 3.9
-and Linux. It runs from anywhere, works in a temporary folder, prints a line for each case that ends wrongly, and last 'N cases, M
-faults'. Its status is 0 if there was no fault.
-"""
+"""Runs the built ufmt_conv as a shell would, and compares its status, standard output and standard error."""
 import os
 import pathlib
-import sys
 
-sys.dont_write_bytecode = True
-TOP = pathlib.Path(__file__).resolve().parent.parent
-
-from lib.programs.cases import CLOSED, FOLDER, Cases, texts  # noqa: E402
+from lib.programs.cases import CLOSED, FOLDER, Cases, texts
 
 USAGE = "usage: ufmt_conv lengths|pretty|plain"
 NO_TEXT = {"pretty": "ufmt_conv: not a plain text", "plain": "ufmt_conv: not a pretty text"}
@@ -110,13 +99,9 @@ def too_many_arguments(cases):
     cases.judge("1.5 MiB of arguments in 64 MiB", cases.run(*words, text=PLAIN, limit=64 * 1024), 2, b"", USAGE)
 
 
-def main(program=TOP / "crates/ufmt_conv/out/ufmt_conv"):
+def main(program):
     cases = Cases(program)
     for part in (conversions, other_texts, arguments, inputs, outputs, errors, open_input, reader_goes_away, large_inputs,
                  too_little_memory, too_many_arguments):
         part(cases)
     return cases.end()
-
-
-if __name__ == "__main__":
-    sys.exit(main(*sys.argv[1:]))

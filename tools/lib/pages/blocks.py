@@ -1,16 +1,13 @@
-#!/usr/bin/env python3
-"""tools/compare-pages: compares the code blocks of the pages with the files that they are from.
+"""Compares the code blocks of the pages with the files that they are from.
 
 Before each block stands a comment. `<!-- PATH -->` says that the block's lines are in a row in that file of the
 repository, which the gate proves. `<!-- form -->` says that the block is a shape to fill in, a list of signatures, a
-command or an example that is refused. It prints a line for each fault and last a line of counts. Its status is 0 if
-there was no fault.
+command or an example that is refused.
 """
 import pathlib
 import re
-import sys
 
-TOP = pathlib.Path(__file__).resolve().parent.parent
+TOP = pathlib.Path(__file__).resolve().parents[3]
 COMMENT = re.compile(r"<!-- (\S+) -->")
 
 
@@ -54,7 +51,7 @@ def fault(name, block):
     return None
 
 
-def main():
+def main(_arguments):
     compared, forms, faults = 0, 0, 0
     for page in pages():
         for number, name, block in blocks(page.read_text().split("\n")):
@@ -68,7 +65,3 @@ def main():
                 compared += 1
     print("%d code blocks are as in their files, %d are forms, %d faults" % (compared, forms, faults))
     return 1 if faults else 0
-
-
-if __name__ == "__main__":
-    sys.exit(main())

@@ -1,24 +1,20 @@
-#!/usr/bin/env python3
-"""tools/check-definitions [--list]: compares "The definitions to trust" in docs/PROMISES.md with what its headline rests on.
+"""Compares "The definitions to trust" in docs/PROMISES.md with what its headline rests on.
 
 A promise names calls and definitions. It rests on each definition of specs/ in the clauses of these calls, on each that
 such a definition cites, and so on. The table of that section must list every one of the headline's, and nothing else of
 this repository. A row lists a file of specs/ whole, or `without` some of its definitions, or only those that it names.
 
-It prints a line for each fault: a name of the page that is nothing, a definition that isn't listed, one that is listed and not
-cited. The last line has counts. The status is 1 if there was a fault. With --list it first prints, for each table of promises, the
-definitions that these rest on beside the headline's, by file.
+A fault is a name of the page that is nothing, a definition that isn't listed, or one that is listed and not cited. `--list` first
+prints, for each table of promises, the definitions that these rest on beside the headline's, by file.
 """
 import pathlib
 import re
-import sys
 
-sys.dont_write_bytecode = True
 
 from lib.contracts.functions import functions_of
 from lib.memory_errors.source import end_of, name_at, tokens_of
 
-TOP = pathlib.Path(__file__).resolve().parent.parent
+TOP = pathlib.Path(__file__).resolve().parents[3]
 CRATES = TOP / "crates"
 PAGE = TOP / "docs" / "PROMISES.md"
 IMPORT = re.compile(r"^\s*(?:ghost |pub )?use Rattle\.(\w+)\.specs\.([\w.]+)\.\{([^}]*)\}", re.M)
@@ -274,15 +270,13 @@ def show_others(tree, text, headline):
         print("\n".join([title, *listed_by_file(keys - headline), ""]))
 
 
-def main():
-    if sys.argv[1:] not in ([], ["--list"]):
-        sys.exit("usage: tools/check-definitions [--list]")
+def main(arguments):
     tree = Tree()
     text = section("What is proved")
     text = text[: text.index("\n### What calls ask for")]
     whole, unknown = rests_on(tree, promises(text))
     part, _ = rests_on(tree, promises(text[text.index("\n### The headline") :]))
-    if sys.argv[1:]:
+    if arguments:
         show_others(tree, text, part)
     faults = ["there is no `%s`" % name for name in unknown]
     faults += list(faults_of(tree, part, beside_files(cells(section("The definitions to trust"))), "the headline"))
@@ -290,7 +284,3 @@ def main():
         print("fault: " + fault)
     print("%d definitions, %d of them of the headline, %d faults" % (len(whole), len(part), len(faults)))
     return 1 if faults else 0
-
-
-if __name__ == "__main__":
-    sys.exit(main())

@@ -1,22 +1,16 @@
-#!/usr/bin/env python3
-"""tools/try-install: installs the built programs in a temporary folder, runs them there, and compares their manual pages with them.
+"""Installs the built programs in a temporary folder, runs them there, and compares their manual pages with them.
 
 Each page has the options or commands that the program's own usage has, and no other; its version is the program's; and `man`, if
 there is one, formats it without a warning. Without built programs, tools/install must say so and copy nothing.
-
-It needs Python 3.9 and what `rt ci` builds. It prints a line for each fault, and last a line of counts. Its status is 0 if there
-was no fault.
 """
 import pathlib
 import re
 import shutil
-import sys
 import tempfile
 
-sys.dont_write_bytecode = True
-TOP = pathlib.Path(__file__).resolve().parent.parent
+from lib.programs.cases import run
 
-from lib.programs.cases import run  # noqa: E402
+TOP = pathlib.Path(__file__).resolve().parents[3]
 
 # The section of each program's page with its words, the word that shows a usage, and a run: arguments, input and output.
 PROGRAMS = {
@@ -72,7 +66,7 @@ def faults_without_programs(room):
 
 def main():
     faults = []
-    with tempfile.TemporaryDirectory(prefix="try-install-") as room:
+    with tempfile.TemporaryDirectory(prefix="try-programs-") as room:
         room = pathlib.Path(room)
         said = run([TOP / "tools" / "install", room / "prefix"])
         if said.status:
@@ -85,7 +79,3 @@ def main():
         print("fault: " + fault)
     print("%d programs installed, %d faults" % (len(PROGRAMS), len(faults)))
     return 1 if faults else 0
-
-
-if __name__ == "__main__":
-    sys.exit(main())

@@ -1,24 +1,19 @@
-#!/usr/bin/env python3
-"""tools/check-requires [--list]: compares "What calls ask for" in docs/PROMISES.md with each `requires` of a public function.
+"""Compares "What calls ask for" in docs/PROMISES.md with each `requires` of a public function.
 
 The functions, methods and methods of traits are those that another crate can call, of the libraries and of the modules
 `run` of the two programs. The table of that section names each one that asks for something, and says in its second column
 for what. A name is the last words of the function's path, as `Parser::is_named`, and may have stars.
 
-It prints a line for each fault, with its file and line: a function that asks for something and isn't in the table, and a
-name in the table that is of no function, or of one that asks for nothing. With `--list` it prints each function with what it
-asks for. The last line has the counts. Its status is 0 if there was no fault.
+A fault is a function that asks for something and isn't in the table, or a name in the table that is of no function, or of one
+that asks for nothing. `--list` prints each function with what it asks for.
 """
 import fnmatch
 import pathlib
 import re
-import sys
 
-sys.dont_write_bytecode = True
-TOP = pathlib.Path(__file__).resolve().parent.parent
+from lib.contracts.functions import Exports, functions_of
 
-from lib.contracts.functions import Exports, functions_of  # noqa: E402
-
+TOP = pathlib.Path(__file__).resolve().parents[3]
 PAGE = TOP / "docs" / "PROMISES.md"
 SECTION = "### What calls ask for"
 LIBRARIES = ("ufmt_core", "ufmt_grammar", "ufmt", "ufmt_scan", "ufmt_doc", "ufmt_parse", "ufmt_snapshot", "ufmt_io", "ufmt_c")
@@ -81,12 +76,10 @@ def faults_of(functions, table):
                 yield "%s: the table names %s, which asks for nothing: %s" % (row.where(), name, where(function))
 
 
-def main():
-    if sys.argv[1:] not in ([], ["--list"]):
-        sys.exit("usage: tools/check-requires [--list]")
+def main(arguments):
     functions, table = public_functions(), list(rows())
     asking = [(name, function) for name, function in functions if function.requires]
-    if sys.argv[1:]:
+    if arguments:
         for name, function in asking:
             print("%s: %s" % (name, ", ".join(function.requires)))
     faults = list(faults_of(functions, table))
@@ -95,7 +88,3 @@ def main():
     print("%d public functions, %d of them ask for something, %d names in the table, %d faults" % (
         len(functions), len(asking), len(table), len(faults)))
     return 1 if faults else 0
-
-
-if __name__ == "__main__":
-    sys.exit(main())
