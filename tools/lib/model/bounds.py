@@ -1,7 +1,7 @@
 """How much each call may take of steps, of time and of memory, by what a text has."""
 from typing import NamedTuple
 
-from lib.model.features import Features, indentation
+from lib.model.features import DEBUG_DOC, DOC, Features, indentation
 
 # Calls by the options of a request, on a buffer that is too small. They take no memory, and steps by the buffer, the
 # payload and the width that a column counts up to, whatever the options are.
@@ -128,12 +128,13 @@ def text(length, start=8):
     return Memory(1, 4 * (length + start), length.bit_length() + 2, 2 * (length + start), 2 * (length + start))
 
 
-def document(found, length):
-    """A document of a text of this length, and the stack on which it is made."""
+def document(found, length, size=DOC):
+    """A document of a text of this length, of values of this size, and the stack on which it is made."""
     strings = found.strings()
     count = strings + found.blocks + found.empties
-    made = length + found.entry_bytes + 224 + 4 * 56 * count
-    held = 2 * (found.text_bytes() + found.entry_bytes) + 56
+    entries = -(-found.entry_bytes * size // DOC)
+    made = length + entries + 4 * size * (count + 1)
+    held = 2 * (found.text_bytes() + entries) + size
     return Memory(strings + found.blocks + 1, made, count.bit_length() + 2, held, made)
 
 
@@ -164,14 +165,16 @@ def trees(blocks):
 
 def memory(call, case):
     found, length = case.features, case.length
+    # What is written again is read as a debug document in each class.
+    size = DEBUG_DOC if call.startswith("debug ") or call == "again" else DOC
     call = call.removeprefix("debug ")
     if call in REQUESTED or call in ("is_text", "convert into", "is_token", "is_debug", "print into", "print loose into", "same_text", "normalize", "parse i128", "parse char", "is_leaf", "is_word"):
         return NOTHING
     return {
-        "read": lambda: document(found, length),
+        "read": lambda: document(found, length, size),
         "convert": lambda: text(case.other, RESERVED),
         "convert to a String": lambda: text(case.other),
-        "again": lambda: document(found, length).dropped().then(text(length)),
+        "again": lambda: document(found, length, size).dropped().then(text(length)),
         "there and back": lambda: text(case.other, RESERVED).dropped().then(text(length, RESERVED)),
         "print": lambda: text(length),
         "unquoted": lambda: text(length),

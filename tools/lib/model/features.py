@@ -6,6 +6,8 @@ from lib.model.model import PIECE, STRUCTS, TOKEN
 
 # What an entry takes in memory besides its texts, a pair of a key and a value, and a field.
 DOC, PAIR, FIELD = 56, 112, 80
+# What a debug document takes in place of DOC: the name of a struct says whether it ends in dots.
+DEBUG_DOC = 64
 
 
 class Features(NamedTuple):
