@@ -7,10 +7,6 @@ use Rattle.ufmt_core.specs.Formatter.{Formatter, LaysOut, Prints, lays_out, prin
 use Rattle.ufmt_core.proofs.Writing.{Prints-fails, Prints-same, Prints-then_at, Writes-nothing}
 
 module _ {W : Type 0} {seen : Seen W} where
-  -- a text is laid out as its leaf
-  pub LaysOut-leaf : {old new : Formatter W} {text : List ℕ} {ok : Bool} → Prints seen old text ok new → LaysOut seen old (leaf text) ok new
-  LaysOut-leaf p = lays_out p
-
   -- the leaf of no text is laid out by no call
   pub LaysOut-nothing : (f : Formatter W) → LaysOut seen f (leaf []) true f
   LaysOut-nothing f = lays_out (record { wrote = Writes-nothing (writer_of f); same_setting = refl })

@@ -15,11 +15,6 @@ unfolding last_digits
 length-last_digits zero n = refl
 length-last_digits (suc count) n = omega (arith, length-append (last_digits count (n / 10)) (decimal_byte (n % 10) ∷ []), length-last_digits count (n / 10))
 
--- the last digit is the ones
-pub last_digits-one : (n : ℕ) → last_digits 1 (n % 10 ^ 1) ≡ decimal_byte (n % 10) ∷ []
-unfolding last_digits
-last_digits-one n = let ones : n % 10 ^ 1 % 10 ≡ n % 10 = omega arith in rw ones refl
-
 -- the last two digits are the tens and the ones
 pub last_digits-two : (n : ℕ) → n < 100 → last_digits 2 n ≡ decimal_byte (n / 10) ∷ decimal_byte (n % 10) ∷ []
 unfolding last_digits

@@ -1,5 +1,5 @@
 -- Texts and characters in quotes, as `{:?}` prints them; each character past ASCII prints as itself.
-use Rattle.std.specs.Prelude.{◌≡◌, ◌⊎◌, ℕ, ◌/◌, ◌%◌, ◌==◌, ◌||◌, nat_lt, cond, suc, is_none, List, [], ◌∷◌, ◌++◌, codes, true, Option, Some, None, unwrap_or, encode_utf8}
+use Rattle.std.specs.Prelude.{◌≡◌, ◌⊎◌, ℕ, ◌/◌, ◌%◌, ◌==◌, ◌||◌, nat_lt, if◌then◌else◌, suc, is_none, List, [], ◌∷◌, ◌++◌, codes, true, Option, Some, None, unwrap_or, encode_utf8}
 use Rattle.std.specs.Char.{IsScalar, digit_char}
 use Rattle.std.specs.Str.{all_scalars}
 use Rattle.ufmt_core.specs.Bytes.{apostrophe, backslash, carriage_return, delete, line_feed, nul, quotation_mark, space, tab}
@@ -9,18 +9,17 @@ IsQuote quote = (quote ≡ quotation_mark) ⊎ (quote ≡ apostrophe)
 
 -- a number below 256 in hexadecimal: in lower case and without leading zeros
 abbrev pub hex_digits : ℕ → List ℕ
-hex_digits c = cond (nat_lt c 16) (digit_char c ∷ []) (digit_char (c / 16) ∷ digit_char (c % 16) ∷ [])
+hex_digits c = if nat_lt c 16 then digit_char c ∷ [] else digit_char (c / 16) ∷ digit_char (c % 16) ∷ []
 
 -- the escape of a character between two of these quotes, by the first row that fits; None if it prints as itself
 abbrev pub escape : ℕ → ℕ → Option (List ℕ)
 escape quote c =
-    cond (c == nul) (Some (codes "\\0"))
-    (cond (c == tab) (Some (codes "\\t"))
-    (cond (c == line_feed) (Some (codes "\\n"))
-    (cond (c == carriage_return) (Some (codes "\\r"))
-    (cond (c == backslash || c == quote) (Some (backslash ∷ c ∷ []))
-    (cond (nat_lt c space || c == delete) (Some (codes "\\u{" ++ (hex_digits c ++ codes "}")))
-    None)))))
+    if c == nul then Some (codes "\\0") else
+    if c == tab then Some (codes "\\t") else
+    if c == line_feed then Some (codes "\\n") else
+    if c == carriage_return then Some (codes "\\r") else
+    if c == backslash || c == quote then Some (backslash ∷ c ∷ []) else
+    if nat_lt c space || c == delete then Some (codes "\\u{" ++ (hex_digits c ++ codes "}")) else None
 
 -- the text of a character between two of these quotes
 abbrev pub escaped : ℕ → ℕ → List ℕ
@@ -56,4 +55,4 @@ escaped_bytes quote (b ∷ bs) = escaped_byte quote b ++ escaped_bytes quote bs
 -- how many bytes at the front print as themselves in quotation marks
 abbrev pub unescaped_len : List ℕ → ℕ
 unescaped_len [] = 0
-unescaped_len (b ∷ bs) = cond (is_none (escape quotation_mark b)) (suc (unescaped_len bs)) 0
+unescaped_len (b ∷ bs) = if is_none (escape quotation_mark b) then suc (unescaped_len bs) else 0

@@ -1,5 +1,5 @@
 -- The names and leaves of each class of documents whose texts can be read again, and what may follow such a text.
-use Rattle.std.specs.Prelude.{◌≡◌, ◌≢◌, ◌⊎◌, ℕ, ◌&&◌, ◌||◌, ◌==◌, nat_le, nat_lt, not, cond, List, [], ◌∷◌, Bool, true, false, Option, Some, None, codes, ⊤}
+use Rattle.std.specs.Prelude.{◌≡◌, ◌≢◌, ◌⊎◌, ℕ, ◌&&◌, ◌||◌, ◌==◌, nat_le, nat_lt, not, if◌then◌else◌, List, [], ◌∷◌, Bool, true, false, Option, Some, None, codes, ⊤}
 use Rattle.std.specs.Str.{is_utf8}
 use Rattle.ufmt_core.specs.Bytes.{apostrophe, backslash, closing_brace, closing_bracket, closing_parenthesis, colon, comma, delete, hyphen, lower_a, lower_z, nine_digit, quotation_mark, space, underscore, upper_a, upper_z, zero_digit}
 use Rattle.ufmt_core.specs.Quoted.{IsQuoted}
@@ -70,7 +70,7 @@ is_debug_byte c = nat_le c 255 && not (is_control c || c == space || is_quote c 
 -- whether a byte of a word or a quote comes next, perhaps after colons. Then a colon before it belongs to the leaf
 abbrev pub leads_on : List ℕ → Bool
 leads_on [] = false
-leads_on (c ∷ t) = cond (c == colon) (leads_on t) (is_debug_byte c || is_quote c)
+leads_on (c ∷ t) = if c == colon then leads_on t else is_debug_byte c || is_quote c
 
 -- a place in a leaf: outside of quotes, between two of these quotes, or there after a backslash
 pub data Place : Type 0 where
@@ -80,9 +80,9 @@ pub data Place : Type 0 where
 
 -- the place after a byte of a leaf; None if the byte, with the rest of the text after it, doesn't belong to the leaf
 abbrev pub place_after : Place → ℕ → List ℕ → Option Place
-place_after outside c t = cond (is_debug_byte c || c == colon && leads_on t) (Some outside) (cond (is_quote c) (Some (between c)) None)
-place_after (between quote) c t = cond (is_control c) None (cond (c == quote) (Some outside) (cond (c == backslash) (Some (after_backslash quote)) (Some (between quote))))
-place_after (after_backslash quote) c t = cond (is_control c || nat_le 128 c) None (Some (between quote))
+place_after outside c t = if is_debug_byte c || c == colon && leads_on t then Some outside else if is_quote c then Some (between c) else None
+place_after (between quote) c t = if is_control c then None else if c == quote then Some outside else if c == backslash then Some (after_backslash quote) else Some (between quote)
+place_after (after_backslash quote) c t = if is_control c || nat_le 128 c then None else Some (between quote)
 
 -- these bytes are the rest of a leaf from this place on, and its quotes are closed
 abbrev pub EndsLeaf : Place → List ℕ → Type 0

@@ -1,5 +1,5 @@
 -- What readers are built of: parses, which read a value from the front of a text.
-use Rattle.std.specs.Prelude.{ℕ, cond, ◌==◌, List, [], ◌∷◌, Option, Some, None, option_map}
+use Rattle.std.specs.Prelude.{ℕ, if◌then◌else◌, ◌==◌, List, [], ◌∷◌, Option, Some, None, option_map}
 
 -- a parse reads a value from the front of a text and returns it with the rest of the text, or None
 abbrev pub Parse : Type 0 → Type 0
@@ -18,4 +18,4 @@ parse_map f o = option_map (λ x. (f x.0, x.1)) o
 abbrev pub strip : List ℕ → List ℕ → Option (List ℕ)
 strip [] t = Some t
 strip (c ∷ text) [] = None
-strip (c ∷ text) (b ∷ t) = cond (c == b) (strip text t) None
+strip (c ∷ text) (b ∷ t) = if c == b then strip text t else None

@@ -1,5 +1,5 @@
 -- What the readers of plain and of pretty texts compute: how a document of a class is read from the front of a text.
-use Rattle.std.specs.Prelude.{ℕ, zero, suc, length, ◌&&◌, not, cond, Bool, true, false, List, [], ◌∷◌, ◌++◌, codes, Option, Some, None, option_map, option_and_then}
+use Rattle.std.specs.Prelude.{ℕ, zero, suc, length, ◌&&◌, not, if◌then◌else◌, Bool, true, false, List, [], ◌∷◌, ◌++◌, codes, Option, Some, None, option_map, option_and_then}
 use Rattle.std.specs.Str.{is_utf8}
 use Rattle.ufmt_core.specs.Document.{Document, leaf, list_of, set_of, map_of, struct_of, non_exhaustive_of, tuple_of, no_documents, no_pairs, no_fields, documents, pairs_of, fields_of}
 use Rattle.ufmt_core.specs.Layout.{Frame, frame, tuple_kind, setting, inside, lead, ending, trail, next}
@@ -16,12 +16,12 @@ pub use Rattle.ufmt_grammar.specs.Parse.{Parse, choose, parse_map, strip}
 -- the word bytes at the front of a text
 abbrev pub word_of : List ℕ → List ℕ
 word_of [] = []
-word_of (c ∷ t) = cond (is_word_byte c) (c ∷ word_of t) []
+word_of (c ∷ t) = if is_word_byte c then c ∷ word_of t else []
 
 -- what follows the word bytes at the front
 abbrev pub after_word : List ℕ → List ℕ
 after_word [] = []
-after_word (c ∷ t) = cond (is_word_byte c) (after_word t) (c ∷ t)
+after_word (c ∷ t) = if is_word_byte c then after_word t else c ∷ t
 
 -- the bytes at the front that belong to a leaf of a debug document, from this place in it on
 abbrev pub leaf_from : Place → List ℕ → List ℕ
@@ -66,7 +66,7 @@ is_name Debug front = not (has_quote front)
 -- this name and what follows it; None if it is no name
 abbrev pub if_name : Class → List ℕ → List ℕ → Option (List ℕ × List ℕ)
 if_name class [] t = None
-if_name class (c ∷ front) t = cond (is_whole class (c ∷ front) && is_name class (c ∷ front)) (Some (c ∷ front, t)) None
+if_name class (c ∷ front) t = if is_whole class (c ∷ front) && is_name class (c ∷ front) then Some (c ∷ front, t) else None
 
 -- reads the longest name
 abbrev pub read_name : Class → Parse (List ℕ)
@@ -157,7 +157,7 @@ abbrev pub tuple_with : List ℕ → Rest Document → Document
 tuple_with name left = tuple_of name (documents left.0)
 
 abbrev pub struct_with : List ℕ → Rest (List ℕ × Document) → Document
-struct_with name left = cond left.1 (non_exhaustive_of name (fields_of left.0)) (struct_of name (fields_of left.0))
+struct_with name left = if left.1 then non_exhaustive_of name (fields_of left.0) else struct_of name (fields_of left.0)
 
 -- the dots in place of a field, in a line of their own in pretty mode
 abbrev pub dots_text : Mode → List ℕ
@@ -234,7 +234,7 @@ read_named class s p name t =
 -- reads a document that begins with this leaf, which may be its name, after the leaf
 abbrev pub read_after_front : Class → Setting → Parse Document → List ℕ → Parse Document
 read_after_front class s p front t =
-    cond (is_whole class front) (cond (is_name class front) (read_named class s p front t) (Some (leaf front, t))) None
+    if is_whole class front then (if is_name class front then read_named class s p front t else Some (leaf front, t)) else None
 
 -- reads the text `t`, which is the longest leaf at its front, or nothing, and then `u`
 abbrev pub read_by_front : Class → Setting → Parse Document → List ℕ → List ℕ → List ℕ → Option (Document × List ℕ)

@@ -1,5 +1,5 @@
 -- How a quoted leaf is read: a spelling is decoded to a byte, and it must be the only spelling of that byte.
-use Rattle.std.specs.Prelude.{ℕ, zero, suc, ◌+◌, ◌*◌, ◌==◌, ◌&&◌, Bool, cond, length, slice_index, List, [], ◌∷◌, Option, Some, None, option_and_then, option_map}
+use Rattle.std.specs.Prelude.{ℕ, zero, suc, ◌+◌, ◌*◌, ◌==◌, ◌&&◌, Bool, if◌then◌else◌, length, slice_index, List, [], ◌∷◌, Option, Some, None, option_and_then, option_map}
 use Rattle.std.specs.Char.{digit_value}
 use Rattle.std.specs.Option.{option_or}
 use Rattle.std.specs.Str.{chars, is_utf8}
@@ -9,16 +9,20 @@ use Rattle.ufmt_grammar.specs.Parse.{Parse, choose, parse_map, strip}
 
 -- the number in the braces of `\u{..}` at the front: it has one hexadecimal digit, or two
 abbrev pub decoded_number : List ℕ → ℕ
-decoded_number t = cond (slice_index t 4 == closing_brace) (digit_value (slice_index t 3)) (digit_value (slice_index t 3) * 16 + digit_value (slice_index t 4))
+decoded_number t = if slice_index t 4 == closing_brace then digit_value (slice_index t 3) else digit_value (slice_index t 3) * 16 + digit_value (slice_index t 4)
 
 -- the byte that an escape at the front, a backslash and `x`, is decoded to
 abbrev pub decoded_escape : List ℕ → ℕ → ℕ
-decoded_escape t x = cond (x == zero_digit) nul (cond (x == lower_t) tab (cond (x == lower_n) line_feed (cond (x == lower_r) carriage_return
-    (cond (x == lower_u) (decoded_number t) x))))
+decoded_escape t x =
+    if x == zero_digit then nul else
+    if x == lower_t then tab else
+    if x == lower_n then line_feed else
+    if x == lower_r then carriage_return else
+    if x == lower_u then decoded_number t else x
 
 -- the byte that the front of the text is decoded to: an escape's byte, or the first byte itself
 abbrev pub decoded : List ℕ → ℕ
-decoded t = cond (slice_index t 0 == backslash) (decoded_escape t (slice_index t 1)) (slice_index t 0)
+decoded t = if slice_index t 0 == backslash then decoded_escape t (slice_index t 1) else slice_index t 0
 
 -- reads a byte between two of these quotes; it must be spelled as `escaped_byte` spells it
 abbrev pub read_escaped : ℕ → Parse ℕ
@@ -32,7 +36,7 @@ read_inside quote (suc n) t = choose (strip (quote ∷ []) t) (λ u. Some ([], u
 
 -- these bytes in quotes, if they pass the test
 abbrev pub if_right : (List ℕ → Bool) → ℕ → List ℕ → List ℕ → Option (List ℕ × List ℕ)
-if_right test quote bs u = cond (test bs) (Some (quoted quote (chars bs), u)) None
+if_right test quote bs u = if test bs then Some (quoted quote (chars bs), u) else None
 
 -- reads bytes that pass the test, between two of these quotes
 abbrev pub read_between : ℕ → (List ℕ → Bool) → Parse (List ℕ)
