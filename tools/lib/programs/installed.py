@@ -1,16 +1,12 @@
-"""Installs the built programs in a temporary folder, runs them there, and compares their manual pages with them.
+"""Runs the installed programs, and compares their manual pages with them.
 
 Each page has the options or commands that the program's own usage has, and no other; its version is the program's; and `man`, if
-there is one, formats it without a warning. Without built programs, tools/install must say so and copy nothing.
+there is one, formats it without a warning.
 """
-import pathlib
 import re
 import shutil
-import tempfile
 
 from lib.programs.cases import run
-
-TOP = pathlib.Path(__file__).resolve().parents[3]
 
 # The section of each program's page with its words, the word that shows a usage, and a run: arguments, input and output.
 PROGRAMS = {
@@ -50,32 +46,3 @@ def faults_of(prefix, name):
         formatted = run(["man", "--warnings", "-E", "UTF-8", "-l", "-Tutf8", page])
         if formatted.status or formatted.error or not formatted.output:
             yield "man says of the page of %s: %s" % (name, formatted.error.decode(errors="replace"))
-
-
-def faults_without_programs(room):
-    """A checkout in which nothing is built."""
-    bare = room / "bare"
-    shutil.copytree(TOP / "tools" / "data" / "man", bare / "tools" / "data" / "man")
-    shutil.copy(TOP / "tools" / "install", bare / "tools")
-    said = run([bare / "tools" / "install", room / "nothing"])
-    if said.status != 1 or b"isn't built" not in said.error or (room / "nothing").exists():
-        yield "without built programs, tools/install ends with %d: %s" % (said.status, said.error)
-    if run([bare / "tools" / "install"]).status != 2:
-        yield "without a prefix, tools/install doesn't end with 2"
-
-
-def main():
-    faults = []
-    with tempfile.TemporaryDirectory(prefix="try-programs-") as room:
-        room = pathlib.Path(room)
-        said = run([TOP / "tools" / "install", room / "prefix"])
-        if said.status:
-            faults.append("tools/install: " + said.error.decode(errors="replace").strip())
-        else:
-            for name in PROGRAMS:
-                faults += faults_of(room / "prefix", name)
-        faults += faults_without_programs(room)
-    for fault in faults:
-        print("fault: " + fault)
-    print("%d programs installed, %d faults" % (len(PROGRAMS), len(faults)))
-    return 1 if faults else 0

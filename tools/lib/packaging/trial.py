@@ -1,0 +1,159 @@
+"""Installs what tools/build leaves, as a packager would, and builds callers over it.
+
+The programs are those in out/ of their crates, which `rt ci` built; the archive is built here with nothing proved. They are installed
+into a prefix with a space in its name. There the programs run, their manual pages are compared with them, and the callers of
+crates/ufmt_c/examples are built: convert.c by pkg-config, with the archive and with the shared library, and convert.rs by cargo with
+build.rs. Then the ways in which an installation goes wrong are tried. What the machine hasn't is left out and said.
+"""
+import os
+import pathlib
+import shlex
+import shutil
+import stat
+import tempfile
+
+from lib.c import archive
+from lib.packaging import folder
+from lib.programs import installed
+from lib.programs.cases import run
+
+TOP = folder.TOP
+INSTALL = TOP / "tools" / "install"
+EXAMPLES = folder.CRATE / "examples"
+WARNINGS = ["-std=c99", "-Wall", "-Wextra", "-Wpedantic", "-Werror"]
+TEXT, OUTPUT = "[Pair { x: 1, y: -2 }]", b"[\n    Pair {\n        x: 1,\n        y: -2,\n    },\n]\n"
+CARGO = '[package]\nname = "convert"\nversion = "0.1.0"\nedition = "2024"\n'
+# Each file below the prefix, and its mode.
+FILES = {
+    "bin/ufmt_conv": 0o755, "bin/ufmt_lines": 0o755,
+    "include/ufmt.h": 0o644,
+    "lib/libufmt_c.a": 0o644, "lib/libufmt_c.so": None, "lib/libufmt_c.so.0.3": None, "lib/libufmt_c.so.0.3.0": 0o755,
+    "lib/pkgconfig/ufmt_c.pc": 0o644,
+    "share/doc/ufmt/BUILD": 0o644, "share/doc/ufmt/FILES": 0o644,
+    "share/doc/ufmt/LICENSE-APACHE": 0o644, "share/doc/ufmt/LICENSE-MIT": 0o644,
+    "share/man/man1/ufmt_conv.1": 0o644, "share/man/man1/ufmt_lines.1": 0o644,
+}
+
+
+class Trial:
+    def __init__(self, room):
+        self.room, self.faults = room, []
+        self.built = room / "built"
+        self.prefix = room / "a prefix"
+
+    def expect(self, what, said, status, output=None):
+        """A command must end so. Returns whether it did."""
+        is_right = said.status == status and output in (None, said.output)
+        if not is_right:
+            self.faults.append("%s ends with %d: %s" % (what, said.status, (said.output + said.error).decode(errors="replace")[-600:]))
+        return is_right
+
+    def install(self, *words, **variables):
+        return run(["env", *("%s=%s" % it for it in variables.items()), INSTALL, *words])
+
+    def compare_files(self, prefix):
+        found = {str(path.relative_to(prefix)): None if path.is_symlink() else stat.S_IMODE(path.stat().st_mode)
+                 for path in sorted(prefix.rglob("*")) if path.is_symlink() or path.is_file()}
+        for file in sorted({*FILES, *found}):
+            if file not in found or file not in FILES or found[file] != FILES[file]:
+                self.faults.append("%s of the prefix: %s, and wanted %s" % (file, found.get(file, "missing"), FILES.get(file, "none")))
+
+    def pkg_config(self, *words):
+        said = run(["env", "PKG_CONFIG_PATH=%s" % (self.prefix / "lib" / "pkgconfig"), "pkg-config", *words, "ufmt_c"])
+        self.expect("pkg-config " + " ".join(words), said, 0)
+        return shlex.split(said.output.decode())
+
+    def build_from_c(self):
+        """convert.c, by the words of the page, with the shared library and with the archive."""
+        words = self.pkg_config("--cflags", "--libs")
+        if self.pkg_config("--variable=proved") != ["no"] or self.pkg_config("--modversion") != [folder.version()]:
+            self.faults.append("ufmt_c.pc doesn't say how and of which version it was built")
+        made = self.room / "convert_c"
+        libraries = {"shared": words, "static": [word.replace("-lufmt_c", "-l:libufmt_c.a") for word in words]}
+        for name, flags in libraries.items():
+            said = run(["gcc", *WARNINGS, EXAMPLES / "convert.c", *flags, "-o", made])
+            where = ["env", "LD_LIBRARY_PATH=%s" % (self.prefix / "lib")] if name == "shared" else []
+            if self.expect("gcc, " + name, said, 0):
+                self.expect("convert.c, " + name, run([*where, made, TEXT]), 0, OUTPUT)
+
+    def build_by_cargo(self):
+        """convert.rs in a package of its own, with build.rs."""
+        package = self.room / "convert"
+        (package / "src").mkdir(parents=True)
+        (package / "Cargo.toml").write_text(CARGO)
+        shutil.copy(EXAMPLES / "build.rs", package)
+        shutil.copy(EXAMPLES / "convert.rs", package / "src" / "main.rs")
+        path = "PKG_CONFIG_PATH=%s" % (self.prefix / "lib" / "pkgconfig")
+        said = run(["env", path, "cargo", "build", "--offline", "--quiet", "--manifest-path", package / "Cargo.toml"])
+        if self.expect("cargo", said, 0):
+            self.expect("convert.rs", run([package / "target" / "debug" / "convert", TEXT]), 0, OUTPUT)
+
+    def build_callers(self):
+        missing = [tool for tool in ("pkg-config", "gcc") if not shutil.which(tool)]
+        if missing:
+            print("no %s: no caller is built over the installed library" % " and no ".join(missing))
+            return
+        self.build_from_c()
+        if shutil.which("cargo"):
+            self.build_by_cargo()
+        else:
+            print("no cargo: no package is built over the installed library")
+
+    def go_wrong(self):
+        """A link in the place of a file, a program that is missing, a folder that can't be written, wrong words."""
+        linked, other = self.room / "linked", self.room / "other"
+        other.write_text("mine")
+        (linked / "bin").mkdir(parents=True)
+        (linked / "bin" / "ufmt_conv").symlink_to(other)
+        self.expect("over a link", self.install(self.built, linked), 0)
+        if other.read_text() != "mine" or (linked / "bin" / "ufmt_conv").is_symlink():
+            self.faults.append("a link in the prefix is followed")
+        part = self.room / "part"
+        shutil.copytree(self.built, part, symlinks=True)
+        (part / "bin" / "ufmt_lines").unlink()
+        self.expect("without a program", self.install(part, self.room / "nothing"), 1)
+        self.expect("below a file", self.install(self.built, other / "prefix"), 1)
+        self.expect("with nothing installed", self.install("--uninstall", self.room / "nothing"), 1)
+        for words in ([], [self.built], [self.built, "a", "b"], ["--uninstall"]):
+            self.expect("tools/install %s" % words, self.install(*words), 2)
+        if (self.room / "nothing").exists():
+            self.faults.append("without a program, something is installed")
+        self.expect("--help", self.install("--help"), 0)
+
+    def remove(self):
+        """After --uninstall no file is left, and one that was not installed stays."""
+        own = self.prefix / "bin" / "own"
+        own.write_text("mine")
+        self.expect("--uninstall", self.install("--uninstall", self.prefix), 0)
+        left = [path for path in self.prefix.rglob("*") if not path.is_dir()]
+        if left != [own]:
+            self.faults.append("after --uninstall there are %s" % left)
+
+    def run(self, programs):
+        (self.room / "archive").mkdir()
+        folder.made(self.built, programs, archive.unproved(self.room / "archive"), False)
+        told = (self.built / "BUILD").read_bytes()
+        self.expect("tools/install", self.install(self.built, self.prefix), 0, told)
+        self.compare_files(self.prefix)
+        for name in installed.PROGRAMS:
+            self.faults += installed.faults_of(self.prefix, name)
+        self.build_callers()
+        self.expect("with DESTDIR", self.install(self.built, "/usr", DESTDIR=self.room / "destination"), 0, told)
+        self.compare_files(self.room / "destination" / "usr")
+        self.go_wrong()
+        self.remove()
+
+
+def main():
+    programs = [TOP / "crates" / name / "out" / name for name in folder.PROGRAMS]
+    missing = [path.name for path in programs if not os.access(path, os.X_OK)]
+    if missing:
+        print("fault: %s isn't built: run `rt ci` at the top, or `rt run` in its crate" % " and ".join(missing))
+        return 1
+    with tempfile.TemporaryDirectory(prefix="try-programs-") as room:
+        trial = Trial(pathlib.Path(room))
+        trial.run(programs)
+    for fault in trial.faults:
+        print("fault: " + fault)
+    print("%d files installed, %d faults" % (len(FILES), len(trial.faults)))
+    return 1 if trial.faults else 0
