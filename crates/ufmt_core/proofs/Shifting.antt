@@ -1,6 +1,7 @@
 -- Shifting moves a pretty text one depth in, so a document's shifted text is its pretty text.
 use Rattle.std.proofs.Common.{◌≡◌, ℕ, zero, suc, ◌+◌, ◌≤◌, ◌==◌, List, [], ◌∷◌, ◌++◌, map, Bool, true, false, codes, refl, sym, ap, ap₂, ◌∙◌, append_assoc, append-nil, ne_eqb, arith}
 use Rattle.std.specs.Prelude.{⊤}
+use Rattle.ufmt_core.specs.Bytes.{comma, line_feed}
 use Rattle.ufmt_core.specs.Document.{Document, leaf, joined, list_of, set_of, map_of, struct_of, non_exhaustive_of, tuple_of, pretty_part, Documents, no_documents, first_document, Pairs, no_pairs, first_pair, Fields, no_fields, first_field, nest, nest_all, nest_pairs, nest_fields}
 use Rattle.ufmt_core.specs.Layout.{Frame, frame, tuple_kind, setting, inside, entry_depth, indentation, later_lead, lead, ending, dots_ending, dotted_fields, next, framed_all, count_after, block_tail, block_text, layout, layouts, texts, pair_texts, field_texts, pretty_text}
 use Rattle.ufmt_core.specs.declared.layout.Mode.TheVariants.{Pretty}
@@ -81,7 +82,7 @@ shift-entry : (k : ℕ) (text lines end : List ℕ) →
     indentation k ++ (hanging k (shift (text ++ (codes ",\n" ++ lines))) ++ end) ≡ indentation (suc k)
     ++ (hanging (suc k) text ++ (codes ",\n" ++ (indentation k ++ (hanging k (shift lines) ++ end))))
 shift-entry k text lines end = rw (
-  shift_from-append true text 44 (10 ∷ lines),
+  shift_from-append true text comma (line_feed ∷ lines),
   hanging-append k (hanging 1 text) _,
   hanging-hanging k text,
   append_assoc (hanging (suc k) text) _ end,

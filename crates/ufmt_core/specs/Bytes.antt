@@ -22,6 +22,9 @@ quotation_mark = 34
 abbrev pub apostrophe : ℕ
 apostrophe = 39
 
+abbrev pub opening_parenthesis : ℕ
+opening_parenthesis = 40
+
 abbrev pub closing_parenthesis : ℕ
 closing_parenthesis = 41
 
@@ -45,6 +48,9 @@ upper_a = 65
 
 abbrev pub upper_z : ℕ
 upper_z = 90
+
+abbrev pub opening_bracket : ℕ
+opening_bracket = 91
 
 abbrev pub backslash : ℕ
 backslash = 92
@@ -72,6 +78,9 @@ lower_u = 117
 
 abbrev pub lower_z : ℕ
 lower_z = 122
+
+abbrev pub opening_brace : ℕ
+opening_brace = 123
 
 abbrev pub closing_brace : ℕ
 closing_brace = 125

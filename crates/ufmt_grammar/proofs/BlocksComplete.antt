@@ -1,6 +1,7 @@
 -- Reading a block in any frame is complete if reading its entries is complete.
 use Rattle.std.proofs.Common.{◌≡◌, refl, ap, sym, ℕ, zero, suc, ◌<◌, ◌≤◌, Bool, true, false, List, [], ◌∷◌, ◌++◌, length, Some, None, codes, append_assoc, arith, length-append}
 use Rattle.std.specs.Prelude.{⊤}
+use Rattle.ufmt_core.specs.Bytes.{comma}
 use Rattle.ufmt_core.specs.Document.{Document}
 use Rattle.ufmt_core.specs.Layout.{Frame, setting, inside, entry_depth, lead, ending, trail, next, block_tail}
 use Rattle.ufmt_core.specs.declared.layout.Mode.{Mode}
@@ -51,10 +52,10 @@ module _ (class : Class) where
 
   -- the lead of another entry may follow an entry
   entry_follows : (mode : Mode) (k : ℕ) (f : Frame) (count : Count) (u : List ℕ) → MayFollow class (trail mode ++ (lead f (setting mode k) (next count) ++ u))
-  entry_follows Plain k f Zero u = ender_follows class 44 _ refl
-  entry_follows Plain k f One u = ender_follows class 44 _ refl
-  entry_follows Plain k f Several u = ender_follows class 44 _ refl
-  entry_follows Pretty k f count u = ender_follows class 44 _ refl
+  entry_follows Plain k f Zero u = ender_follows class comma _ refl
+  entry_follows Plain k f One u = ender_follows class comma _ refl
+  entry_follows Plain k f Several u = ender_follows class comma _ refl
+  entry_follows Pretty k f count u = ender_follows class comma _ refl
 
   -- the rest of a block may follow an entry
   pub rest_follows : (f : Frame) (s : Setting) → Closes f s → (close : List ℕ) (b : Bool) (count : Count) (texts : List (List ℕ)) (u : List ℕ)

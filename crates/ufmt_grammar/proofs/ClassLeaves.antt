@@ -3,6 +3,7 @@ use Rattle.std.proofs.Common.{◌≡◌, ◌≢◌, ◌⊎◌, inl, inr, refl, a
 use Rattle.std.specs.Str.{is_utf8}
 use Rattle.std.proofs.lemmas.Str.{IsUtf8-from_ascii, is_utf8-from_IsUtf8}
 use Rattle.std.proofs.lemmas.Str.Ascii.{IsAscii-nil}
+use Rattle.ufmt_core.specs.Bytes.{apostrophe, closing_brace, colon, opening_brace, opening_bracket, opening_parenthesis, quotation_mark, space}
 use Rattle.ufmt_core.specs.Document.{Document, leaf}
 use Rattle.ufmt_core.specs.Layout.{inside, brace_space, new_line}
 use Rattle.ufmt_core.specs.Quoted.{IsQuoted, escaped_all}
@@ -35,9 +36,9 @@ token_begins text h = go h.shape
   where
     go : IsWord text ⊎ IsSymbol text → Begins text
     go (inl w) = word_begins text w
-    go (inr (inl e)) = record { first = 40; tail = codes ")"; is = e; no_ender = refl }
-    go (inr (inr (inl of_text))) = record { first = 34; tail = escaped_all 34 of_text.0 ++ (34 ∷ []); is = of_text.2; no_ender = refl }
-    go (inr (inr (inr of_char))) = record { first = 39; tail = escaped_all 39 (of_char.0 ∷ []) ++ (39 ∷ []); is = of_char.2; no_ender = refl }
+    go (inr (inl e)) = record { first = opening_parenthesis; tail = codes ")"; is = e; no_ender = refl }
+    go (inr (inr (inl of_text))) = record { first = quotation_mark; tail = escaped_all quotation_mark of_text.0 ++ (quotation_mark ∷ []); is = of_text.2; no_ender = refl }
+    go (inr (inr (inr of_char))) = record { first = apostrophe; tail = escaped_all apostrophe (of_char.0 ∷ []) ++ (apostrophe ∷ []); is = of_char.2; no_ender = refl }
 
 debug_begins : (text : List ℕ) → IsDebugText text → Begins text
 debug_begins [] h = absurd (h.some refl)
@@ -50,7 +51,7 @@ name_begins Debug w h = debug_begins w h.whole
 pub leaf_begins : (class : Class) (text : List ℕ) → IsLeaf class text → Begins text
 leaf_begins Token text h = token_begins text h
 leaf_begins Debug text (inl h) = debug_begins text h
-leaf_begins Debug text (inr e) = record { first = 40; tail = codes ")"; is = e; no_ender = refl }
+leaf_begins Debug text (inr e) = record { first = opening_parenthesis; tail = codes ")"; is = e; no_ender = refl }
 
 pub name_some : (class : Class) → IsName class [] → ⊥
 name_some Token h = h
@@ -72,11 +73,11 @@ ender_follows Token c (b ∷ u) h = inl (ender_closes c h)
 ender_follows Debug c [] h = h
 ender_follows Debug c (b ∷ u) h = inl h
 
-pub colon_follows : (class : Class) (u : List ℕ) → MayFollow class (58 ∷ 32 ∷ u)
+pub colon_follows : (class : Class) (u : List ℕ) → MayFollow class (colon ∷ space ∷ u)
 colon_follows Token u = inl refl
 colon_follows Debug u = inr (inl (refl, refl))
 
-pub brace_follows : (class : Class) (u : List ℕ) → MayFollow class (32 ∷ 125 ∷ u)
+pub brace_follows : (class : Class) (u : List ℕ) → MayFollow class (space ∷ closing_brace ∷ u)
 brace_follows Token u = inr (refl, refl)
 brace_follows Debug u = inr (inr (refl, refl))
 
@@ -85,26 +86,26 @@ nothing_follows Token = tt
 nothing_follows Debug = tt
 
 -- what may follow does not begin with the parenthesis of a tuple
-pub follower_no_tuple : (class : Class) (u w : List ℕ) → MayFollow class u → strip (40 ∷ w) u ≡ None
+pub follower_no_tuple : (class : Class) (u w : List ℕ) → MayFollow class u → strip (opening_parenthesis ∷ w) u ≡ None
 follower_no_tuple Token [] w h = refl
-follower_no_tuple Token (c ∷ []) w h = each_closer (λ c. strip (40 ∷ w) (c ∷ []) ≡ None) refl refl refl refl refl c h
-follower_no_tuple Token (c ∷ b ∷ u) w (inl h) = each_closer (λ c. strip (40 ∷ w) (c ∷ b ∷ u) ≡ None) refl refl refl refl refl c h
+follower_no_tuple Token (c ∷ []) w h = each_closer (λ c. strip (opening_parenthesis ∷ w) (c ∷ []) ≡ None) refl refl refl refl refl c h
+follower_no_tuple Token (c ∷ b ∷ u) w (inl h) = each_closer (λ c. strip (opening_parenthesis ∷ w) (c ∷ b ∷ u) ≡ None) refl refl refl refl refl c h
 follower_no_tuple Token (c ∷ b ∷ u) w (inr h) = rw h.0 refl
 follower_no_tuple Debug [] w h = refl
-follower_no_tuple Debug (c ∷ []) w h = each_ender (λ c. strip (40 ∷ w) (c ∷ []) ≡ None) refl refl refl refl c h
-follower_no_tuple Debug (c ∷ b ∷ u) w (inl h) = each_ender (λ c. strip (40 ∷ w) (c ∷ b ∷ u) ≡ None) refl refl refl refl c h
+follower_no_tuple Debug (c ∷ []) w h = each_ender (λ c. strip (opening_parenthesis ∷ w) (c ∷ []) ≡ None) refl refl refl refl c h
+follower_no_tuple Debug (c ∷ b ∷ u) w (inl h) = each_ender (λ c. strip (opening_parenthesis ∷ w) (c ∷ b ∷ u) ≡ None) refl refl refl refl c h
 follower_no_tuple Debug (c ∷ b ∷ u) w (inr (inl h)) = rw h.0 refl
 follower_no_tuple Debug (c ∷ b ∷ u) w (inr (inr h)) = rw h.0 refl
 
 -- what may follow does not begin with the space and the brace of a struct
-pub follower_no_struct : (class : Class) (u w : List ℕ) → MayFollow class u → strip (32 ∷ 123 ∷ w) u ≡ None
+pub follower_no_struct : (class : Class) (u w : List ℕ) → MayFollow class u → strip (space ∷ opening_brace ∷ w) u ≡ None
 follower_no_struct Token [] w h = refl
-follower_no_struct Token (c ∷ []) w h = each_closer (λ c. strip (32 ∷ 123 ∷ w) (c ∷ []) ≡ None) refl refl refl refl refl c h
-follower_no_struct Token (c ∷ b ∷ u) w (inl h) = each_closer (λ c. strip (32 ∷ 123 ∷ w) (c ∷ b ∷ u) ≡ None) refl refl refl refl refl c h
+follower_no_struct Token (c ∷ []) w h = each_closer (λ c. strip (space ∷ opening_brace ∷ w) (c ∷ []) ≡ None) refl refl refl refl refl c h
+follower_no_struct Token (c ∷ b ∷ u) w (inl h) = each_closer (λ c. strip (space ∷ opening_brace ∷ w) (c ∷ b ∷ u) ≡ None) refl refl refl refl refl c h
 follower_no_struct Token (c ∷ b ∷ u) w (inr h) = rw (h.0, h.1) refl
 follower_no_struct Debug [] w h = refl
-follower_no_struct Debug (c ∷ []) w h = each_ender (λ c. strip (32 ∷ 123 ∷ w) (c ∷ []) ≡ None) refl refl refl refl c h
-follower_no_struct Debug (c ∷ b ∷ u) w (inl h) = each_ender (λ c. strip (32 ∷ 123 ∷ w) (c ∷ b ∷ u) ≡ None) refl refl refl refl c h
+follower_no_struct Debug (c ∷ []) w h = each_ender (λ c. strip (space ∷ opening_brace ∷ w) (c ∷ []) ≡ None) refl refl refl refl c h
+follower_no_struct Debug (c ∷ b ∷ u) w (inl h) = each_ender (λ c. strip (space ∷ opening_brace ∷ w) (c ∷ b ∷ u) ≡ None) refl refl refl refl c h
 follower_no_struct Debug (c ∷ b ∷ u) w (inr (inl h)) = rw h.0 refl
 follower_no_struct Debug (c ∷ b ∷ u) w (inr (inr h)) = rw (h.0, h.1) refl
 
@@ -125,11 +126,11 @@ follower_ends_front Token u h = follower_stops u h
 follower_ends_front Debug u h = follower_stops_leaf u h
 
 -- an opening parenthesis and a space stop a name
-pub stops_at_parenthesis : (class : Class) (u : List ℕ) → Stops class (40 ∷ u)
+pub stops_at_parenthesis : (class : Class) (u : List ℕ) → Stops class (opening_parenthesis ∷ u)
 stops_at_parenthesis Token u = refl
 stops_at_parenthesis Debug u = refl
 
-pub stops_at_space : (class : Class) (u : List ℕ) → Stops class (32 ∷ u)
+pub stops_at_space : (class : Class) (u : List ℕ) → Stops class (space ∷ u)
 stops_at_space Token u = refl
 stops_at_space Debug u = refl
 
@@ -247,15 +248,15 @@ pub name_leads : (class : Class) (s : Setting) (p : Parse Document) (w t u : Lis
 name_leads class s p w t u h stops = ap (read_with class s p) (append_assoc w t u) ∙ at_name class s p w (t ++ u) h stops
 
 -- a text that begins with an opening bracket begins with no name
-pub at_bracket : (class : Class) (s : Setting) (p : Parse Document) (u : List ℕ) → read_with class s p (91 ∷ u) ≡ read_without_name class s p (91 ∷ u)
+pub at_bracket : (class : Class) (s : Setting) (p : Parse Document) (u : List ℕ) → read_with class s p (opening_bracket ∷ u) ≡ read_without_name class s p (opening_bracket ∷ u)
 at_bracket Token s p u = refl
 at_bracket Debug s p u = refl
 
-pub at_brace : (class : Class) (s : Setting) (p : Parse Document) (u : List ℕ) → read_with class s p (123 ∷ u) ≡ read_without_name class s p (123 ∷ u)
+pub at_brace : (class : Class) (s : Setting) (p : Parse Document) (u : List ℕ) → read_with class s p (opening_brace ∷ u) ≡ read_without_name class s p (opening_brace ∷ u)
 at_brace Token s p u = refl
 at_brace Debug s p u = refl
 
-pub at_parenthesis : (class : Class) (s : Setting) (p : Parse Document) (u : List ℕ) → read_with class s p (40 ∷ u) ≡ read_without_name class s p (40 ∷ u)
+pub at_parenthesis : (class : Class) (s : Setting) (p : Parse Document) (u : List ℕ) → read_with class s p (opening_parenthesis ∷ u) ≡ read_without_name class s p (opening_parenthesis ∷ u)
 at_parenthesis Token s p u = refl
 at_parenthesis Debug s p u = refl
 
@@ -311,7 +312,7 @@ leaf_complete Debug s p text u (inl h) follows = debug_complete s p text u h fol
 leaf_complete Debug s p text u (inr unit) follows = rw unit refl
 
 -- an opening parenthesis before an entry is not read as a symbol
-pub no_symbol : (class : Class) (t : List ℕ) → strip (codes ")") t ≡ None → read_symbol class (40 ∷ t) ≡ None
+pub no_symbol : (class : Class) (t : List ℕ) → strip (codes ")") t ≡ None → read_symbol class (opening_parenthesis ∷ t) ≡ None
 unfolding read_quoted
 no_symbol Token t h = rw h refl
 no_symbol Debug t h = rw h refl

@@ -7,6 +7,7 @@ use Rattle.std.proofs.lemmas.Bool.{agree_below_at}
 use Rattle.std.proofs.lemmas.Bool.Decides.{nat_tests}
 use Rattle.std.proofs.lemmas.Str.{IsUtf8-from_ascii, is_utf8-from_IsUtf8}
 use Rattle.std.proofs.lemmas.Str.Ascii.{IsAscii-cons, IsAscii-nil}
+use Rattle.ufmt_core.specs.Bytes.{apostrophe, backslash, closing_brace, opening_brace, quotation_mark}
 use Rattle.ufmt_core.specs.Quoted.{IsQuote, escaped_byte, escaped_bytes, hex_digits, quoted}
 use Rattle.ufmt_core.specs.Document.{Document, leaf, joined, list_of, set_of, map_of, struct_of, non_exhaustive_of, tuple_of, pretty_part, Documents, no_documents, first_document, Pairs, no_pairs, first_pair, Fields, no_fields, first_field}
 use Rattle.ufmt_grammar.specs.Token.{Token, Debug, IsWord, IsWordOrEmpty, OrEmpty, IsName, IsLeaf, IsBuilt, AreBuilt, PairsAreBuilt, FieldsAreBuilt}
@@ -73,24 +74,24 @@ module _ (q : ℕ) (quote : IsQuote q) where
   pub record StaysInside (b : ℕ) : Type 0 where
     pub no_control : is_control b ≡ false
     pub no_quote : (b == q) ≡ false
-    pub no_backslash : (b == 92) ≡ false
+    pub no_backslash : (b == backslash) ≡ false
 
   stays : (b : ℕ) (t : List ℕ) → StaysInside b → EndsLeaf (between q) t → EndsLeaf (between q) (b ∷ t)
   stays b t h rest = (between q, rw (h.no_control, h.no_quote, h.no_backslash) refl, rest)
 
   -- a backslash takes the next byte with it
-  escape_ends : (x : ℕ) (t : List ℕ) → (is_control x || nat_le 128 x) ≡ false → EndsLeaf (between q) t → EndsLeaf (between q) (92 ∷ x ∷ t)
+  escape_ends : (x : ℕ) (t : List ℕ) → (is_control x || nat_le 128 x) ≡ false → EndsLeaf (between q) t → EndsLeaf (between q) (backslash ∷ x ∷ t)
   escape_ends x t plain rest = (after_backslash q, go quote, (between q, rw plain refl, rest))
     where
-      go : IsQuote q → place_after (between q) 92 (x ∷ t) ≡ Some (after_backslash q)
+      go : IsQuote q → place_after (between q) backslash (x ∷ t) ≡ Some (after_backslash q)
       go (inl e) = rw e refl
       go (inr e) = rw e refl
 
   -- a property of each quote holds of this one
-  of_quote : (P : ℕ → Type 0) → P 34 → P 39 → P q
+  of_quote : (P : ℕ → Type 0) → P quotation_mark → P apostrophe → P q
   of_quote P mark apostrophe = elim quote [ inl e ↦ subst P (sym e) mark | inr e ↦ subst P (sym e) apostrophe ]
 
-  itself_plain : (b : ℕ) → (b ≡ 92) ⊎ (b ≡ q) → (is_control b || nat_le 128 b) ≡ false
+  itself_plain : (b : ℕ) → (b ≡ backslash) ⊎ (b ≡ q) → (is_control b || nat_le 128 b) ≡ false
   itself_plain b (inl e) = rw e refl
   itself_plain b (inr e) = rw e (of_quote (λ c. (is_control c || nat_le 128 c) ≡ false) refl refl)
 
@@ -106,14 +107,14 @@ module _ (q : ℕ) (quote : IsQuote q) where
   digits_stay b false t e low rest = rw e (stays (digit_char (b / 16)) (digit_char (b % 16) ∷ t) (digit_stays (b / 16) (omega arith))
       (stays (digit_char (b % 16)) t (digit_stays (b % 16) (omega arith)) rest))
 
-  brace_stays : (b : ℕ) → (b ≡ 123) ⊎ (b ≡ 125) → StaysInside b
-  brace_stays b (inl e) = rw e (record { no_control = refl; no_quote = of_quote (λ c. (123 == c) ≡ false) refl refl; no_backslash = refl })
-  brace_stays b (inr e) = rw e (record { no_control = refl; no_quote = of_quote (λ c. (125 == c) ≡ false) refl refl; no_backslash = refl })
+  brace_stays : (b : ℕ) → (b ≡ opening_brace) ⊎ (b ≡ closing_brace) → StaysInside b
+  brace_stays b (inl e) = rw e (record { no_control = refl; no_quote = of_quote (λ c. (opening_brace == c) ≡ false) refl refl; no_backslash = refl })
+  brace_stays b (inr e) = rw e (record { no_control = refl; no_quote = of_quote (λ c. (closing_brace == c) ≡ false) refl refl; no_backslash = refl })
 
-  plain_stays : (b : ℕ) → is_control b ≡ false → (b == 92 || b == q) ≡ false → StaysInside b
-  plain_stays b no_control itself = parts (b == 92) (b == q) refl refl itself
+  plain_stays : (b : ℕ) → is_control b ≡ false → (b == backslash || b == q) ≡ false → StaysInside b
+  plain_stays b no_control itself = parts (b == backslash) (b == q) refl refl itself
     where
-      parts : (backslash same : Bool) → (b == 92) ≡ backslash → (b == q) ≡ same → backslash || same ≡ false → StaysInside b
+      parts : (escapes same : Bool) → (b == backslash) ≡ escapes → (b == q) ≡ same → escapes || same ≡ false → StaysInside b
       parts true same e f h = absurd (cc)
       parts false true e f h = absurd (cc)
       parts false false e f h = record { no_control = no_control; no_quote = f; no_backslash = e }
@@ -123,8 +124,8 @@ module _ (q : ℕ) (quote : IsQuote q) where
   byte_inside b t rest =
       each_row q b (λ n e. EndsLeaf (between q) (e ++ t)) (escape_ends 48 t refl rest) (escape_ends 116 t refl rest)
       (escape_ends 110 t refl rest) (escape_ends 114 t refl rest) (λ itself. escape_ends b t (itself_plain b itself) rest)
-      (λ low. escape_ends 117 (123 ∷ ((hex_digits b ++ codes "}") ++ t)) refl (stays 123 ((hex_digits b ++ codes "}") ++ t) (brace_stays 123 (inl refl)) (rw (append_assoc (hex_digits b) (codes "}") t)
-      (digits_stay b (nat_lt b 16) (125 ∷ t) refl low (stays 125 t (brace_stays 125 (inr refl)) rest)))))
+      (λ low. escape_ends 117 (opening_brace ∷ ((hex_digits b ++ codes "}") ++ t)) refl (stays opening_brace ((hex_digits b ++ codes "}") ++ t) (brace_stays opening_brace (inl refl)) (rw (append_assoc (hex_digits b) (codes "}") t)
+      (digits_stay b (nat_lt b 16) (closing_brace ∷ t) refl low (stays closing_brace t (brace_stays closing_brace (inr refl)) rest)))))
       (λ no_control itself. stays b t (plain_stays b no_control itself) rest)
 
   bytes_inside : (bs : List ℕ) → EndsLeaf (between q) (escaped_bytes q bs ++ (q ∷ []))
@@ -150,8 +151,8 @@ leaf_is_debug text h = go h.shape
     go : IsWord text ⊎ IsSymbol text → IsLeaf Debug text
     go (inl w) = inl (word_is_text text w)
     go (inr (inl unit)) = inr unit
-    go (inr (inr (inl of_text))) = inl (subst IsDebugText (sym of_text.2) (quoted_is_text 34 (inl refl) of_text.0 of_text.1))
-    go (inr (inr (inr of_char))) = inl (subst IsDebugText (sym of_char.2) (quoted_is_text 39 (inr refl) (of_char.0 ∷ []) (rw of_char.1 refl)))
+    go (inr (inr (inl of_text))) = inl (subst IsDebugText (sym of_text.2) (quoted_is_text quotation_mark (inl refl) of_text.0 of_text.1))
+    go (inr (inr (inr of_char))) = inl (subst IsDebugText (sym of_char.2) (quoted_is_text apostrophe (inr refl) (of_char.0 ∷ []) (rw of_char.1 refl)))
 
 name_is_debug : (w : List ℕ) → OrEmpty (IsName Token) w → OrEmpty (IsName Debug) w
 name_is_debug [] h = tt

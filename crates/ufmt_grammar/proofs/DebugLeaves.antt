@@ -1,6 +1,7 @@
 -- Leaves of debug documents: what follows a leaf doesn't change where it ends, and only leaves are found at the front of a text.
 use Rattle.std.proofs.Common.{◌≡◌, inl, inr, refl, ap, sym, subst, ◌∙◌, ℕ, ◌==◌, ◌||◌, ◌&&◌, Bool, true, false, cond, List, [], ◌∷◌, ◌++◌, Option, Some, None, eqb-true}
 use Rattle.std.specs.Prelude.{⊤}
+use Rattle.ufmt_core.specs.Bytes.{colon}
 use Rattle.ufmt_grammar.specs.Leaves.{is_quote, is_ender, is_debug_byte, leads_on, Place, outside, between, after_backslash, place_after, EndsLeaf, IsDebugFollower}
 use Rattle.ufmt_grammar.specs.Parse.{choose}
 use Rattle.ufmt_grammar.specs.Reading.{leaf_from, after_leaf, last_place, is_outside}
@@ -21,7 +22,7 @@ follower_stops_leaf (c ∷ b ∷ u) (inr (inr h)) = rw h.0 refl
 -- no colon before a text that begins with no byte of a leaf belongs to a leaf
 stops_colons : (u : List ℕ) → StopsLeaf u → leads_on u ≡ false
 stops_colons [] h = refl
-stops_colons (c ∷ u) h = go (is_debug_byte c) (c == 58) (leads_on u) (is_quote c) h
+stops_colons (c ∷ u) h = go (is_debug_byte c) (c == colon) (leads_on u) (is_quote c) h
   where
     go : (word colon on quote : Bool) → cond (word || colon && on) (Some outside) (cond quote (Some (between c)) None) ≡ None
         → cond colon on (word || quote) ≡ false
@@ -33,11 +34,11 @@ stops_colons (c ∷ u) h = go (is_debug_byte c) (c == 58) (leads_on u) (is_quote
 
 leads_on-append : (t u : List ℕ) → StopsLeaf u → leads_on (t ++ u) ≡ leads_on t
 leads_on-append [] u h = stops_colons u h
-leads_on-append (c ∷ t) u h = ap (λ on. cond (c == 58) on (is_debug_byte c || is_quote c)) (leads_on-append t u h)
+leads_on-append (c ∷ t) u h = ap (λ on. cond (c == colon) on (is_debug_byte c || is_quote c)) (leads_on-append t u h)
 
 place_after-append : (place : Place) (c : ℕ) (t u : List ℕ) → StopsLeaf u → place_after place c (t ++ u) ≡ place_after place c t
 place_after-append outside c t u h =
-    ap (λ on. cond (is_debug_byte c || c == 58 && on) (Some outside) (cond (is_quote c) (Some (between c)) None)) (leads_on-append t u h)
+    ap (λ on. cond (is_debug_byte c || c == colon && on) (Some outside) (cond (is_quote c) (Some (between c)) None)) (leads_on-append t u h)
 place_after-append (between quote) c t u h = refl
 place_after-append (after_backslash quote) c t u h = refl
 
@@ -72,21 +73,21 @@ last_is_outside place (c ∷ w) h = rw h.1 (last_is_outside h.0 w h.2)
 -- whether colons belong is known from the leaf's own bytes
 leads_on-leaf_from : (t : List ℕ) → leads_on (leaf_from outside t) ≡ leads_on t
 leads_on-leaf_from [] = refl
-leads_on-leaf_from (c ∷ t) = at_colon (c == 58) refl (leads_on-leaf_from t)
+leads_on-leaf_from (c ∷ t) = at_colon (c == colon) refl (leads_on-leaf_from t)
   where
     after_colon : (on : Bool) → leads_on (leaf_from outside t) ≡ on
-        → leads_on (choose (cond on (Some outside) None) (λ next. 58 ∷ leaf_from next t) []) ≡ on
+        → leads_on (choose (cond on (Some outside) None) (λ next. colon ∷ leaf_from next t) []) ≡ on
     after_colon true e = e
     after_colon false e = refl
 
-    no_colon : (word quote : Bool) → (c == 58) ≡ false → is_debug_byte c ≡ word → is_quote c ≡ quote → leads_on (leaf_from outside (c ∷ t)) ≡ leads_on (c ∷ t)
+    no_colon : (word quote : Bool) → (c == colon) ≡ false → is_debug_byte c ≡ word → is_quote c ≡ quote → leads_on (leaf_from outside (c ∷ t)) ≡ leads_on (c ∷ t)
     no_colon true quote e f g = rw f (rw f (rw e refl))
     no_colon false true e f g = rw (f, e, g) (rw f (rw (e, g) refl))
     no_colon false false e f g = rw (f, e, g) refl
 
-    at_colon : (colon : Bool) → (c == 58) ≡ colon → leads_on (leaf_from outside t) ≡ leads_on t
+    at_colon : (same : Bool) → (c == colon) ≡ same → leads_on (leaf_from outside t) ≡ leads_on t
         → leads_on (leaf_from outside (c ∷ t)) ≡ leads_on (c ∷ t)
-    at_colon true e more = let is = eqb-true c 58 e in rw is (after_colon (leads_on t) more)
+    at_colon true e more = let is = eqb-true c colon e in rw is (after_colon (leads_on t) more)
     at_colon false e more = no_colon (is_debug_byte c) (is_quote c) e refl refl
 
 without_colon : (colon word on other : Bool) → colon ≡ false → word || colon && on ≡ word || colon && other
@@ -94,21 +95,21 @@ without_colon colon word on other e = rw e refl
 
 -- a byte that belongs to the leaf at the front belongs to it without what follows the leaf
 pub kept_alone : (place : Place) (c : ℕ) (t : List ℕ) (next : Place) → place_after place c t ≡ Some next → place_after place c (leaf_from next t) ≡ Some next
-kept_alone outside c t next h = at_colon (c == 58) refl
+kept_alone outside c t next h = at_colon (c == colon) refl
   where
-    after_colon : (on : Bool) → leads_on t ≡ on → cond on (Some outside) None ≡ Some next → place_after outside 58 (leaf_from next t) ≡ Some next
+    after_colon : (on : Bool) → leads_on t ≡ on → cond on (Some outside) None ≡ Some next → place_after outside colon (leaf_from next t) ≡ Some next
     after_colon true e f =
         let is : outside ≡ next = cc in
         rw (← is, leads_on-leaf_from t, e) refl
     after_colon false e f = absurd (cc)
 
-    at_colon : (colon : Bool) → (c == 58) ≡ colon → place_after outside c (leaf_from next t) ≡ Some next
+    at_colon : (same : Bool) → (c == colon) ≡ same → place_after outside c (leaf_from next t) ≡ Some next
     at_colon true e =
-        let is = eqb-true c 58 e in
+        let is = eqb-true c colon e in
         rw is (after_colon (leads_on t) refl (subst (λ b. place_after outside b t ≡ Some next) is h))
     at_colon false e =
         ap (λ b. cond b (Some outside) (cond (is_quote c) (Some (between c)) None))
-        (without_colon (c == 58) (is_debug_byte c) (leads_on (leaf_from next t)) (leads_on t) e) ∙ h
+        (without_colon (c == colon) (is_debug_byte c) (leads_on (leaf_from next t)) (leads_on t) e) ∙ h
 kept_alone (between quote) c t next h = h
 kept_alone (after_backslash quote) c t next h = h
 

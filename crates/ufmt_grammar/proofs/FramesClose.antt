@@ -1,6 +1,7 @@
 -- In each frame, the ending of a block differs from another entry, and an empty block from a block with entries.
 use Rattle.std.proofs.Common.{◌≡◌, ◌≢◌, refl, ap, sym, ◌∙◌, ℕ, zero, suc, ◌≤◌, ◌+◌, min, ◌==◌, Bool, true, false, List, [], ◌∷◌, ◌++◌, None, codes, eqb-true, arith}
 use Rattle.std.specs.Prelude.{⊤}
+use Rattle.ufmt_core.specs.Bytes.{closing_brace, closing_bracket, closing_parenthesis, colon, comma, line_feed, space}
 use Rattle.ufmt_core.specs.Layout.{frame, setting, inside, entry_depth, indentation, new_line, lead, ending, trail, next, block_tail}
 use Rattle.ufmt_core.specs.declared.layout.Mode.{Mode}
 use Rattle.ufmt_core.specs.declared.layout.Mode.TheVariants.{Plain, Pretty}
@@ -70,15 +71,15 @@ deeper (suc k) c w u e = deeper k c w u e
 plain_follows : (class : Class) (kind : Kind) (k : ℕ) (count : Count) (u : List ℕ)
     → MayFollow class (ending (frame Plain kind) (setting Plain k) (next count) ++ u)
 plain_follows class Brackets k count u = after_next (λ p. MayFollow class (ending (frame Plain Brackets) (setting Plain k) p ++ u))
-    (ender_follows class 93 u refl) (ender_follows class 93 u refl) count
+    (ender_follows class closing_bracket u refl) (ender_follows class closing_bracket u refl) count
 plain_follows class Braces k count u = after_next (λ p. MayFollow class (ending (frame Plain Braces) (setting Plain k) p ++ u))
-    (ender_follows class 125 u refl) (ender_follows class 125 u refl) count
+    (ender_follows class closing_brace u refl) (ender_follows class closing_brace u refl) count
 plain_follows class Struct k count u = after_next (λ p. MayFollow class (ending (frame Plain Struct) (setting Plain k) p ++ u))
     (brace_follows class u) (brace_follows class u) count
 plain_follows class Tuple k count u = after_next (λ p. MayFollow class (ending (frame Plain Tuple) (setting Plain k) p ++ u))
-    (ender_follows class 41 u refl) (ender_follows class 41 u refl) count
+    (ender_follows class closing_parenthesis u refl) (ender_follows class closing_parenthesis u refl) count
 plain_follows class Unnamed k count u = after_next (λ p. MayFollow class (ending (frame Plain Unnamed) (setting Plain k) p ++ u))
-    (ender_follows class 44 (41 ∷ u) refl) (ender_follows class 41 u refl) count
+    (ender_follows class comma (closing_parenthesis ∷ u) refl) (ender_follows class closing_parenthesis u refl) count
 
 -- the ending of a block with so many entries does not begin with the lead of another entry
 Differs : Mode → ℕ → Kind → List ℕ → Count → Type 0
@@ -100,16 +101,16 @@ end_differs c k u h e = let depth : min (k + 1) 255 ≡ suc k = omega arith in r
 -- in pretty mode, the ending of a block differs from another entry
 pretty_differs : (kind : Kind) (k : ℕ) (u : List ℕ) → k + 1 ≤ 255 → (count : Count) → Differs Pretty k kind u (next count)
 unfolding Differs
-pretty_differs Brackets k u h count = after_next (Differs Pretty k Brackets u) (end_differs 93 k u h refl) (end_differs 93 k u h refl) count
-pretty_differs Braces k u h count = after_next (Differs Pretty k Braces u) (end_differs 125 k u h refl) (end_differs 125 k u h refl) count
-pretty_differs Struct k u h count = after_next (Differs Pretty k Struct u) (end_differs 125 k u h refl) (end_differs 125 k u h refl) count
-pretty_differs Tuple k u h count = after_next (Differs Pretty k Tuple u) (end_differs 41 k u h refl) (end_differs 41 k u h refl) count
-pretty_differs Unnamed k u h count = after_next (Differs Pretty k Unnamed u) (end_differs 41 k u h refl) (end_differs 41 k u h refl) count
+pretty_differs Brackets k u h count = after_next (Differs Pretty k Brackets u) (end_differs closing_bracket k u h refl) (end_differs closing_bracket k u h refl) count
+pretty_differs Braces k u h count = after_next (Differs Pretty k Braces u) (end_differs closing_brace k u h refl) (end_differs closing_brace k u h refl) count
+pretty_differs Struct k u h count = after_next (Differs Pretty k Struct u) (end_differs closing_brace k u h refl) (end_differs closing_brace k u h refl) count
+pretty_differs Tuple k u h count = after_next (Differs Pretty k Tuple u) (end_differs closing_parenthesis k u h refl) (end_differs closing_parenthesis k u h refl) count
+pretty_differs Unnamed k u h count = after_next (Differs Pretty k Unnamed u) (end_differs closing_parenthesis k u h refl) (end_differs closing_parenthesis k u h refl) count
 
 closes_at : (class : Class) (mode : Mode) (k : ℕ) (kind : Kind) → FitsAt mode k 1 → Closes class (frame mode kind) (setting mode k)
 unfolding Differs
 closes_at class Plain k kind h = record { follows = plain_follows class kind k; differs = λ count u. plain_differs kind k u count }
-closes_at class Pretty k kind h = record { follows = λ count u. ender_follows class 44 _ refl; differs = λ count u. pretty_differs kind k u h count }
+closes_at class Pretty k kind h = record { follows = λ count u. ender_follows class comma _ refl; differs = λ count u. pretty_differs kind k u h count }
 
 pub closes : (class : Class) (s : Setting) (kind : Kind) → Fits s 1 → Closes class (frame s.mode kind) s
 closes class s kind h = closes_at class s.mode s.depth kind h
@@ -127,35 +128,35 @@ no_colon s texts u = no_colon_at s.mode s.depth texts u
 
 -- ---- structs that end in dots
 
-colon_no_space : (a b : List ℕ) → 58 ∷ a ≢ 32 ∷ b
+colon_no_space : (a b : List ℕ) → colon ∷ a ≢ space ∷ b
 colon_no_space a b = λ e. absurd (cc)
 
-colon_no_line_feed : (a b : List ℕ) → 58 ∷ a ≢ 10 ∷ b
+colon_no_line_feed : (a b : List ℕ) → colon ∷ a ≢ line_feed ∷ b
 colon_no_line_feed a b = λ e. absurd (cc)
 
 -- after a name, a colon and a space come, and no dots
-no_dots_at : (mode : Mode) (k : ℕ) (name v u : List ℕ) → IsName Debug name → name ++ (58 ∷ 32 ∷ v) ≢ last_dots (setting mode k) ++ u
+no_dots_at : (mode : Mode) (k : ℕ) (name v u : List ℕ) → IsName Debug name → name ++ (colon ∷ space ∷ v) ≢ last_dots (setting mode k) ++ u
 no_dots_at mode k name v u h = λ same. go mode (ap (after_front Debug) same)
   where
-    after : after_front Debug (name ++ (58 ∷ 32 ∷ v)) ≡ 58 ∷ 32 ∷ v
-    after = (name_fronts Debug name h).after (58 ∷ 32 ∷ v) (follower_ends_front Debug (58 ∷ 32 ∷ v) (colon_follows Debug v))
+    after : after_front Debug (name ++ (colon ∷ space ∷ v)) ≡ colon ∷ space ∷ v
+    after = (name_fronts Debug name h).after (colon ∷ space ∷ v) (follower_ends_front Debug (colon ∷ space ∷ v) (colon_follows Debug v))
 
-    go : (mode : Mode) → after_front Debug (name ++ (58 ∷ 32 ∷ v)) ≡ after_front Debug (last_dots (setting mode k) ++ u) → ⊥
-    go Plain other = colon_no_space (32 ∷ v) (125 ∷ u) (sym after ∙ other)
-    go Pretty other = colon_no_line_feed (32 ∷ v) _ (sym after ∙ other)
+    go : (mode : Mode) → after_front Debug (name ++ (colon ∷ space ∷ v)) ≡ after_front Debug (last_dots (setting mode k) ++ u) → ⊥
+    go Plain other = colon_no_space (space ∷ v) (closing_brace ∷ u) (sym after ∙ other)
+    go Pretty other = colon_no_line_feed (space ∷ v) _ (sym after ∙ other)
 
 -- no field begins with dots
-pub name_no_dots : (class : Class) (s : Setting) (name v : List ℕ) → IsName class name → strip_dots class s (name ++ (58 ∷ 32 ∷ v)) ≡ None
+pub name_no_dots : (class : Class) (s : Setting) (name v : List ℕ) → IsName class name → strip_dots class s (name ++ (colon ∷ space ∷ v)) ≡ None
 name_no_dots Token s name v h = refl
-name_no_dots Debug s name v h = strip_of_none (last_dots s) (name ++ (58 ∷ 32 ∷ v)) (λ u. no_dots_at s.mode s.depth name v u h)
+name_no_dots Debug s name v h = strip_of_none (last_dots s) (name ++ (colon ∷ space ∷ v)) (λ u. no_dots_at s.mode s.depth name v u h)
 
 -- a struct with fields has not only dots
 pub field_no_only_dots : (class : Class) (s : Setting) (name v : List ℕ) → IsName class name
-    → strip_only_dots class (lead (frame s.mode Struct) (inside s) Zero ++ (name ++ (58 ∷ 32 ∷ v))) ≡ None
+    → strip_only_dots class (lead (frame s.mode Struct) (inside s) Zero ++ (name ++ (colon ∷ space ∷ v))) ≡ None
 field_no_only_dots Token s name v h = refl
 field_no_only_dots Debug s name v h = go s.mode
   where
-    go : (mode : Mode) → strip (codes " { .. }") (lead (frame mode Struct) (inside (setting mode s.depth)) Zero ++ (name ++ (58 ∷ 32 ∷ v))) ≡ None
+    go : (mode : Mode) → strip (codes " { .. }") (lead (frame mode Struct) (inside (setting mode s.depth)) Zero ++ (name ++ (colon ∷ space ∷ v))) ≡ None
     go Plain = name_no_dots Debug (setting Plain 0) name v h
     go Pretty = refl
 

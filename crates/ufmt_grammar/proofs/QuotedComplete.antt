@@ -3,6 +3,7 @@ use Rattle.std.proofs.Common.{◌≡◌, inl, inr, refl, sym, ap, ◌∙◌, ℕ
 use Rattle.std.specs.Char.{IsScalar}
 use Rattle.std.specs.Str.{all_scalars, chars, encode_utf8_all, is_utf8}
 use Rattle.std.proofs.lemmas.Str.{chars-encodes, is_utf8-from_IsUtf8}
+use Rattle.ufmt_core.specs.Bytes.{apostrophe, backslash, quotation_mark}
 use Rattle.ufmt_core.specs.Quoted.{IsQuote, IsQuoted, escaped_byte, escaped_bytes, quoted}
 use Rattle.ufmt_core.proofs.QuotedCharacters.{escaped_all-bytes}
 use Rattle.ufmt_grammar.specs.Reading.{strip}
@@ -17,11 +18,11 @@ quote_ascii q (inr e) = omega (arith, e)
 pub read_escaped-complete : (q b : ℕ) (t : List ℕ) → IsQuote q → read_escaped q (escaped_byte q b ++ t) ≡ Some (b, t)
 read_escaped-complete q b t quote = rw (decoded-escaped q b t quote, strip_joined (escaped_byte q b) t) refl
 
-no_quote : (q : ℕ) → IsQuote q → (t u : List ℕ) → 92 ∷ t ≡ q ∷ u → ⊥
+no_quote : (q : ℕ) → IsQuote q → (t u : List ℕ) → backslash ∷ t ≡ q ∷ u → ⊥
 no_quote q (inl e) t u same = omega (arith, e, ap (λ (x : List ℕ). get_or x 0 0) same)
 no_quote q (inr e) t u same = omega (arith, e, ap (λ (x : List ℕ). get_or x 0 0) same)
 
-plain_no_quote : (q b : ℕ) → (b == 92 || b == q) ≡ false → (t u : List ℕ) → b ∷ t ≡ q ∷ u → ⊥
+plain_no_quote : (q b : ℕ) → (b == backslash || b == q) ≡ false → (t u : List ℕ) → b ∷ t ≡ q ∷ u → ⊥
 plain_no_quote q b plain t u same =
     let is : b ≡ q = ap (λ (x : List ℕ). get_or x 0 0) same in
     let other : (b == q) ≡ false = sym (ap (λ x. x || b == q) (no_backslash q b plain)) ∙ plain in
@@ -86,6 +87,6 @@ one_char c scalar = rw (utf8_encodes (c ∷ []) (one_scalar c scalar), chars-enc
 
 pub read_quoted-complete : (text u : List ℕ) → IsQuoted text → read_quoted (text ++ u) ≡ Some (text, u)
 unfolding read_quoted
-read_quoted-complete text u (inl of_text) = rw (of_text.2, read_characters 34 is_utf8 of_text.0 u (inl refl) of_text.1 (utf8_encodes of_text.0 of_text.1)) refl
+read_quoted-complete text u (inl of_text) = rw (of_text.2, read_characters quotation_mark is_utf8 of_text.0 u (inl refl) of_text.1 (utf8_encodes of_text.0 of_text.1)) refl
 read_quoted-complete text u (inr of_char) =
-    rw (of_char.2, read_characters 39 is_char (of_char.0 ∷ []) u (inr refl) (one_scalar of_char.0 of_char.1) (one_char of_char.0 of_char.1)) refl
+    rw (of_char.2, read_characters apostrophe is_char (of_char.0 ∷ []) u (inr refl) (one_scalar of_char.0 of_char.1) (one_char of_char.0 of_char.1)) refl

@@ -4,11 +4,12 @@ use borrow.Author.Tests.{ltb-true}
 use Rattle.std.specs.Char.{digit_char, digit_value}
 use Rattle.std.proofs.lemmas.Str.{digit_value-digit_char}
 use Rattle.std.proofs.lemmas.Bool.Decides.{nat_tests}
+use Rattle.ufmt_core.specs.Bytes.{backslash, closing_brace}
 use Rattle.ufmt_core.specs.Quoted.{IsQuote, escaped_byte, hex_digits}
 use Rattle.ufmt_grammar.specs.ReadingQuoted.{decoded}
 
 -- a digit is not the byte of `}`
-digit_no_brace : (d : ℕ) → d < 16 → (digit_char d == 125) ≡ false
+digit_no_brace : (d : ℕ) → d < 16 → (digit_char d == closing_brace) ≡ false
 digit_no_brace d low = grind (arith, nat_tests)
 
 -- decoding the two digits of a number gives the number
@@ -17,17 +18,17 @@ two_digits b low = rw (digit_value-digit_char (b / 16) (omega arith), digit_valu
 
 -- a property of each row of `escape`, and of a byte that is written as itself, holds of each spelling
 module _ (q b : ℕ) where
-  one_of : (b == 92 || b == q) ≡ true → (b ≡ 92) ⊎ (b ≡ q)
-  one_of h = go (b == 92) refl
+  one_of : (b == backslash || b == q) ≡ true → (b ≡ backslash) ⊎ (b ≡ q)
+  one_of h = go (b == backslash) refl
     where
-      go : (first : Bool) → (b == 92) ≡ first → (b ≡ 92) ⊎ (b ≡ q)
-      go true e = inl (eqb-true b 92 e)
+      go : (first : Bool) → (b == backslash) ≡ first → (b ≡ backslash) ⊎ (b ≡ q)
+      go true e = inl (eqb-true b backslash e)
       go false e = inr (eqb-true b q (sym (ap (λ x. x || b == q) e) ∙ h))
 
-  pub no_backslash : (b == 92 || b == q) ≡ false → (b == 92) ≡ false
-  no_backslash h = go (b == 92) refl
+  pub no_backslash : (b == backslash || b == q) ≡ false → (b == backslash) ≡ false
+  no_backslash h = go (b == backslash) refl
     where
-      go : (first : Bool) → (b == 92) ≡ first → (b == 92) ≡ false
+      go : (first : Bool) → (b == backslash) ≡ first → (b == backslash) ≡ false
       go true e = let both = sym (ap (λ x. x || b == q) e) ∙ h in absurd (cc)
       go false e = e
 
@@ -39,10 +40,10 @@ module _ (q b : ℕ) where
 
   -- the rows of `escape`, in order
   module _ (P : ℕ → List ℕ → Type 0) (p0 : P 0 (codes "\\0")) (p9 : P 9 (codes "\\t")) (p10 : P 10 (codes "\\n")) (p13 : P 13 (codes "\\r"))
-      (itself : (b ≡ 92) ⊎ (b ≡ q) → P b (92 ∷ b ∷ [])) (control : b < 128 → P b (codes "\\u{" ++ (hex_digits b ++ codes "}")))
-      (plain : (nat_lt b 32 || b == 127) ≡ false → (b == 92 || b == q) ≡ false → P b (b ∷ [])) where
+      (itself : (b ≡ backslash) ⊎ (b ≡ q) → P b (backslash ∷ b ∷ [])) (control : b < 128 → P b (codes "\\u{" ++ (hex_digits b ++ codes "}")))
+      (plain : (nat_lt b 32 || b == 127) ≡ false → (b == backslash || b == q) ≡ false → P b (b ∷ [])) where
     rows : (r0 r9 r10 r13 ritself rcontrol : Bool) → (b == 0) ≡ r0 → (b == 9) ≡ r9 → (b == 10) ≡ r10 → (b == 13) ≡ r13
-        → (b == 92 || b == q) ≡ ritself → (nat_lt b 32 || b == 127) ≡ rcontrol → P b (escaped_byte q b)
+        → (b == backslash || b == q) ≡ ritself → (nat_lt b 32 || b == 127) ≡ rcontrol → P b (escaped_byte q b)
     rows true r9 r10 r13 ritself rcontrol h0 h9 h10 h13 hi hc = at_row P 0 (eqb-true b 0 h0) p0
     rows false true r10 r13 ritself rcontrol h0 h9 h10 h13 hi hc = at_row P 9 (eqb-true b 9 h9) p9
     rows false false true r13 ritself rcontrol h0 h9 h10 h13 hi hc = at_row P 10 (eqb-true b 10 h10) p10
@@ -52,15 +53,15 @@ module _ (q b : ℕ) where
     rows false false false false false false h0 h9 h10 h13 hi hc = rw (h0, h9, h10, h13, hi, hc) (plain hc hi)
 
     pub each_row : P b (escaped_byte q b)
-    each_row = rows (b == 0) (b == 9) (b == 10) (b == 13) (b == 92 || b == q) (nat_lt b 32 || b == 127) refl refl refl refl refl refl
+    each_row = rows (b == 0) (b == 9) (b == 10) (b == 13) (b == backslash || b == q) (nat_lt b 32 || b == 127) refl refl refl refl refl refl
 
 module _ (q b : ℕ) (t : List ℕ) (quote : IsQuote q) where
   -- the row that writes the byte itself after a backslash
-  decoded-itself : (b ≡ 92) ⊎ (b ≡ q) → decoded (92 ∷ b ∷ t) ≡ b
+  decoded-itself : (b ≡ backslash) ⊎ (b ≡ q) → decoded (backslash ∷ b ∷ t) ≡ b
   decoded-itself (inl e) = rw e refl
   decoded-itself (inr e) = go quote
     where
-      go : IsQuote q → decoded (92 ∷ b ∷ t) ≡ b
+      go : IsQuote q → decoded (backslash ∷ b ∷ t) ≡ b
       go (inl h) = rw (e ∙ h) refl
       go (inr h) = rw (e ∙ h) refl
 

@@ -4,6 +4,7 @@ use borrow.Author.Tests.{ltb-true}
 use Rattle.std.specs.Char.{digit_char}
 use Rattle.std.specs.Str.{encode_utf8_all}
 use Rattle.std.proofs.lemmas.Bool.Decides.{nat_tests}
+use Rattle.ufmt_core.specs.Bytes.{apostrophe, backslash, quotation_mark}
 use Rattle.ufmt_core.specs.Quoted.{IsQuote, escaped_byte, escaped_bytes, hex_digits, quoted}
 use Rattle.ufmt_grammar.specs.QuotedLaws.{QuotedIsOneLine}
 use Rattle.ufmt_core.specs.Shift.{IsOneLine}
@@ -21,7 +22,7 @@ digits_line : (b : ℕ) (short : Bool) → nat_lt b 16 ≡ short → b < 128 →
 digits_line b true short low = rw short (digit_line b (ltb-true b 16 short), tt)
 digits_line b false short low = rw short (digit_line (b / 16) (omega arith), (digit_line (b % 16) (omega arith), tt))
 
-itself_line : (q b : ℕ) → IsQuote q → (b ≡ 92) ⊎ (b ≡ q) → b ≢ 10
+itself_line : (q b : ℕ) → IsQuote q → (b ≡ backslash) ⊎ (b ≡ q) → b ≢ 10
 itself_line q b quote (inl e) = omega (arith, e)
 itself_line q b (inl h) (inr e) = omega (arith, e, h)
 itself_line q b (inr h) (inr e) = omega (arith, e, h)
@@ -54,5 +55,5 @@ quoted_line q cs quote =
     )
 
 pub quoted_is_one_line : QuotedIsOneLine
-quoted_is_one_line text (inl of_text) = subst IsOneLine (sym of_text.2) (quoted_line 34 of_text.0 (inl refl))
-quoted_is_one_line text (inr of_char) = subst IsOneLine (sym of_char.2) (quoted_line 39 (of_char.0 ∷ []) (inr refl))
+quoted_is_one_line text (inl of_text) = subst IsOneLine (sym of_text.2) (quoted_line quotation_mark of_text.0 (inl refl))
+quoted_is_one_line text (inr of_char) = subst IsOneLine (sym of_char.2) (quoted_line apostrophe (of_char.0 ∷ []) (inr refl))

@@ -3,6 +3,7 @@ use Rattle.std.proofs.Common.{◌≡◌, inl, inr, refl, sym, subst, ap, ◌∙�
 use Rattle.std.specs.Str.{encode_utf8_all}
 use Rattle.std.proofs.lemmas.Bool.{false≢true}
 use Rattle.std.proofs.lemmas.Str.{encodes_same}
+use Rattle.ufmt_core.specs.Bytes.{apostrophe, quotation_mark}
 use Rattle.ufmt_core.specs.Quoted.{IsQuote, escaped_bytes, quoted, quoted_char, quoted_text}
 use Rattle.ufmt_grammar.specs.QuotedLaws.{QuotedTextDetermines, QuotedCharDetermines, QuotedTextIsNoChar, QuotedEndsItself, QuotedIsNoOtherLeaf}
 use Rattle.ufmt_grammar.specs.ReadingQuoted.{read_quoted, read_inside}
@@ -30,12 +31,12 @@ characters_determined q cs ds quote same =
 pub quoted_text_determines : QuotedTextDetermines
 quoted_text_determines cs ds u v scalars_c scalars_d same =
     let ends = quoted_ends_itself (quoted_text cs) (quoted_text ds) u v (inl (cs, scalars_c, refl)) (inl (ds, scalars_d, refl)) same in
-    (characters_determined 34 cs ds (inl refl) ends.0, ends.1)
+    (characters_determined quotation_mark cs ds (inl refl) ends.0, ends.1)
 
 pub quoted_char_determines : QuotedCharDetermines
 quoted_char_determines c d u v scalar_c scalar_d same =
     let ends = quoted_ends_itself (quoted_char c) (quoted_char d) u v (inr (c, scalar_c, refl)) (inr (d, scalar_d, refl)) same in
-    (ap (λ (t : List ℕ). get_or t 0 0) (characters_determined 39 (c ∷ []) (d ∷ []) (inr refl) ends.0), ends.1)
+    (ap (λ (t : List ℕ). get_or t 0 0) (characters_determined apostrophe (c ∷ []) (d ∷ []) (inr refl) ends.0), ends.1)
 
 pub quoted_is_no_other_leaf : QuotedIsNoOtherLeaf
 quoted_is_no_other_leaf text (inl of_text) (inl word) = let is : IsWord (quoted_text of_text.0) = subst IsWord of_text.2 word in false≢true is.0

@@ -3,6 +3,7 @@ use Rattle.std.proofs.Common.{◌≡◌, ◌⊎◌, inl, inr, refl, sym, ap, ◌
 use Rattle.std.specs.Option.{option_or}
 use Rattle.std.specs.Str.{all_scalars, chars, is_utf8}
 use Rattle.std.proofs.lemmas.Str.{IsUtf8-from_is_utf8, encodes-chars, scalars-chars}
+use Rattle.ufmt_core.specs.Bytes.{apostrophe, quotation_mark}
 use Rattle.ufmt_core.specs.Quoted.{IsQuote, IsQuoted, escaped_byte, escaped_bytes, quoted}
 use Rattle.ufmt_grammar.specs.Reading.{parse_map, strip}
 use Rattle.ufmt_grammar.specs.ReadingQuoted.{decoded, if_right, is_char, read_between, read_escaped, read_inside, read_quoted}
@@ -79,10 +80,10 @@ read_front q test t text u quote b utf8 =
     let whole : quoted q (chars b.bytes) ≡ q ∷ (escaped_bytes q b.bytes ++ (q ∷ [])) = quoted-bytes q (chars b.bytes) quote ∙ ap (λ bs. q ∷ (escaped_bytes q bs ++ (q ∷ []))) (encodes-chars b.bytes (IsUtf8-from_is_utf8 b.bytes utf8)) in
     b.front ∙ ap (λ s. s ++ u) (sym (b.is ∙ whole))
 
-text_sound : (t text u : List ℕ) → IsBetween 34 is_utf8 t text u → IsQuoted text × (t ≡ text ++ u)
+text_sound : (t text u : List ℕ) → IsBetween quotation_mark is_utf8 t text u → IsQuoted text × (t ≡ text ++ u)
 text_sound t text u b = (
   inl (chars b.bytes, scalars-chars b.bytes (IsUtf8-from_is_utf8 b.bytes b.right), b.is),
-  read_front 34 is_utf8 t text u (inl refl) b b.right,
+  read_front quotation_mark is_utf8 t text u (inl refl) b b.right,
 )
 
 both : (x y : Bool) → x && y ≡ true → (x ≡ true) × (y ≡ true)
@@ -94,12 +95,12 @@ one_character [] h = absurd (cc)
 one_character (c ∷ []) h = (c, refl)
 one_character (c ∷ d ∷ cs) h = let e = eqb-true (length (c ∷ d ∷ cs)) 1 h in absurd (omega arith)
 
-char_sound : (t text u : List ℕ) → IsBetween 39 is_char t text u → IsQuoted text × (t ≡ text ++ u)
+char_sound : (t text u : List ℕ) → IsBetween apostrophe is_char t text u → IsQuoted text × (t ≡ text ++ u)
 char_sound t text u b =
     let right = both (is_utf8 b.bytes) (length (chars b.bytes) == 1) b.right in
     let one = one_character (chars b.bytes) right.1 in
     let scalars : all_scalars (one.0 ∷ []) ≡ true = ap all_scalars (sym one.1) ∙ scalars-chars b.bytes (IsUtf8-from_is_utf8 b.bytes right.0) in
-    (inr (one.0, (both _ true scalars).0, b.is ∙ ap (quoted 39) one.1), read_front 39 is_char t text u (inr refl) b right.0)
+    (inr (one.0, (both _ true scalars).0, b.is ∙ ap (quoted apostrophe) one.1), read_front apostrophe is_char t text u (inr refl) b right.0)
 
 or_from : {A : Type 0} (first second : Option A) (x : A) → option_or first second ≡ Some x → (first ≡ Some x) ⊎ (second ≡ Some x)
 or_from None second x h = inr h
@@ -108,7 +109,7 @@ or_from (Some y) second x h = inl h
 pub read_quoted-sound : (t text u : List ℕ) → read_quoted t ≡ Some (text, u) → IsQuoted text × (t ≡ text ++ u)
 unfolding read_quoted
 read_quoted-sound t text u h =
-    elim (or_from (read_between 34 is_utf8 t) (read_between 39 is_char t) (text, u) h) [
-      | inl of_text ↦ text_sound t text u (read_between-sound 34 is_utf8 t text u of_text)
-      | inr of_char ↦ char_sound t text u (read_between-sound 39 is_char t text u of_char)
+    elim (or_from (read_between quotation_mark is_utf8 t) (read_between apostrophe is_char t) (text, u) h) [
+      | inl of_text ↦ text_sound t text u (read_between-sound quotation_mark is_utf8 t text u of_text)
+      | inr of_char ↦ char_sound t text u (read_between-sound apostrophe is_char t text u of_char)
     ]

@@ -8,6 +8,7 @@ use Rattle.std.proofs.Math.Seq.{get_or-append_seam, take-append_seam, drop-appen
 use Rattle.std.proofs.lemmas.Bool.Decides.{nat_tests}
 use Rattle.std.proofs.lemmas.Str.{IsAscii-append, IsCharBoundary-after_ascii, IsCharBoundary-before_ascii, IsUtf8-append, IsUtf8-drop, IsUtf8-from_ascii, IsUtf8-take}
 use Rattle.std.proofs.lemmas.Str.Ascii.{IsAscii-cons, IsAscii-nil}
+use Rattle.ufmt_core.specs.Bytes.{backslash, closing_brace, opening_brace}
 use Rattle.ufmt_core.specs.Quoted.{IsQuote, escaped_byte, escaped_bytes, hex_digits}
 use Rattle.ufmt_grammar.proofs.QuotedDecoded.{each_row}
 
@@ -31,7 +32,7 @@ IsUtf8-past (c ∷ text) rest ascii u = IsUtf8-past text rest (λ i. ascii (suc 
 
 -- a byte is written as itself, or it is ASCII and is written as a backslash and more ASCII
 abbrev pub Spelling : ℕ → List ℕ → Type 0
-Spelling b e = (e ≡ b ∷ []) ⊎ ((more : List ℕ) × (e ≡ 92 ∷ more) × IsAscii more × (b < 128))
+Spelling b e = (e ≡ b ∷ []) ⊎ ((more : List ℕ) × (e ≡ backslash ∷ more) × IsAscii more × (b < 128))
 
 digit_ascii : (d : ℕ) → d < 16 → digit_char d < 128
 digit_ascii d low = grind (arith, nat_tests)
@@ -45,10 +46,10 @@ digits_ascii b false short low = rw short
 braces_ascii : (b : ℕ) → b < 128 → IsAscii (codes "u{" ++ (hex_digits b ++ codes "}"))
 braces_ascii b low =
     IsAscii-cons 117 (codes "{" ++ (hex_digits b ++ codes "}")) (omega arith)
-    (IsAscii-cons 123 (hex_digits b ++ codes "}") (omega arith)
-    (IsAscii-append (hex_digits b) (codes "}") (digits_ascii b (nat_lt b 16) refl low) (one_ascii 125 (omega arith))))
+    (IsAscii-cons opening_brace (hex_digits b ++ codes "}") (omega arith)
+    (IsAscii-append (hex_digits b) (codes "}") (digits_ascii b (nat_lt b 16) refl low) (one_ascii closing_brace (omega arith))))
 
-itself_ascii : (q b : ℕ) → IsQuote q → (b ≡ 92) ⊎ (b ≡ q) → b < 128
+itself_ascii : (q b : ℕ) → IsQuote q → (b ≡ backslash) ⊎ (b ≡ q) → b < 128
 itself_ascii q b quote (inl e) = omega (arith, e)
 itself_ascii q b (inl h) (inr e) = omega (arith, e, h)
 itself_ascii q b (inr h) (inr e) = omega (arith, e, h)
@@ -61,7 +62,7 @@ spelling q b quote =
     (λ low. inr (codes "u{" ++ (hex_digits b ++ codes "}"), refl, braces_ascii b low, low))
     (λ no_control itself. inl refl)
   where
-    letter : (n x : ℕ) → n < 128 → x < 128 → Spelling n (92 ∷ x ∷ [])
+    letter : (n x : ℕ) → n < 128 → x < 128 → Spelling n (backslash ∷ x ∷ [])
     letter n x low low' = inr (x ∷ [], refl, one_ascii x low', low)
 
 goes_on : (xs rest : List ℕ) (b : ℕ) → xs ++ (b ∷ rest) ≡ (xs ++ (b ∷ [])) ++ rest
@@ -75,7 +76,7 @@ module _ (q : ℕ) (quote : IsQuote q) where
     | inl plain ↦ subst IsUtf8 (sym (goes_on xs bs b))
         (utf8-decoded bs (xs ++ (b ∷ [])) (subst IsUtf8 (ap (λ e. xs ++ (e ++ escaped_bytes q bs)) plain ∙ goes_on xs (escaped_bytes q bs) b) u))
     | inr escape ↦
-        let parts = IsUtf8-cut xs (escape.0 ++ escaped_bytes q bs) 92 (omega arith) (subst IsUtf8 (ap (λ e. xs ++ (e ++ escaped_bytes q bs)) escape.1) u) in
+        let parts = IsUtf8-cut xs (escape.0 ++ escaped_bytes q bs) backslash (omega arith) (subst IsUtf8 (ap (λ e. xs ++ (e ++ escaped_bytes q bs)) escape.1) u) in
         let rest = utf8-decoded bs [] (IsUtf8-past escape.0 (escaped_bytes q bs) escape.2 parts.1) in
         IsUtf8-append xs (b ∷ bs) parts.0 (IsUtf8-append (b ∷ []) bs (IsUtf8-from_ascii (b ∷ []) (one_ascii b escape.3)) rest)
   ]
@@ -88,10 +89,10 @@ module _ (q : ℕ) (quote : IsQuote q) where
         (utf8-escaped bs (xs ++ (b ∷ [])) (subst IsUtf8 (goes_on xs bs b) u))
     | inr escape ↦
         let parts = IsUtf8-cut xs bs b escape.3 u in
-        let front : IsUtf8 (92 ∷ escape.0) = IsUtf8-from_ascii (92 ∷ escape.0) (IsAscii-cons 92 escape.0 (omega arith) escape.2) in
+        let front : IsUtf8 (backslash ∷ escape.0) = IsUtf8-from_ascii (backslash ∷ escape.0) (IsAscii-cons backslash escape.0 (omega arith) escape.2) in
         subst IsUtf8 (sym (ap (λ e. xs ++ (e ++ escaped_bytes q bs)) escape.1))
-        (IsUtf8-append xs ((92 ∷ escape.0) ++ escaped_bytes q bs) parts.0
-        (IsUtf8-append (92 ∷ escape.0) (escaped_bytes q bs) front (utf8-escaped bs [] parts.1)))
+        (IsUtf8-append xs ((backslash ∷ escape.0) ++ escaped_bytes q bs) parts.0
+        (IsUtf8-append (backslash ∷ escape.0) (escaped_bytes q bs) front (utf8-escaped bs [] parts.1)))
   ]
 
   -- the same holds with quotes around the spelling

@@ -1,5 +1,6 @@
 -- Reading is complete: the text of a document of a class, before what may follow, is read as its normal form.
 use Rattle.std.proofs.Common.{◌≡◌, ◌∙◌, refl, ap, sym, ℕ, zero, suc, ◌<◌, ◌≤◌, Bool, true, false, List, [], ◌∷◌, ◌++◌, Some, None, codes, append_assoc, append-nil, arith}
+use Rattle.ufmt_core.specs.Bytes.{closing_brace, closing_bracket, closing_parenthesis}
 use Rattle.ufmt_core.specs.Document.{Document, leaf, joined, list_of, set_of, map_of, struct_of, non_exhaustive_of, tuple_of, pretty_part, Documents, no_documents, first_document, Pairs, no_pairs, first_pair, Fields, no_fields, first_field, nest, nest_all, nest_pairs, nest_fields}
 use Rattle.ufmt_core.specs.Layout.{frame, inside, new_line, lead, trail, block_tail, layout, texts, pair_texts, field_texts}
 use Rattle.ufmt_core.specs.declared.layout.Setting.{Setting}
@@ -75,7 +76,7 @@ module _ (class : Class) where
       let more : AreRead class p (listed (normal_all ds)) (texts (inside s) ds) = documents_complete p (inside s) n below ds hs (omega arith) in
       let close = closes class s Brackets (fits_less s 1 n (omega arith) fits) in
       at_bracket class s p (block_tail (frame s.mode Brackets) s Zero (texts (inside s) (first_document d ds)) ++ u)
-      ∙ rw (ender_begins_none 93 [] refl (entries_begin s first.begins (trail s.mode ++ block_tail (frame s.mode Brackets) s One (texts (inside s) ds)) u))
+      ∙ rw (ender_begins_none closing_bracket [] refl (entries_begin s first.begins (trail s.mode ++ block_tail (frame s.mode Brackets) s One (texts (inside s) ds)) u))
       (rw (block_complete class p (frame s.mode Brackets) s list_with close (normal d) (listed (normal_all ds))
       (layout (inside s) d) (texts (inside s) ds) u first more)
       (ap (λ es. Some (list_of (first_document (normal d) es), u)) (documents-listed (normal_all ds))))
@@ -90,7 +91,7 @@ module _ (class : Class) where
       let close = closes class s Braces (fits_less s 1 n (omega arith) fits) in
       let left : List ℕ = block_tail (frame s.mode Braces) s One (texts (inside s) ds) in
       at_brace class s p (block_tail (frame s.mode Braces) s Zero (texts (inside s) (first_document d ds)) ++ u)
-      ∙ rw (ender_begins_none 125 [] refl (entries_begin s first.begins (trail s.mode ++ left) u))
+      ∙ rw (ender_begins_none closing_brace [] refl (entries_begin s first.begins (trail s.mode ++ left) u))
       (rw (
         entry_assoc (lead (frame s.mode Braces) (inside s) Zero) (layout (inside s) d) (trail s.mode) left u,
         strip_joined (lead (frame s.mode Braces) (inside s) Zero) (layout (inside s) d ++ (trail s.mode ++ (left ++ u))),
@@ -115,7 +116,7 @@ module _ (class : Class) where
       let left : List ℕ = block_tail (frame s.mode Braces) s One (pair_texts (inside s) ps) in
       let entry : List ℕ = layout (inside s) key ++ (codes ": " ++ layout (inside s) value) in
       at_brace class s p (block_tail (frame s.mode Braces) s Zero (pair_texts (inside s) (first_pair key value ps)) ++ u)
-      ∙ rw (ender_begins_none 125 [] refl (entries_begin s (Begins-append first.begins (codes ": " ++ layout (inside s) value)) (trail s.mode ++ left) u))
+      ∙ rw (ender_begins_none closing_brace [] refl (entries_begin s (Begins-append first.begins (codes ": " ++ layout (inside s) value)) (trail s.mode ++ left) u))
       (rw (
         entry_assoc (lead (frame s.mode Braces) (inside s) Zero) entry (trail s.mode) left u,
         strip_joined (lead (frame s.mode Braces) (inside s) Zero) (entry ++ (trail s.mode ++ (left ++ u))),
@@ -197,7 +198,7 @@ module _ (class : Class) where
       let close = closes class s Unnamed (fits_less s 1 n (omega arith) fits) in
       at_parenthesis class s p ((new_line (inside s).mode (inside s).depth
       ++ (layout (inside s) d ++ (trail s.mode ++ block_tail (frame s.mode Unnamed) s One (texts (inside s) ds)))) ++ u)
-      ∙ rw (no_symbol class _ (ender_begins_none 41 [] refl (entries_begin s first.begins (trail s.mode ++ block_tail (frame s.mode Unnamed) s One (texts (inside s) ds)) u)))
+      ∙ rw (no_symbol class _ (ender_begins_none closing_parenthesis [] refl (entries_begin s first.begins (trail s.mode ++ block_tail (frame s.mode Unnamed) s One (texts (inside s) ds)) u)))
       (rw (block_complete class p (frame s.mode Unnamed) s (tuple_with []) close (normal d) (listed (normal_all ds))
       (layout (inside s) d) (texts (inside s) ds) u first more)
       (ap (λ es. Some (tuple_of [] (first_document (normal d) es), u)) (documents-listed (normal_all ds))))
@@ -223,11 +224,11 @@ module _ (class : Class) where
       → IsBuilt class d → nest d ≤ n → MayFollow class u → read_with class s p (layout s d ++ u) ≡ Some (normal d, u)
   read_with_complete s p n below fits (leaf text) u h less follows = leaf_complete class s p text u h follows
   read_with_complete s p n below fits (joined ds) u h less follows = absurd h
-  read_with_complete s p n below fits (list_of no_documents) u h less follows = at_bracket class s p (93 ∷ u)
+  read_with_complete s p n below fits (list_of no_documents) u h less follows = at_bracket class s p (closing_bracket ∷ u)
   read_with_complete s p n below fits (list_of (first_document d ds)) u h less follows = list_complete s p n below fits d ds u h.0 h.1 less
-  read_with_complete s p n below fits (set_of no_documents) u h less follows = at_brace class s p (125 ∷ u)
+  read_with_complete s p n below fits (set_of no_documents) u h less follows = at_brace class s p (closing_brace ∷ u)
   read_with_complete s p n below fits (set_of (first_document d ds)) u h less follows = set_complete s p n below fits d ds u h.0 h.1 less
-  read_with_complete s p n below fits (map_of no_pairs) u h less follows = at_brace class s p (125 ∷ u)
+  read_with_complete s p n below fits (map_of no_pairs) u h less follows = at_brace class s p (closing_brace ∷ u)
   read_with_complete s p n below fits (map_of (first_pair key value ps)) u h less follows = map_complete s p n below fits key value ps u h.0 h.1 h.2 less
   read_with_complete s p n below fits (struct_of name no_fields) u h less follows = name_complete s p name u h.0 follows
   read_with_complete s p n below fits (struct_of name (first_field field_name value fs)) u h less follows =

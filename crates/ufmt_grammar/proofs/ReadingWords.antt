@@ -1,40 +1,41 @@
 -- Words and what follows them: word bytes, closers, and the longest word at the front of a text.
 use Rattle.std.proofs.Common.{◌≡◌, inl, inr, refl, ap, sym, subst, ℕ, ◌==◌, ◌||◌, Bool, true, false, cond, List, [], ◌∷◌, ◌++◌, eqb-true}
 use Rattle.std.specs.Prelude.{⊤}
+use Rattle.ufmt_core.specs.Bytes.{closing_brace, closing_bracket, closing_parenthesis, colon, comma}
 use Rattle.ufmt_grammar.specs.Leaves.{is_word_byte, IsWordOrEmpty, IsWord, is_closer, is_ender, IsFollower}
 use Rattle.ufmt_grammar.specs.Reading.{word_of, after_word}
 
 -- a property of each of the five closers holds of every closer
-pub each_closer : (P : ℕ → Type 0) → P 44 → P 58 → P 93 → P 41 → P 125 → (c : ℕ) → is_closer c ≡ true → P c
-each_closer P comma colon bracket parenthesis brace c h = go (c == 44) (c == 58) (c == 93) (c == 41) (c == 125) refl refl refl refl refl h
+pub each_closer : (P : ℕ → Type 0) → P comma → P colon → P closing_bracket → P closing_parenthesis → P closing_brace → (c : ℕ) → is_closer c ≡ true → P c
+each_closer P of_comma of_colon of_bracket of_parenthesis of_brace c h = go (c == comma) (c == colon) (c == closing_bracket) (c == closing_parenthesis) (c == closing_brace) refl refl refl refl refl h
   where
     at : (k : ℕ) → (c == k) ≡ true → P k → P c
     at k e p = subst P (sym (eqb-true c k e)) p
 
-    go : (a b d e f : Bool) → (c == 44) ≡ a → (c == 58) ≡ b → (c == 93) ≡ d → (c == 41) ≡ e → (c == 125) ≡ f → (a || b || d || e || f) ≡ true → P c
-    go true b d e f ha hb hd he hf k = at 44 ha comma
-    go false true d e f ha hb hd he hf k = at 58 hb colon
-    go false false true e f ha hb hd he hf k = at 93 hd bracket
-    go false false false true f ha hb hd he hf k = at 41 he parenthesis
-    go false false false false true ha hb hd he hf k = at 125 hf brace
+    go : (a b d e f : Bool) → (c == comma) ≡ a → (c == colon) ≡ b → (c == closing_bracket) ≡ d → (c == closing_parenthesis) ≡ e → (c == closing_brace) ≡ f → (a || b || d || e || f) ≡ true → P c
+    go true b d e f ha hb hd he hf k = at comma ha of_comma
+    go false true d e f ha hb hd he hf k = at colon hb of_colon
+    go false false true e f ha hb hd he hf k = at closing_bracket hd of_bracket
+    go false false false true f ha hb hd he hf k = at closing_parenthesis he of_parenthesis
+    go false false false false true ha hb hd he hf k = at closing_brace hf of_brace
     go false false false false false ha hb hd he hf k = absurd (cc)
 
 -- a property of a comma and of each closing bracket holds of every ender
-pub each_ender : (P : ℕ → Type 0) → P 44 → P 93 → P 41 → P 125 → (c : ℕ) → is_ender c ≡ true → P c
-each_ender P comma bracket parenthesis brace c h = go (c == 44) (c == 93) (c == 41) (c == 125) refl refl refl refl h
+pub each_ender : (P : ℕ → Type 0) → P comma → P closing_bracket → P closing_parenthesis → P closing_brace → (c : ℕ) → is_ender c ≡ true → P c
+each_ender P of_comma of_bracket of_parenthesis of_brace c h = go (c == comma) (c == closing_bracket) (c == closing_parenthesis) (c == closing_brace) refl refl refl refl h
   where
     at : (k : ℕ) → (c == k) ≡ true → P k → P c
     at k e p = subst P (sym (eqb-true c k e)) p
 
-    go : (a b d e : Bool) → (c == 44) ≡ a → (c == 93) ≡ b → (c == 41) ≡ d → (c == 125) ≡ e → (a || b || d || e) ≡ true → P c
-    go true b d e ha hb hd he k = at 44 ha comma
-    go false true d e ha hb hd he k = at 93 hb bracket
-    go false false true e ha hb hd he k = at 41 hd parenthesis
-    go false false false true ha hb hd he k = at 125 he brace
+    go : (a b d e : Bool) → (c == comma) ≡ a → (c == closing_bracket) ≡ b → (c == closing_parenthesis) ≡ d → (c == closing_brace) ≡ e → (a || b || d || e) ≡ true → P c
+    go true b d e ha hb hd he k = at comma ha of_comma
+    go false true d e ha hb hd he k = at closing_bracket hb of_bracket
+    go false false true e ha hb hd he k = at closing_parenthesis hd of_parenthesis
+    go false false false true ha hb hd he k = at closing_brace he of_brace
     go false false false false ha hb hd he k = absurd (cc)
 
 -- a byte with a property that no ender has is no ender
-pub no_ender : (f : ℕ → Bool) → f 44 ≡ false → f 93 ≡ false → f 41 ≡ false → f 125 ≡ false → (c : ℕ) → f c ≡ true → is_ender c ≡ false
+pub no_ender : (f : ℕ → Bool) → f comma ≡ false → f closing_bracket ≡ false → f closing_parenthesis ≡ false → f closing_brace ≡ false → (c : ℕ) → f c ≡ true → is_ender c ≡ false
 no_ender f comma bracket parenthesis brace c h = go (is_ender c) refl
   where
     go : (b : Bool) → is_ender c ≡ b → is_ender c ≡ false

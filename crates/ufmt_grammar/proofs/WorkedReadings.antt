@@ -1,6 +1,7 @@
 -- Examples of texts that are read, and of texts that are not, computed.
 use Rattle.std.proofs.Common.{◌≡◌, ℕ, List, [], ◌∷◌, codes, map, replicate, Some, None, refl}
 use Rattle.std.specs.Str.{chars, is_utf8}
+use Rattle.ufmt_core.specs.Bytes.{backslash, quotation_mark}
 use Rattle.ufmt_core.specs.Document.{Document, leaf, list_of, set_of, map_of, struct_of, non_exhaustive_of, tuple_of, Documents, no_documents, first_document, no_pairs, first_pair, no_fields, first_field}
 use Rattle.ufmt_core.specs.declared.layout.Mode.TheVariants.{Plain, Pretty}
 use Rattle.ufmt_grammar.specs.Leaves.{Token, Debug}
@@ -125,7 +126,7 @@ no_tokens = refl
 -- a colon at the end, or before a space but no value; a quote that nothing closes; a quote in a name; a control, in quotes too; an escape at the end, or of
 -- a character past ASCII; bytes that are no UTF-8; a space in a leaf
 refused_by_debug : map (read_text Debug Plain) (codes "a:" ∷ codes "a:: b" ∷ codes "{a:1}, " ∷ codes "\"a" ∷ codes "a'b" ∷ codes "\"S\"(x)" ∷ codes "a\"b\"(x)"
-    ∷ codes "a\tb" ∷ codes "\"\t\"" ∷ codes "\"\\\"" ∷ (34 ∷ 92 ∷ 194 ∷ 181 ∷ 34 ∷ []) ∷ (97 ∷ 255 ∷ []) ∷ (34 ∷ 255 ∷ 34 ∷ []) ∷ codes "a b" ∷ codes "" ∷ [])
+    ∷ codes "a\tb" ∷ codes "\"\t\"" ∷ codes "\"\\\"" ∷ (quotation_mark ∷ backslash ∷ 194 ∷ 181 ∷ quotation_mark ∷ []) ∷ (97 ∷ 255 ∷ []) ∷ (quotation_mark ∷ 255 ∷ quotation_mark ∷ []) ∷ codes "a b" ∷ codes "" ∷ [])
     ≡ replicate 15 None
 unfolding read read_rest read_quoted is_utf8 chars lib.Utf8.encode
 refused_by_debug = refl

@@ -1,7 +1,7 @@
 -- The names and leaves of each class of documents whose texts can be read again, and what may follow such a text.
 use Rattle.std.specs.Prelude.{◌≡◌, ◌≢◌, ◌⊎◌, ℕ, ◌&&◌, ◌||◌, ◌==◌, nat_le, nat_lt, not, if◌then◌else◌, List, [], ◌∷◌, Bool, true, false, Option, Some, None, codes, ⊤}
 use Rattle.std.specs.Str.{is_utf8}
-use Rattle.ufmt_core.specs.Bytes.{apostrophe, backslash, closing_brace, closing_bracket, closing_parenthesis, colon, comma, delete, hyphen, lower_a, lower_z, nine_digit, quotation_mark, space, underscore, upper_a, upper_z, zero_digit}
+use Rattle.ufmt_core.specs.Bytes.{apostrophe, backslash, closing_brace, closing_bracket, closing_parenthesis, colon, comma, delete, hyphen, lower_a, lower_z, nine_digit, opening_brace, opening_bracket, opening_parenthesis, quotation_mark, space, underscore, upper_a, upper_z, zero_digit}
 use Rattle.ufmt_core.specs.Quoted.{IsQuoted}
 pub use Rattle.ufmt_grammar.specs.declared.class.Class.{Class}
 pub use Rattle.ufmt_grammar.specs.declared.class.Class.TheVariants.{Token, Debug}
@@ -57,7 +57,7 @@ is_quote c = c == quotation_mark || c == apostrophe
 
 -- `(`, `[` or `{`
 abbrev pub is_opening : ℕ → Bool
-is_opening c = c == 40 || c == 91 || c == 123
+is_opening c = c == opening_parenthesis || c == opening_bracket || c == opening_brace
 
 -- a comma or a closing bracket ends a leaf
 abbrev pub is_ender : ℕ → Bool
