@@ -1,4 +1,4 @@
-//! Tests of `fields!` with the numbers of fields that no type of `ufmt_user` has. More than 12 make
+//! Tests of `fields!` with the numbers of fields that no type of `ufmt_print_examples` has. More than 12 make
 //! a chain. The fields of a block differ in name and value, so a swap shows. Blocks that end in dots have
 //! each number of fields. The results are in an
 //! array, because a `?` takes the check twice as long.

@@ -5,9 +5,9 @@ ghost use Rattle.ufmt.specs.ValueDocuments.{named_struct, named_tuple};
 
 use super::same;
 use ufmt::{Formatter, fields, uDebug, uWrite};
-use ufmt_examples::{Measurement, Set, parse_command, parse_measurement};
 use ufmt_parse::ParseError::NotText;
 use ufmt_parse::{Fault, ParseError, ParseMode, Parser, parse, parse_fields, parse_pretty, uParse};
+use ufmt_parse_examples::{Measurement, Set, parse_command, parse_measurement};
 
 /// Two truth values, each of which is one document or another.
 #[derive(Clone, Copy, PartialEq, Eq, Debug, Drop)]

@@ -6,9 +6,9 @@ ghost use Rattle.ufmt_parse.specs.Values.{is_i16, is_u8};
 
 use super::same;
 use ufmt::{Formatter, fields, uDebug, uWrite};
-use ufmt_examples::Set;
 use ufmt_parse::ParseError::NotText;
 use ufmt_parse::{Fault, ParseMode, Parser, parse, parse_pretty, parse_variants, uParse};
+use ufmt_parse_examples::Set;
 
 /// An order to a device.
 #[derive(Clone, Copy, PartialEq, Eq, Debug, Drop)]

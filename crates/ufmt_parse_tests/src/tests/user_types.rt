@@ -6,8 +6,8 @@ ghost use Rattle.ufmt_parse.specs.Values.{is_u8, is_u64};
 use super::{first_wrong, same};
 use std::alloc::Global;
 use ufmt::{Formatter, fields, uDebug, uWrite};
-use ufmt_examples::Switch;
 use ufmt_parse::{Fault, ParseMode, Parser, parse_fields, uParse};
+use ufmt_parse_examples::Switch;
 
 /// A struct of four fields.
 #[derive(Drop)]

@@ -1,0 +1,107 @@
+//! Tests of the pieces of blocks in both modes, with a bar after each piece.
+use super::rows::{Table, has_rows, list, map, set};
+use std::alloc::{AllocError, Global};
+use std::collections::{BTreeMap, BTreeSet};
+use ufmt_print_examples::{Braces, InPrettyMode, Pair, Parens, Session, Tuple, X};
+
+const BLOCKS: &str = "\
+Pair| {| |x|: |1|, |y|: |2| |}|~
+Pair| {|\n|    |x|: |1|,\n|    |y|: |2|,\n|}|;
+Braces|;
+Tuple|(|1|, |2|)|~
+Tuple|(|\n|    |1|,\n|    |2|,\n|)|;
+X|(|1|)|~
+X|(|\n|    |1|,\n|)|;
+Parens|;
+|(|1|, |2|)|~
+|(|\n|    |1|,\n|    |2|,\n|)|;
+|(|1|,|)|~
+|(|\n|    |1|,\n|)|;
+[|1|, |2|]|~
+[|\n|    |1|,\n|    |2|,\n|]|;
+[|1|, |2|]|~
+[|\n|    |1|,\n|    |2|,\n|]|;
+[|]|;
+{|}|;
+{|1|, |2|}|~
+{|\n|    |1|,\n|    |2|,\n|}|;
+[|{|1|, |2|}|]|~
+[|\n|    |{|\n|    |    |1|,\n|    |    |2|,\n|    |}|,\n|]|;
+{|}|;
+{|1|: |2|, |3|: |4|}|~
+{|\n|    |1|: |2|,\n|    |3|: |4|,\n|}|;
+Some|(|1|)|~
+Some|(|\n|    |1|,\n|)|;
+{|1|: |[|Some|(|2|)|, |None|]|}|~
+{|\n|    |1|: |[|\n|    |    |Some|(|\n|    |    |    |2|,\n|    |    |)|,\n|    |    |None|,\n|    |]|,\n|}|;
+Some|(|\n|    |1|,\n|)|;
+[|Some|(|\n|    |1|,\n|)|]|~
+[|\n|    |Some|(|\n|    |    |1|,\n|    |)|,\n|]|;
+Ok|(|1|)|~
+Ok|(|\n|    |1|,\n|)|;
+Err|(|2|)|~
+Err|(|\n|    |2|,\n|)|;
+[|Some|(|[|Some|(|[|1|]|)|]|)|]|~
+[|\n|    |Some|(|\n|    |    |[|\n|    |    |    |Some|(|\n|    |    |    |    |[|\n|    |    |    |    |    |1|,\n|    |    |    |    |]|,\n|    |    |    |)|,\n|    |    |]|,\n|    |)|,\n|]|;
+";
+
+fn list_of_a_set(alloc: Global) -> Result<Vec<BTreeSet<u64>>, AllocError> {
+    let mut list = Vec::new(alloc);
+    list.push(set(alloc, &[2u64, 1])?)?;
+    Ok(list)
+}
+
+#[test]
+fn blocks_print_in_pieces(rt: HostRuntime) {
+    let mut table = Table::new(rt.alloc());
+    table.pieces(&Pair { x: 1u64, y: 2u64 });
+    table.pieces(&Braces {});
+    table.pieces(&Tuple(1u8, 2u8));
+    table.pieces(&X(1u8));
+    table.pieces(&Parens());
+    table.pieces(&(1i32, 2i32));
+    table.pieces(&(1u8,));
+    table.pieces(&[1u64, 2]);
+    table.pieces(&[1i32, 2].as_slice());
+    table.pieces(&[0u8; 0]);
+    table.pieces_of_made(set::<i32>(rt.alloc(), &[]));
+    table.pieces_of_made(set(rt.alloc(), &[2u64, 1]));
+    table.pieces_of_made(list_of_a_set(rt.alloc()));
+    table.pieces_of_made(map::<u8, u8>(rt.alloc(), &[]));
+    table.pieces_of_made(map(rt.alloc(), &[(3i32, 4i32), (1, 2)]));
+    table.pieces(&Some(1u8));
+    table.pieces_of_made(map(rt.alloc(), &[(1u8, [Some(2u64), None])]));
+    // In pretty mode each value is a pretty part inside a pretty part.
+    table.pieces(&InPrettyMode(Some(1u8)));
+    table.pieces(&[InPrettyMode(Some(1u8))]);
+    // Each four spaces of an indentation are one piece.
+    table.pieces(&Ok::<u8, u8>(1));
+    table.pieces(&Err::<u8, u8>(2));
+    table.pieces(&[Some([Some([1u8])])]);
+    has_rows(&rt, &table, BLOCKS);
+}
+
+const STRUCTS_WITH_DOTS: &str = "\
+Session| {| |user|: |7|, ..| |}|~
+Session| {|\n|    |user|: |7|,\n|    |..\n|}|;
+[|Session| {| |user|: |7|, ..| |}|]|~
+[|\n|    |Session| {|\n|    |    |user|: |7|,\n|    |    |..\n|    |}|,\n|]|;
+Pair| {| |x|: |Session| {| |user|: |7|, ..| |}|, |y|: |2| |}|~
+Pair| {|\n|    |x|: |Session| {|\n|    |    |user|: |7|,\n|    |    |..\n|    |}|,\n|    |y|: |2|,\n|}|;
+[|Some|(|Session| {| |user|: |7|, ..| |}|)|]|~
+[|\n|    |Some|(|\n|    |    |Session| {|\n|    |    |    |user|: |7|,\n|    |    |    |..\n|    |    |}|,\n|    |)|,\n|]|;
+";
+
+#[test]
+fn structs_that_end_in_dots_print_in_pieces(rt: HostRuntime) {
+    let session = Session { user: 7, key: 9 };
+    let mut table = Table::new(rt.alloc());
+    table.pieces(&session);
+    table.pieces(&[&session]);
+    table.pieces(&Pair {
+        x: &session,
+        y: 2u8,
+    });
+    table.pieces(&[Some(&session)]);
+    has_rows(&rt, &table, STRUCTS_WITH_DOTS);
+}

@@ -1,0 +1,41 @@
+//! Tests of a user's own writer, which keeps its bytes in a fixed array.
+use super::rows::{Table, has_rows};
+use ufmt::{Full, uWrite, write_debug};
+use ufmt_print_examples::Fixed;
+
+impl Table {
+    // Adds a row of what a call returned, and of what is written then.
+    fn put_fixed<const N: usize>(&mut self, outcome: Result<(), Full>, writer: &Fixed<N>) {
+        let outcome = outcome.map(|()| writer.written().len());
+        self.put_outcome(outcome, writer.written());
+    }
+}
+
+const PIECES: &str = "\
+Ok(0) ;
+Ok(2) ab;
+Err(Full) ab;
+Ok(5) abcde;
+Ok(5) abcde;
+Err(Full) abcde;
+Ok(7) [1, 23];
+Err(Full) [1, 23;
+";
+
+#[test]
+fn a_fixed_writer_takes_pieces_whole(rt: HostRuntime) {
+    let mut table = Table::new(rt.alloc());
+    // A piece that fits exactly is taken, and nothing of one that doesn't fit.
+    let mut writer = Fixed::<5>::new();
+    for piece in ["", "ab", "cdef", "cde", "", "f"] {
+        let outcome = writer.write_str(piece);
+        table.put_fixed(outcome, &writer);
+    }
+    let mut writer = Fixed::<7>::new();
+    let outcome = write_debug(&mut writer, &[1u8, 23]);
+    table.put_fixed(outcome, &writer);
+    let mut writer = Fixed::<6>::new();
+    let outcome = write_debug(&mut writer, &[1u8, 23]);
+    table.put_fixed(outcome, &writer);
+    has_rows(&rt, &table, PIECES);
+}
