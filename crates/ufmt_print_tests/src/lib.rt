@@ -1,6 +1,6 @@
 #![tactic(auto)]
 
-//! Tests of the libraries that print, by public calls only.
+//! Tests of how values print, by public calls only.
 
 #[cfg(test)]
 mod tests;

@@ -1,8 +1,8 @@
 //! Tests of values over an allocator that isn't `Global`, and of a `String` over one as a writer.
-use super::rows::{Table, are_ok, has_rows, same};
 use std::alloc::{AllocError, Allocator};
 use std::collections::{BTreeMap, BTreeSet};
 use ufmt::{Formatter, write_debug, write_display};
+use ufmt_test_rows::rows::{Table, are_ok, has_rows, same};
 
 const VALUES: &str = "\
 [1, 2]~

@@ -1,8 +1,8 @@
 //! Tests of the pieces of blocks in both modes, with a bar after each piece.
-use super::rows::{Table, has_rows, list, map, set};
 use std::alloc::{AllocError, Global};
 use std::collections::{BTreeMap, BTreeSet};
 use ufmt_print_examples::{Braces, InPrettyMode, Pair, Parens, Session, Tuple, X};
+use ufmt_test_rows::rows::{Table, has_rows, list, map, set};
 
 const BLOCKS: &str = "\
 Pair| {| |x|: |1|, |y|: |2| |}|~

@@ -1,8 +1,8 @@
 //! Tests of the texts of std's collections. They are those of core::fmt, and those of ufmt 0.2.0
 //! except where a comment says so. `tools/expected/show VALUE` prints them again.
-use super::rows::{Table, has_rows, list, map, repeated, same, set};
 use std::alloc::{AllocError, Global};
 use std::collections::{BTreeMap, BTreeSet};
+use ufmt_test_rows::rows::{Table, has_rows, list, map, repeated, same, set};
 
 const LIKE_UFMT: &str = "\
 [];

@@ -1,11 +1,15 @@
 //! Tests of `Decimal`, and of the lines of `ufmt_print_examples` with numbers as firmware prints them.
-use super::printed::{Displayed, ZeroPadded};
-use super::rows::{Table, has_rows};
 use ufmt::{Decimal, Formatter, uDisplay, uDisplayZeros};
 use ufmt_print_examples::{Time, write_status, write_time};
+use ufmt_test_rows::printed::{Displayed, ZeroPadded};
+use ufmt_test_rows::rows::{Table, has_rows};
 
-impl Table {
+trait DecimalRows {
     // Adds a row of the number's text by `uDisplay`, and with zeros to widths 8 and 25, a bar after each.
+    fn decimal(&mut self, value: i64, places: u8);
+}
+
+impl DecimalRows for Table {
     fn decimal(&mut self, value: i64, places: u8) {
         let decimal = Decimal { value, places };
         let mut row = String::new(self.alloc());

@@ -1,7 +1,7 @@
 //! Tests of values that are one piece in both modes, and of quoted texts, whose escapes are pieces.
-use super::printed::Displayed;
-use super::rows::{Table, has_rows, repeated, same};
 use std::alloc::{AllocError, Global};
+use ufmt_test_rows::printed::Displayed;
+use ufmt_test_rows::rows::{Table, has_rows, repeated, same};
 
 // Each escape is a piece, and so is each stretch between escapes.
 const QUOTED: &str = r#""|"|;

@@ -1,7 +1,7 @@
 //! Tests of tuples and lists with hundreds of entries.
-use super::rows::{map, repeated, same};
 use std::alloc::{AllocError, Global};
 use ufmt::{Formatter, fmt_pretty, uWrite};
+use ufmt_test_rows::rows::{map, repeated, same};
 
 // Writes an unnamed tuple of `count` zeros. Returns whether it was open before each call.
 fn write_zeros<W: uWrite>(f: &mut Formatter<W>, count: u16) -> Result<bool, W::Error> {

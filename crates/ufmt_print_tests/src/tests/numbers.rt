@@ -1,6 +1,5 @@
 //! Tests of numbers: each is one piece by both traits and in both modes, and its decimal text is
 //! right.
-use super::rows::{Table, has_rows, same};
 use std::alloc::{AllocError, Global};
 use std::fmt::Display;
 use std::num::{
@@ -8,6 +7,8 @@ use std::num::{
     NonZeroU16, NonZeroU32, NonZeroU64, NonZeroU128, NonZeroUsize,
 };
 use ufmt::{Formatter, uDebug, uDisplay};
+use ufmt_test_rows::put_nonzero;
+use ufmt_test_rows::rows::{Table, has_rows, same};
 
 const NUMBERS: &str = "\
 0|;

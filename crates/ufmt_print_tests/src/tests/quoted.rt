@@ -1,9 +1,9 @@
 //! Tests of quoted texts and characters: each escape, and ASCII as core::fmt prints it.
 //! `tools/expected/show VALUE` prints one again.
-use super::rows::{Table, has_rows, joined_if_different, map, same};
-use super::text_rows::texts_of;
 use std::alloc::{AllocError, Global};
 use ufmt_print_examples::Message;
+use ufmt_test_rows::rows::{Table, has_rows, joined_if_different, map, same};
+use ufmt_test_rows::text_rows::texts_of;
 
 const QUOTED: &str = "\
 \"\";

@@ -1,7 +1,5 @@
 //! Tests of the pieces of std's shared values, queues, hashed collections, ranges and small types, by each trait that
 //! they have.
-use super::printed::Displayed;
-use super::rows::{Table, has_rows};
 use super::std_types::{hashed_set, linked_list};
 use std::alloc::{AllocError, Global};
 use std::borrow::{Cow, CowStr};
@@ -14,6 +12,8 @@ use std::ops::{Bound, ControlFlow};
 use std::rc::{Rc, RcStr};
 use std::sync::{Arc, ArcStr};
 use ufmt::cells::{CellValue, RefCellValue};
+use ufmt_test_rows::printed::Displayed;
+use ufmt_test_rows::rows::{Table, has_rows};
 
 const COLLECTIONS_AND_RANGES: &str = "\
 [|1|, |2|]|~

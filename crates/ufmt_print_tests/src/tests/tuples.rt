@@ -1,6 +1,6 @@
 //! Tests of tuples with three to twelve fields. They print as by core::fmt. `blocks` has shorter
 //! ones. `tools/expected/show VALUE` prints them again.
-use super::rows::{Table, has_rows};
+use ufmt_test_rows::rows::{Table, has_rows};
 
 const TUPLES: &str = "\
 (1, 2, 3);

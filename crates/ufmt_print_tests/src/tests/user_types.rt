@@ -1,7 +1,5 @@
 //! Tests of a user's own types. `blocks` has pairs, tuples, and structs without fields.
 //! `tools/expected/show '{ #[derive(Debug)] struct A { x: i32 } A { x: 1 } }'` prints such texts by core::fmt.
-use super::forwarded;
-use super::rows::{Table, has_rows, list};
 use std::alloc::{AllocError, Global};
 use std::borrow::CowStr;
 use std::collections::{BTreeMap, VecDeque};
@@ -11,6 +9,8 @@ use ufmt_print_examples::{
     I32, Json, Letter, Link, LinkEvent, Measurement, Message, Nested, Node, Pair, Port, Ports,
     Scores, Session, Temperature, Tree, Tuple, Users, Window, X, Y, log, print,
 };
+use ufmt_test_rows::forwarded;
+use ufmt_test_rows::rows::{Table, has_rows, list};
 
 // A derive of Rust's `Debug` prints the same, and of ports and scores `debug_map` and `debug_list` of core::fmt.
 const TYPES: &str = "\

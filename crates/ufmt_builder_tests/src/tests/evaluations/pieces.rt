@@ -1,8 +1,8 @@
 //! Tests of what `pieces!` evaluates: all of its values, before a piece can be written.
 use super::Turns;
-use crate::tests::rows::{Table, has_rows};
 use ufmt::pieces;
 use ufmt::pieces::Line;
+use ufmt_test_rows::rows::{Table, has_rows};
 
 // The line is made, and not written.
 fn take<L: Line>(_line: &L) {}

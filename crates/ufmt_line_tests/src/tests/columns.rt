@@ -1,8 +1,6 @@
 //! Tests of columns. Spaces come in pieces of up to 64, other fills one in a piece.
 ghost use Rattle.ufmt.specs.Document.{leaf};
 
-use super::printed::{PREFIXED, Printed};
-use super::rows::{Table, has_rows, same};
 use std::alloc::{AllocError, Global};
 use std::cell::Cell;
 use std::test::Fail;
@@ -11,6 +9,8 @@ use ufmt::{
     Align, Column, Formatter, Line, laws, line_into, pieces, uDebug, uWrite, uwrite, write_line,
 };
 use ufmt_print_examples::{Counter, write_row};
+use ufmt_test_rows::printed::{PREFIXED, Printed};
+use ufmt_test_rows::rows::{Table, has_rows, same};
 
 fn column(align: Align, fill: char, width: usize) -> Column {
     Column { width, align, fill }

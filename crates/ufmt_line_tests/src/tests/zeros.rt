@@ -1,15 +1,23 @@
 //! Tests of `fmt_zeros` and of the mark `zeros`. Their pieces are the sign, each zero, and the digits.
-use super::printed::{Printed, ZeroPadded};
-use super::rows::{Table, has_rows};
 use std::num::{
     NonZeroI8, NonZeroI16, NonZeroI32, NonZeroI64, NonZeroI128, NonZeroIsize, NonZeroU8,
     NonZeroU16, NonZeroU32, NonZeroU64, NonZeroU128, NonZeroUsize, Saturating, Wrapping,
 };
 use ufmt::pieces::Line;
 use ufmt::{Align, Column, Formatter, HexOptions, laws, pieces, uDisplayZeros, uWrite, uwrite};
+use ufmt_test_rows::printed::{Printed, ZeroPadded};
+use ufmt_test_rows::put_nonzero;
+use ufmt_test_rows::rows::{Table, has_rows};
 
-impl Table {
+trait ZeroRows {
     // Adds a row of the number's texts at each of these widths, a bar after each.
+    fn to_widths<N: uDisplayZeros + Copy + Drop>(&mut self, number: N);
+
+    // Adds a row of the number's pieces at width 4.
+    fn zeros<N: uDisplayZeros + Drop>(&mut self, number: N);
+}
+
+impl ZeroRows for Table {
     fn to_widths<N: uDisplayZeros + Copy + Drop>(&mut self, number: N) {
         let mut row = String::new(self.alloc());
         for width in [0, 1, 2, 5, 12] {
@@ -22,7 +30,6 @@ impl Table {
         self.put(row.as_str());
     }
 
-    // Adds a row of the number's pieces at width 4.
     fn zeros<N: uDisplayZeros + Drop>(&mut self, number: N) {
         self.pieces(&ZeroPadded { number, width: 4 });
     }

@@ -1,11 +1,11 @@
 //! Tests of widths that no buffer holds: a call ends where its buffer does, or as soon as its text is known to be as wide
 //! as a column.
-use super::rows::{Table, has_rows};
 use ufmt::pieces::{Display, InColumn};
 use ufmt::{
     Align, Column, Decimal, HexDump, HexOptions, Line, hex_dump_into, line_cut_into, line_into,
     pieces,
 };
+use ufmt_test_rows::rows::{Table, has_rows};
 
 const ZEROS: HexOptions = HexOptions {
     upper_case: false,
@@ -28,8 +28,14 @@ const DUMP: HexDump = HexDump {
     ascii: true,
 };
 
-impl Table {
+trait FullRows {
     // Adds a row of a line in a buffer of 12 bytes, and of as much of it as fits.
+    fn put_full_line<L: Line>(&mut self, line: &L);
+
+    fn put_dump(&mut self, dump: &HexDump);
+}
+
+impl FullRows for Table {
     fn put_full_line<L: Line>(&mut self, line: &L) {
         let (mut bytes, mut cut_bytes) = ([b'~'; 12], [b'~'; 12]);
         self.put_outcome(line_into(&mut bytes, line), &bytes);

@@ -1,6 +1,6 @@
 //! Rows of a value's texts, for values whose pieces another test has.
-use super::printed::{Pretty, Printed, print_to};
-use super::rows::{Table, joined_if_different};
+use crate::printed::{Pretty, Printed, print_to};
+use crate::rows::{Table, joined_if_different};
 use std::alloc::{AllocError, Global};
 use ufmt::{Cursor, uDebug};
 

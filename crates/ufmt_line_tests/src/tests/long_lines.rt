@@ -10,9 +10,9 @@ ghost use Rattle.ufmt.specs.ValueDocuments.{integer, number, str};
 ghost use Rattle.ufmt.specs.Zeros.{zero_padded};
 ghost use Rattle.ufmt_print_examples.specs.Logger.{measurement_document};
 
-use super::rows::{Table, has_rows};
 use ufmt::{Align, Column, Full, HexOptions, line_into, pieces};
 use ufmt_print_examples::Measurement;
+use ufmt_test_rows::rows::{Table, has_rows};
 
 const HEX: HexOptions = HexOptions {
     upper_case: false,
@@ -108,8 +108,12 @@ Ok(258) Measurement { channel: 3, celsius: -4 } at -3, 0x0007, -003, Measurement
 a-3-37Measurement { channel: 3, celsius: -4 }-3;
 ";
 
-impl Table {
+trait LineRows {
     // Adds a row of what the call returned, and of the text that it printed.
+    fn put_line(&mut self, outcome: Result<usize, Full>, buffer: &[u8]);
+}
+
+impl LineRows for Table {
     fn put_line(&mut self, outcome: Result<usize, Full>, buffer: &[u8]) {
         let length = outcome.unwrap_or(0);
         self.put_outcome(outcome, buffer.get(..length).unwrap_or(&[]));

@@ -1,11 +1,11 @@
 //! Tests of the formatter's own calls: `write_str`, `write_char` and `pretty`.
 ghost use Rattle.std.specs.Prelude.{[], ⊤};
 
-use super::printed::{Printed, print_to};
-use super::rows::{are_ok, same};
-use super::writers::Recorded;
 use std::alloc::AllocError;
 use ufmt::{Cursor, Formatter, Full, uWrite};
+use ufmt_test_rows::printed::{Printed, print_to};
+use ufmt_test_rows::rows::{are_ok, same};
+use ufmt_test_rows::writers::Recorded;
 
 #[test]
 fn write_str_and_write_char_reach_the_writer(rt: HostRuntime) {

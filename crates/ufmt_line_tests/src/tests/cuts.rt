@@ -4,23 +4,29 @@
 ghost use Rattle.std.specs.Prelude.{codes};
 ghost use Rattle.ufmt.specs.Document.{leaf};
 
-use super::rows::{Table, has_rows, repeated, same};
 use std::cell::Cell;
 use ufmt::{
     Cut, Formatter, Full, HexOptions, Truncating, debug_cut_into, display_cut_into, line_cut_into,
     pieces, pretty_cut_into, uDebug, uDisplay, uWrite, write_debug,
 };
 use ufmt_print_examples::{Pair, log_cut};
+use ufmt_test_rows::rows::{Table, has_rows, repeated, same};
 
-impl Table {
+trait CutRows {
     // Adds a row of a cut, and of the buffer after it.
+    fn put_cut(&mut self, cut: Cut, left: &[u8]);
+
+    // Adds a row of what a call returned, and of what then remains and is written.
+    fn put_truncating(&mut self, outcome: Result<(), Full>, writer: &Truncating<'_>);
+}
+
+impl CutRows for Table {
     fn put_cut(&mut self, cut: Cut, left: &[u8]) {
         let text = str::from_utf8(left).unwrap_or("bytes that are no UTF-8");
         let row = format!(in self.alloc(); "{} {} {text}", cut.length, cut.is_whole);
         self.put_made(row);
     }
 
-    // Adds a row of what a call returned, and of what then remains and is written.
     fn put_truncating(&mut self, outcome: Result<(), Full>, writer: &Truncating<'_>) {
         let outcome = outcome.map(|()| writer.remaining());
         self.put_outcome(outcome, writer.written());

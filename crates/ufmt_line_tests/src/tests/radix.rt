@@ -1,11 +1,12 @@
 //! Tests of `fmt_radix` and of the marks `bin` and `oct`. Their pieces are as those of `fmt_hex`.
-use super::printed::{Digits, Printed};
-use super::rows::{Table, has_rows};
 use std::num::{
     NonZeroI8, NonZeroI16, NonZeroI32, NonZeroI64, NonZeroI128, NonZeroIsize, NonZeroU8,
     NonZeroU16, NonZeroU32, NonZeroU64, NonZeroU128, NonZeroUsize, Saturating, Wrapping,
 };
 use ufmt::{Formatter, HexOptions, Radix, pieces, uDisplayRadix, uWrite, uwrite};
+use ufmt_test_rows::printed::{Digits, Printed};
+use ufmt_test_rows::put_nonzero;
+use ufmt_test_rows::rows::{Table, has_rows};
 
 // Whether there is a prefix, the pad byte, and the pad length.
 const OPTIONS: [(bool, u8, usize); 6] = [
@@ -26,8 +27,12 @@ fn options((ox_prefix, pad_char, pad_length): (bool, u8, usize)) -> HexOptions {
     }
 }
 
-impl Table {
+trait RadixRows {
     // Adds a row of the number's texts in each radix and with each of the options, a bar after each.
+    fn in_each_radix<N: uDisplayRadix + Copy + Drop>(&mut self, number: N);
+}
+
+impl RadixRows for Table {
     fn in_each_radix<N: uDisplayRadix + Copy + Drop>(&mut self, number: N) {
         let mut row = String::new(self.alloc());
         for radix in [Radix::Binary, Radix::Octal, Radix::Hexadecimal] {
@@ -105,8 +110,12 @@ fn numbers_print_in_each_radix_as_by_rustc(rt: HostRuntime) {
     has_rows(&rt, &table, BY_RUSTC);
 }
 
-impl Table {
+trait BinaryRows {
     // Adds a row of the pieces of the number's binary digits.
+    fn binary<N: uDisplayRadix + Drop>(&mut self, number: N);
+}
+
+impl BinaryRows for Table {
     fn binary<N: uDisplayRadix + Drop>(&mut self, number: N) {
         let options = options((true, b'0', 0));
         if options.has_ascii_pad() {

@@ -1,7 +1,7 @@
 //! Rows of a value's pieces. The value is also printed to writers that fail at each piece.
-use super::printed::{Displayed, Left, Printed, print_to};
-use super::rows::{Table, joined_if_different};
-use super::writers::{FailAt, Recorded};
+use crate::printed::{Displayed, Left, Printed, print_to};
+use crate::rows::{Table, joined_if_different};
+use crate::writers::{FailAt, Recorded};
 use std::alloc::{AllocError, Global};
 use ufmt::{Cursor, Full, uDebug, uDisplay};
 

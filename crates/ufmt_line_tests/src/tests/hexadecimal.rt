@@ -1,12 +1,13 @@
 //! Tests of `fmt_hex` and `with_stuff`. Their pieces are the prefix, each byte of padding, and the
 //! digits or the payload.
-use super::printed::{Hexadecimal, Payload, print_to};
-use super::rows::{Table, has_rows, same};
 use std::num::{
     NonZeroI8, NonZeroI16, NonZeroI32, NonZeroI64, NonZeroI128, NonZeroIsize, NonZeroU8,
     NonZeroU16, NonZeroU32, NonZeroU64, NonZeroU128, NonZeroUsize, Saturating, Wrapping,
 };
 use ufmt::{Cursor, HexOptions, uDisplayHex};
+use ufmt_test_rows::printed::{Hexadecimal, Payload, print_to};
+use ufmt_test_rows::put_nonzero;
+use ufmt_test_rows::rows::{Table, has_rows, same};
 
 fn lower_case(ox_prefix: bool, pad_char: u8, pad_length: usize) -> HexOptions {
     HexOptions {
@@ -26,8 +27,16 @@ fn upper_case(ox_prefix: bool, pad_char: u8, pad_length: usize) -> HexOptions {
     }
 }
 
-impl Table {
+trait HexadecimalRows {
     // Adds a row of the padded number's pieces, if the pad byte is ASCII.
+    fn padded<N: uDisplayHex + Drop>(&mut self, number: N, options: HexOptions);
+
+    fn hexadecimal<N: uDisplayHex + Drop>(&mut self, number: N);
+
+    fn payload(&mut self, payload: &str, options: HexOptions);
+}
+
+impl HexadecimalRows for Table {
     fn padded<N: uDisplayHex + Drop>(&mut self, number: N, options: HexOptions) {
         if options.has_ascii_pad() {
             self.pieces(&Hexadecimal { number, options });
@@ -157,8 +166,12 @@ fn numbers_that_are_held_print_in_hexadecimal(rt: HostRuntime) {
     has_rows(&rt, &table, HELD);
 }
 
-impl Table {
+trait RowsPastABuffer {
     // Adds a row of what a padded 33 leaves in a buffer of eight bytes.
+    fn past_a_buffer(&mut self, options: HexOptions);
+}
+
+impl RowsPastABuffer for Table {
     fn past_a_buffer(&mut self, options: HexOptions) {
         if !options.has_ascii_pad() {
             return self.put_nothing();

@@ -11,6 +11,17 @@ pub fn same<T: PartialEq + Debug + Drop>(rt: &impl Abort, given: T, wanted: T, c
     assert_eq!(rt; given, wanted, "{case}");
 }
 
+/// Adds a row of each of these nonzero numbers by a method of the table.
+#[macro_export]
+macro_rules! put_nonzero {
+    ($table:ident.$put:ident: $($number:ident $value:expr),*) => {
+        $(match $number::new($value) {
+            Some(number) => $table.$put(number),
+            None => $table.put_nothing(),
+        })*
+    };
+}
+
 /// Asserts that the table has these rows.
 pub fn has_rows(rt: &impl Abort, table: &Table, wanted: &str) {
     let given = table.text().unwrap_or("no memory for a row");

@@ -1,10 +1,14 @@
 //! Tests of a user's own writer, which keeps its bytes in a fixed array.
-use super::rows::{Table, has_rows};
 use ufmt::{Full, uWrite, write_debug};
 use ufmt_print_examples::Fixed;
+use ufmt_test_rows::rows::{Table, has_rows};
 
-impl Table {
+trait FixedRows {
     // Adds a row of what a call returned, and of what is written then.
+    fn put_fixed<const N: usize>(&mut self, outcome: Result<(), Full>, writer: &Fixed<N>);
+}
+
+impl FixedRows for Table {
     fn put_fixed<const N: usize>(&mut self, outcome: Result<(), Full>, writer: &Fixed<N>) {
         let outcome = outcome.map(|()| writer.written().len());
         self.put_outcome(outcome, writer.written());

@@ -1,9 +1,13 @@
 //! Tests of `Cursor`, of `write_to_buffer`, and of a formatter that continues after a failed entry.
-use super::rows::{Table, has_rows, same};
 use ufmt::{Cursor, Formatter, Full, laws, uWrite, write_debug};
+use ufmt_test_rows::rows::{Table, has_rows, same};
 
-impl Table {
+trait CursorRows {
     // Adds a row of what a call on the cursor returned, and of what then remains and is written.
+    fn put_cursor(&mut self, outcome: Result<(), Full>, cursor: &Cursor<'_>);
+}
+
+impl CursorRows for Table {
     fn put_cursor(&mut self, outcome: Result<(), Full>, cursor: &Cursor<'_>) {
         let outcome = outcome.map(|()| cursor.remaining());
         self.put_outcome(outcome, cursor.written());
