@@ -11,14 +11,15 @@ pub fn same<T: PartialEq + Debug + Drop>(rt: &impl Abort, given: T, wanted: T, c
     assert_eq!(rt; given, wanted, "{case}");
 }
 
-/// Adds a row of each of these nonzero numbers by a method of the table.
+/// Adds a row of each of these nonzero numbers by a method of the table, and after an arrow what is wanted of it.
 #[macro_export]
 macro_rules! put_nonzero {
-    ($table:ident.$put:ident: $($number:ident $value:expr),*) => {
+    ($table:ident.$put:ident: $($number:ident $value:expr => $wanted:expr),*) => {
         $(match $number::new($value) {
             Some(number) => $table.$put(number),
             None => $table.put_nothing(),
-        })*
+        }
+        $table.wants($wanted);)*
     };
 }
 
@@ -32,11 +33,17 @@ pub fn has_rows(rt: &impl Abort, table: &Table, wanted: &str) {
     assert_eq!(rt; given, wanted);
 }
 
+/// Asserts that each row of the table is what is wanted of it.
+pub fn has_wanted_rows(rt: &impl Abort, table: &Table) {
+    has_rows(rt, table, table.wanted.as_str());
+}
+
 /// Rows, one after another, with a semicolon and a line feed after each.
 #[derive(Drop)]
 pub struct Table {
     alloc: Global,
     text: String,
+    wanted: String,
     has_all: bool,
 }
 
@@ -45,6 +52,7 @@ impl Table {
         Table {
             alloc,
             text: String::new(alloc),
+            wanted: String::new(alloc),
             has_all: true,
         }
     }
@@ -60,6 +68,13 @@ impl Table {
         } else {
             None
         }
+    }
+
+    /// Says what is wanted of the row that was added last. It stands beside the row's value, so that a failure names it.
+    pub fn wants(&mut self, row: &str) {
+        let row = self.wanted.push_str(row);
+        let end = self.wanted.push_str(";\n");
+        self.has_all &= row.is_ok() && end.is_ok();
     }
 
     /// Adds a row.

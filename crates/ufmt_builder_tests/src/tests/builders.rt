@@ -2,7 +2,7 @@
 use std::collections::BTreeMap;
 use ufmt::{Formatter, uDebug, uWrite};
 use ufmt_test_rows::printed::Printed;
-use ufmt_test_rows::rows::{Table, has_rows, map};
+use ufmt_test_rows::rows::{Table, has_wanted_rows, map};
 
 /// What builders write.
 #[derive(Drop)]
@@ -79,58 +79,84 @@ impl Printed for Built {
     }
 }
 
-const STRUCTS_AND_TUPLES: &str = "\
-S| {| |m|: |{|1|: |2|}|, |n|: |3| |}|~
-S| {|\n|    |m|: |{|\n|    |    |1|: |2|,\n|    |}|,\n|    |n|: |3|,\n|}|;
-A|;
-|;
-T|;
-|(|1|,|)|~
-|(|\n|    |1|,\n|)|;
-T|(|1|)|~
-T|(|\n|    |1|,\n|)|;
-|(|1|, |2|)|~
-|(|\n|    |1|,\n|    |2|,\n|)|;
-T|(|1|, |2|)|~
-T|(|\n|    |1|,\n|    |2|,\n|)|;
-| {| ||: |1|, ||: |2| |}|~
-| {|\n|    ||: |1|,\n|    ||: |2|,\n|}|;
-| {| ||: |1|, ||: |2| |}|~
-| {|\n|    ||: |1|,\n|    ||: |2|,\n|}|;
-|||(|1|,|)|~
-|||(|\n|    |1|,\n|)|;
-| { .. }|;
-A| { .. }|;
-| {| |m|: |1|, |n|: |2|, ..| |}|~
-| {|\n|    |m|: |1|,\n|    |n|: |2|,\n|    |..\n|}|;
-S| {| |m|: |1|, |n|: |2|, ..| |}|~
-S| {|\n|    |m|: |1|,\n|    |n|: |2|,\n|    |..\n|}|;
-A| { .. }|S| {| |m|: |1|, |n|: |2|, ..| |}|~
-A| { .. }|S| {|\n|    |m|: |1|,\n|    |n|: |2|,\n|    |..\n|}|;
-";
-
 #[test]
 fn builders_write_structs_and_tuples_in_pieces(rt: HostRuntime) {
     let mut table = Table::new(rt.alloc());
     table.pieces_of_made(map(rt.alloc(), &[(1u64, 2u64)]).map(Built::Settings));
-    for built in [
-        Built::Unit,
-        Built::NoField(""),
-        Built::NoField("T"),
-        Built::OneField(""),
-        Built::OneField("T"),
-        Built::TwoFields(""),
-        Built::TwoFields("T"),
-        Built::NoNames,
-        Built::NoNamesInOneCall,
-        Built::UnnamedInOneCall,
-        Built::OnlyDots(""),
-        Built::OnlyDots("A"),
-        Built::FieldsAndDots(""),
-        Built::FieldsAndDots("S"),
-        Built::DotsInOneCall,
+    table.wants(
+        "\
+S| {| |m|: |{|1|: |2|}|, |n|: |3| |}|~
+S| {|\n|    |m|: |{|\n|    |    |1|: |2|,\n|    |}|,\n|    |n|: |3|,\n|}|",
+    );
+    for (built, wanted) in [
+        (Built::Unit, "A|"),
+        (Built::NoField(""), "|"),
+        (Built::NoField("T"), "T|"),
+        (
+            Built::OneField(""),
+            "\
+|(|1|,|)|~
+|(|\n|    |1|,\n|)|",
+        ),
+        (
+            Built::OneField("T"),
+            "\
+T|(|1|)|~
+T|(|\n|    |1|,\n|)|",
+        ),
+        (
+            Built::TwoFields(""),
+            "\
+|(|1|, |2|)|~
+|(|\n|    |1|,\n|    |2|,\n|)|",
+        ),
+        (
+            Built::TwoFields("T"),
+            "\
+T|(|1|, |2|)|~
+T|(|\n|    |1|,\n|    |2|,\n|)|",
+        ),
+        (
+            Built::NoNames,
+            "\
+| {| ||: |1|, ||: |2| |}|~
+| {|\n|    ||: |1|,\n|    ||: |2|,\n|}|",
+        ),
+        (
+            Built::NoNamesInOneCall,
+            "\
+| {| ||: |1|, ||: |2| |}|~
+| {|\n|    ||: |1|,\n|    ||: |2|,\n|}|",
+        ),
+        (
+            Built::UnnamedInOneCall,
+            "\
+|||(|1|,|)|~
+|||(|\n|    |1|,\n|)|",
+        ),
+        (Built::OnlyDots(""), "| { .. }|"),
+        (Built::OnlyDots("A"), "A| { .. }|"),
+        (
+            Built::FieldsAndDots(""),
+            "\
+| {| |m|: |1|, |n|: |2|, ..| |}|~
+| {|\n|    |m|: |1|,\n|    |n|: |2|,\n|    |..\n|}|",
+        ),
+        (
+            Built::FieldsAndDots("S"),
+            "\
+S| {| |m|: |1|, |n|: |2|, ..| |}|~
+S| {|\n|    |m|: |1|,\n|    |n|: |2|,\n|    |..\n|}|",
+        ),
+        (
+            Built::DotsInOneCall,
+            "\
+A| { .. }|S| {| |m|: |1|, |n|: |2|, ..| |}|~
+A| { .. }|S| {|\n|    |m|: |1|,\n|    |n|: |2|,\n|    |..\n|}|",
+        ),
     ] {
         table.pieces(&built);
+        table.wants(wanted);
     }
-    has_rows(&rt, &table, STRUCTS_AND_TUPLES);
+    has_wanted_rows(&rt, &table);
 }

@@ -10,7 +10,7 @@ use ufmt::{
 };
 use ufmt_print_examples::{Counter, write_row};
 use ufmt_test_rows::printed::{PREFIXED, Printed};
-use ufmt_test_rows::rows::{Table, has_rows, same};
+use ufmt_test_rows::rows::{Table, has_rows, has_wanted_rows, same};
 
 fn column(align: Align, fill: char, width: usize) -> Column {
     Column { width, align, fill }
@@ -134,88 +134,82 @@ impl Printed for Columns {
     }
 }
 
-const VALUES: &str = "\
--|-42|-|-|;
-    |7|;
-\"|a|\\\"|b|\"|.|.|.|;
-€|é|€|€|;
- |true|  |;
-         ||(|1|, |\"|é|\"|)|         |~
-   ||(|
-|    |1|,
-|    |\"|é|\"|,
-|)|    |;
-    |[|
-|    |2|,
-|]|;
-0x|0|0|ff|  |;
-a|  |,|bcde|;
-   |1|-|  |23|;
-0x|0|0|0|a| |0x|fffff|;
-abc|abc|abc|;
-                                                                |      ||;
-                                                                |x|                                                                |;
-    |*|*|8|*|*|;
-[|                ||(|1|, |\"|é|\"|)|                |]|~
-[|
-|    |    ||(|
-|    |    |1|,
-|    |    |\"|é|\"|,
-|    |)|     |,
-|]|;
-n=|   |5|, |0x|0|0|ff|!
-|;
-7|    |\"|a|\"|  |()|   |0x|0|0|ff|7|    |\"|a|\"|  |()|   |0x|0|0|ff|\"|b|\"|  |0x|0|0|10|-|0x|0|0|11|;
-";
-
-// Adds a row of the pieces of each line.
+// Adds a row of the pieces of each line, and after an arrow what is wanted of it.
 macro_rules! put_lines {
-    ($table:ident; $(($($line:tt)*))*) => {
-        $($table.pieces(&InEitherMode(pieces!($($line)*)));)*
+    ($table:ident; $(($($line:tt)*) => $wanted:tt)*) => {
+        $($table.pieces(&InEitherMode(pieces!($($line)*)));
+        $table.wants($wanted);)*
     };
 }
-
-const PAST_A_BUFFER: &str = "\
-Err(Full) x                                                                ~~~~~~~~~~~~~~~;
-Err(Full) x*******************************************************************************;
-Err(Full)                                                                 ~~~~~~~~~~~~~~~~;
-Err(Full) ********************************************************************************;
-Err(Full)                                                                 ~~~~~~~~~~~~~~~~;
-Err(Full) ********************************************************************************;
-";
 
 #[test]
 fn a_column_that_no_buffer_holds_fails_with_full(rt: HostRuntime) {
     let mut table = Table::new(rt.alloc());
-    for align in [Align::Left, Align::Center, Align::Right] {
-        for fill in [' ', '*'] {
-            let mut bytes = [b'~'; 80];
-            let widest = column(align, fill, usize::MAX);
-            let outcome = line_into(&mut bytes, &pieces!(display 'x' in widest));
-            table.put_outcome(outcome, &bytes);
-        }
+    for (align, fill, wanted) in [
+        (
+            Align::Left,
+            ' ',
+            "Err(Full) x                                                                ~~~~~~~~~~~~~~~",
+        ),
+        (
+            Align::Left,
+            '*',
+            "Err(Full) x*******************************************************************************",
+        ),
+        (
+            Align::Center,
+            ' ',
+            "Err(Full)                                                                 ~~~~~~~~~~~~~~~~",
+        ),
+        (
+            Align::Center,
+            '*',
+            "Err(Full) ********************************************************************************",
+        ),
+        (
+            Align::Right,
+            ' ',
+            "Err(Full)                                                                 ~~~~~~~~~~~~~~~~",
+        ),
+        (
+            Align::Right,
+            '*',
+            "Err(Full) ********************************************************************************",
+        ),
+    ] {
+        let mut bytes = [b'~'; 80];
+        let widest = column(align, fill, usize::MAX);
+        let outcome = line_into(&mut bytes, &pieces!(display 'x' in widest));
+        table.put_outcome(outcome, &bytes);
+        table.wants(wanted);
     }
-    has_rows(&rt, &table, PAST_A_BUFFER);
+    has_wanted_rows(&rt, &table);
 }
 
 #[test]
 fn values_are_padded_as_their_texts_and_as_the_laws_say(rt: HostRuntime) {
     let mut table = Table::new(rt.alloc());
     put_lines!(table;
-        (display (-42i64) in column(Align::Center, '-', 6))
-        (display 7i32 in right(5))
-        (debug "a\"b" in column(Align::Left, '.', 9))
-        (display 'é' in column(Align::Center, '€', 4))
-        (display true in center(7))
-        (debug (1u8, "é") in center(26))
-        (pretty [2u8] in right(14))
-        (hex 255u8 with PREFIXED in left(8))
-        (each display ["a", "bcde"] in (left(3)) between ",")
-        (each pretty [1u8, 23] in (right(4)) between "-")
-        (each hex [10u32, 0xf_ffff] with PREFIXED in (right(6)) between " ")
-        (display "abc" in right(0), display "abc" in right(3), display "abc" in right(2))
-        (display "" in right(70))
-        (display 'x' in center(129))
+        (display (-42i64) in column(Align::Center, '-', 6)) => "-|-42|-|-|"
+        (display 7i32 in right(5)) => "    |7|"
+        (debug "a\"b" in column(Align::Left, '.', 9)) => "\"|a|\\\"|b|\"|.|.|.|"
+        (display 'é' in column(Align::Center, '€', 4)) => "€|é|€|€|"
+        (display true in center(7)) => " |true|  |"
+        (debug (1u8, "é") in center(26)) => "         ||(|1|, |\"|é|\"|)|         |~
+   ||(|
+|    |1|,
+|    |\"|é|\"|,
+|)|    |"
+        (pretty [2u8] in right(14)) => "    |[|
+|    |2|,
+|]|"
+        (hex 255u8 with PREFIXED in left(8)) => "0x|0|0|ff|  |"
+        (each display ["a", "bcde"] in (left(3)) between ",") => "a|  |,|bcde|"
+        (each pretty [1u8, 23] in (right(4)) between "-") => "   |1|-|  |23|"
+        (each hex [10u32, 0xf_ffff] with PREFIXED in (right(6)) between " ") => "0x|0|0|0|a| |0x|fffff|"
+        (display "abc" in right(0), display "abc" in right(3), display "abc" in right(2)) => "abc|abc|abc|"
+        (display "" in right(70)) => "                                                                |      ||"
+        (display 'x' in center(129)) => "                                                                |x|                                                                |"
     );
     let starred = InColumn {
         mark: Display,
@@ -225,12 +219,37 @@ fn values_are_padded_as_their_texts_and_as_the_laws_say(rt: HostRuntime) {
         mark: starred,
         column: right(9),
     };
-    put_lines!(table; (each [8u8] by within between ""));
-    for columns in [Columns::InAList, Columns::ByUwrite, Columns::ByLaws] {
+    put_lines!(table;
+        (each [8u8] by within between "") => "    |*|*|8|*|*|"
+    );
+    for (columns, wanted) in [
+        (
+            Columns::InAList,
+            "\
+[|                ||(|1|, |\"|é|\"|)|                |]|~
+[|
+|    |    ||(|
+|    |    |1|,
+|    |    |\"|é|\"|,
+|    |)|     |,
+|]|",
+        ),
+        (
+            Columns::ByUwrite,
+            "\
+n=|   |5|, |0x|0|0|ff|!
+|",
+        ),
+        (
+            Columns::ByLaws,
+            "7|    |\"|a|\"|  |()|   |0x|0|0|ff|7|    |\"|a|\"|  |()|   |0x|0|0|ff|\"|b|\"|  |0x|0|0|10|-|0x|0|0|11|",
+        ),
+    ] {
         table.pieces(&columns);
+        table.wants(wanted);
     }
     laws::columns_are_filled();
-    has_rows(&rt, &table, VALUES);
+    has_wanted_rows(&rt, &table);
 }
 
 // A text that counts the calls of its `fmt`.
@@ -316,24 +335,30 @@ fn put_row(table: &mut Table, name: &str, count: u32, length: usize) {
     }
 }
 
-const COUNTERS: &str = "\
-Ok(31) pump      ....1203|  0x00ff  |
-~~~~~~~~~~~~~~~~~;
-Ok(32) überdruck .......0|  0x00ff  |
-~~~~~~~~~~~~~~~~;
-Ok(39) a very long name4294967295|  0x00ff  |
-~~~~~~~~~;
-Err(Full) pump      ..~~~~~~~~~~~~~~~~~~~~~~~~~~~~~~~~~~~~;
-Err(Full) ~~~~~~~~~~~~~~~~~~~~~~~~~~~~~~~~~~~~~~~~~~~~~~~~;
-";
-
 #[test]
 fn write_row_prints_columns(rt: HostRuntime) {
     let mut table = Table::new(rt.alloc());
     put_row(&mut table, "pump", 1203, 48);
+    table.wants(
+        "\
+Ok(31) pump      ....1203|  0x00ff  |
+~~~~~~~~~~~~~~~~~",
+    );
     put_row(&mut table, "überdruck", 0, 48);
+    table.wants(
+        "\
+Ok(32) überdruck .......0|  0x00ff  |
+~~~~~~~~~~~~~~~~",
+    );
     put_row(&mut table, "a very long name", u32::MAX, 48);
+    table.wants(
+        "\
+Ok(39) a very long name4294967295|  0x00ff  |
+~~~~~~~~~",
+    );
     put_row(&mut table, "pump", 1203, 12);
+    table.wants("Err(Full) pump      ..~~~~~~~~~~~~~~~~~~~~~~~~~~~~~~~~~~~~");
     put_row(&mut table, "pump", 1203, 0);
-    has_rows(&rt, &table, COUNTERS);
+    table.wants("Err(Full) ~~~~~~~~~~~~~~~~~~~~~~~~~~~~~~~~~~~~~~~~~~~~~~~~");
+    has_wanted_rows(&rt, &table);
 }

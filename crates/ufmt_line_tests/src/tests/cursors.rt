@@ -1,6 +1,6 @@
 //! Tests of `Cursor`, of `write_to_buffer`, and of a formatter that continues after a failed entry.
 use ufmt::{Cursor, Formatter, Full, laws, uWrite, write_debug};
-use ufmt_test_rows::rows::{Table, has_rows, same};
+use ufmt_test_rows::rows::{Table, has_wanted_rows, same};
 
 trait CursorRows {
     // Adds a row of what a call on the cursor returned, and of what then remains and is written.
@@ -14,32 +14,28 @@ impl CursorRows for Table {
     }
 }
 
-const TAKEN: &str = "\
-Ok(6) ;
-Ok(4) ab;
-Err(Full) ab;
-Ok(2) abé;
-Err(Full) abé;
-Ok(2) abé;
-Ok(0) ;
-Err(Full) ;
-";
-
 #[test]
 fn a_cursor_takes_pieces_that_fit(rt: HostRuntime) {
     let mut table = Table::new(rt.alloc());
     let mut buffer = *b"......";
     let mut cursor = Cursor::new(&mut buffer);
-    for piece in ["", "ab", "cdefg"] {
+    for (piece, wanted) in [
+        ("", "Ok(6) "),
+        ("ab", "Ok(4) ab"),
+        ("cdefg", "Err(Full) ab"),
+    ] {
         let outcome = cursor.write_str(piece);
         table.put_cursor(outcome, &cursor);
+        table.wants(wanted);
     }
-    for character in ['é', '€'] {
+    for (character, wanted) in [('é', "Ok(2) abé"), ('€', "Err(Full) abé")] {
         let outcome = cursor.write_char(character);
         table.put_cursor(outcome, &cursor);
+        table.wants(wanted);
     }
     let outcome = cursor.write_str("");
     table.put_cursor(outcome, &cursor);
+    table.wants("Ok(2) abé");
     same(&rt, cursor.remaining(), 2, "what remains");
     same(
         &rt,
@@ -48,39 +44,40 @@ fn a_cursor_takes_pieces_that_fit(rt: HostRuntime) {
         "the whole buffer",
     );
     let mut cursor = Cursor::new(&mut []);
-    for piece in ["", "a"] {
+    for (piece, wanted) in [("", "Ok(0) "), ("a", "Err(Full) ")] {
         let outcome = cursor.write_str(piece);
         table.put_cursor(outcome, &cursor);
+        table.wants(wanted);
     }
     same(&rt, cursor.remaining(), 0, "what remains");
-    has_rows(&rt, &table, TAKEN);
+    has_wanted_rows(&rt, &table);
 }
-
-const IN_EACH_ROOM: &str = "\
-Err(Full) ;
-Err(Full) (;
-Err(Full) (;
-Err(Full) (12;
-Err(Full) (12;
-Err(Full) (12, ;
-Err(Full) (12, ;
-Err(Full) (12, ;
-Err(Full) (12, ;
-Err(Full) (12, -345;
-Ok(0) (12, -345);
-Ok(1) (12, -345);
-";
 
 #[test]
 fn a_value_is_written_up_to_the_first_piece_that_does_not_fit(rt: HostRuntime) {
     let mut table = Table::new(rt.alloc());
-    for room in 0..12usize {
+    let in_each_room = [
+        "Err(Full) ",
+        "Err(Full) (",
+        "Err(Full) (",
+        "Err(Full) (12",
+        "Err(Full) (12",
+        "Err(Full) (12, ",
+        "Err(Full) (12, ",
+        "Err(Full) (12, ",
+        "Err(Full) (12, ",
+        "Err(Full) (12, -345",
+        "Ok(0) (12, -345)",
+        "Ok(1) (12, -345)",
+    ];
+    for (room, wanted) in in_each_room.iter().enumerate() {
         let mut buffer = [0u8; 12];
-        let mut cursor = Cursor::new(&mut buffer[..room]);
+        let mut cursor = Cursor::new(&mut buffer[..room.min(12)]);
         let outcome = write_debug(&mut cursor, &(12u8, -345i64));
         table.put_cursor(outcome, &cursor);
+        table.wants(wanted);
     }
-    has_rows(&rt, &table, IN_EACH_ROOM);
+    has_wanted_rows(&rt, &table);
 }
 
 #[test]
@@ -115,23 +112,22 @@ fn entry_then_text_to<W: uWrite<Error = Full>>(
     (outcome, (f.is_pretty(), f.depth()), f.into_inner())
 }
 
-const AFTER_AN_ENTRY: &str = "\
-Err(Full) [;
-Err(Full) [;
-Ok(0) [\nx;
-";
-
 // A buffer of one byte takes only the bracket. One of three also takes the line feed. The four
 // spaces of the entry don't fit then, but the text does.
 #[test]
 fn a_formatter_continues_after_a_failed_entry(rt: HostRuntime) {
     let mut table = Table::new(rt.alloc());
-    for (size, is_pretty) in [(1, false), (1, true), (3, true)] {
+    for ((size, is_pretty), wanted) in [
+        ((1, false), "Err(Full) ["),
+        ((1, true), "Err(Full) ["),
+        ((3, true), "Ok(0) [\nx"),
+    ] {
         let mut buffer = [0; 3];
         let writer = Cursor::new(&mut buffer[..size]);
         let (outcome, left, cursor) = entry_then_text_to(is_pretty, writer);
         same(&rt, left, (false, 0), "what is left");
         table.put_cursor(outcome, &cursor);
+        table.wants(wanted);
     }
-    has_rows(&rt, &table, AFTER_AN_ENTRY);
+    has_wanted_rows(&rt, &table);
 }

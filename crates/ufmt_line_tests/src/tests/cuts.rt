@@ -10,7 +10,7 @@ use ufmt::{
     pieces, pretty_cut_into, uDebug, uDisplay, uWrite, write_debug,
 };
 use ufmt_print_examples::{Pair, log_cut};
-use ufmt_test_rows::rows::{Table, has_rows, repeated, same};
+use ufmt_test_rows::rows::{Table, has_wanted_rows, repeated, same};
 
 trait CutRows {
     // Adds a row of a cut, and of the buffer after it.
@@ -101,53 +101,59 @@ fn a_text_is_cut_between_characters_where_the_buffer_ends(rt: HostRuntime) {
     }
 }
 
-const LOGGED: &str = "\
-64 false node 7: xxxxxxxxxxxxxxxxxxxxxxxxxxxxxxxxxxxxxxxxxxxxxxxxxxxxxxé;
-63 false node 7: xxxxxxxxxxxxxxxxxxxxxxxxxxxxxxxxxxxxxxxxxxxxxxxxxxxxxxx.;
-64 true node 7: xxxxxxxxxxxxxxxxxxxxxxxxxxxxxxxxxxxxxxxxxxxxxxxxxxxxxxxx;
-13 true node 7: short...................................................;
-";
-
 #[test]
 fn a_log_line_is_cut_at_64_bytes(rt: HostRuntime) {
     let mut table = Table::new(rt.alloc());
-    for (count, end) in [(54, "é€"), (55, "é€"), (56, ""), (0, "short")] {
+    for ((count, end), wanted) in [
+        (
+            (54, "é€"),
+            "64 false node 7: xxxxxxxxxxxxxxxxxxxxxxxxxxxxxxxxxxxxxxxxxxxxxxxxxxxxxxé",
+        ),
+        (
+            (55, "é€"),
+            "63 false node 7: xxxxxxxxxxxxxxxxxxxxxxxxxxxxxxxxxxxxxxxxxxxxxxxxxxxxxxx.",
+        ),
+        (
+            (56, ""),
+            "64 true node 7: xxxxxxxxxxxxxxxxxxxxxxxxxxxxxxxxxxxxxxxxxxxxxxxxxxxxxxxx",
+        ),
+        (
+            (0, "short"),
+            "13 true node 7: short...................................................",
+        ),
+    ] {
         if let Ok(message) = repeated(rt.alloc(), "", "x", count, end) {
             let mut buffer = [b'.'; 64];
             let cut = log_cut(&mut buffer, 7, message.as_str());
             table.put_cut(cut, &buffer);
+            table.wants(wanted);
         }
     }
-    has_rows(&rt, &table, LOGGED);
+    has_wanted_rows(&rt, &table);
 }
 
 // Five bytes: `ab`, and a character of three that fits. After a cut the shorter pieces fit no more.
-const AFTER_A_CUT: &str = "\
-Ok(5) ;
-Ok(3) ab;
-Err(Full) abé;
-Err(Full) abé;
-Err(Full) abé;
-Ok(0) abé;
-Err(Full) abé;
-Ok(3) a;
-Ok(1) aé;
-Err(Full) aé;
-Err(Full) aé;
-";
-
 #[test]
 fn after_a_cut_nothing_more_is_taken_and_characters_are_taken_whole(rt: HostRuntime) {
     let mut table = Table::new(rt.alloc());
     let mut buffer = *b".....";
     let mut writer = Truncating::new(&mut buffer);
     same(&rt, writer.is_cut(), false, "before the cut");
-    for piece in ["", "ab", "é€c", "d", "€", ""] {
+    for (piece, wanted) in [
+        ("", "Ok(5) "),
+        ("ab", "Ok(3) ab"),
+        ("é€c", "Err(Full) abé"),
+        ("d", "Err(Full) abé"),
+        ("€", "Err(Full) abé"),
+        ("", "Ok(0) abé"),
+    ] {
         let outcome = writer.write_str(piece);
         table.put_truncating(outcome, &writer);
+        table.wants(wanted);
     }
     let outcome = writer.write_char('e');
     table.put_truncating(outcome, &writer);
+    table.wants("Err(Full) abé");
     same(
         &rt,
         (writer.is_cut(), writer.remaining()),
@@ -162,12 +168,18 @@ fn after_a_cut_nothing_more_is_taken_and_characters_are_taken_whole(rt: HostRunt
     );
     let mut buffer = *b"....";
     let mut writer = Truncating::new(&mut buffer);
-    for character in ['a', 'é', 'é', 'b'] {
+    for (character, wanted) in [
+        ('a', "Ok(3) a"),
+        ('é', "Ok(1) aé"),
+        ('é', "Err(Full) aé"),
+        ('b', "Err(Full) aé"),
+    ] {
         let outcome = writer.write_char(character);
         table.put_truncating(outcome, &writer);
+        table.wants(wanted);
     }
     same(&rt, buffer.as_slice(), "aé.".as_bytes(), "the whole buffer");
-    has_rows(&rt, &table, AFTER_A_CUT);
+    has_wanted_rows(&rt, &table);
 }
 
 // A piece that fills the buffer exactly is no cut. The next one is, though nothing of it fits.

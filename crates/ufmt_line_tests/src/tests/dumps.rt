@@ -8,7 +8,7 @@ use ufmt::{Formatter, HexDump, hex_dump_into, laws, uWrite, write_hex_dump};
 use ufmt_print_examples::show_packet;
 use ufmt_test_rows::piece_rows::pieces_of;
 use ufmt_test_rows::printed::Printed;
-use ufmt_test_rows::rows::{Table, has_rows, same};
+use ufmt_test_rows::rows::{Table, has_wanted_rows, same};
 
 /// Bytes with a dump of them. Its pieces don't depend on the mode.
 #[derive(Drop)]
@@ -248,7 +248,13 @@ fn each_byte() -> [u8; 256] {
 // `xxd -g1` of the bytes from 0 to 255, `xxd -c40 -g1` of 33 bytes, and `xxd -c40 -g8` and `xxd -c100 -g3 -o7` of those
 // from 0 to 255
 // `xxd -c33 -g1` of three bytes: zeros, digits, the bytes, the spaces in place of 30 bytes, and the text
-const LONG_ROWS: &str = "\
+#[test]
+fn bytes_that_are_not_printable_are_dots_and_long_rows_come_in_pieces(rt: HostRuntime) {
+    let mut table = Table::new(rt.alloc());
+    let bytes = each_byte();
+    table.put_made(dump_of(rt.alloc(), &bytes, &HexDump::XXD));
+    table.wants(
+        "\
 00000000: 00 01 02 03 04 05 06 07 08 09 0a 0b 0c 0d 0e 0f  ................
 00000010: 10 11 12 13 14 15 16 17 18 19 1a 1b 1c 1d 1e 1f  ................
 00000020: 20 21 22 23 24 25 26 27 28 29 2a 2b 2c 2d 2e 2f   !\"#$%&'()*+,-./
@@ -265,9 +271,17 @@ const LONG_ROWS: &str = "\
 000000d0: d0 d1 d2 d3 d4 d5 d6 d7 d8 d9 da db dc dd de df  ................
 000000e0: e0 e1 e2 e3 e4 e5 e6 e7 e8 e9 ea eb ec ed ee ef  ................
 000000f0: f0 f1 f2 f3 f4 f5 f6 f7 f8 f9 fa fb fc fd fe ff  ................
-;
+",
+    );
+    table.put_made(dump_of(rt.alloc(), &BYTES, &in_rows(40, 1)));
+    table.wants(
+        "\
 00000000: 0b 30 55 7a 9f c4 e9 0e 33 58 7d a2 c7 ec 11 36 5b 80 a5 ca ef 14 39 5e 83 a8 cd f2 17 3c 61 86 ab                       .0Uz....3X}....6[.....9^.....<a..
-;
+",
+    );
+    table.put_made(dump_of(rt.alloc(), &bytes, &in_rows(40, 8)));
+    table.wants(
+        "\
 00000000: 0001020304050607 08090a0b0c0d0e0f 1011121314151617 18191a1b1c1d1e1f 2021222324252627  ................................ !\"#$%&'
 00000028: 28292a2b2c2d2e2f 3031323334353637 38393a3b3c3d3e3f 4041424344454647 48494a4b4c4d4e4f  ()*+,-./0123456789:;<=>?@ABCDEFGHIJKLMNO
 00000050: 5051525354555657 58595a5b5c5d5e5f 6061626364656667 68696a6b6c6d6e6f 7071727374757677  PQRSTUVWXYZ[\\]^_`abcdefghijklmnopqrstuvw
@@ -275,34 +289,30 @@ const LONG_ROWS: &str = "\
 000000a0: a0a1a2a3a4a5a6a7 a8a9aaabacadaeaf b0b1b2b3b4b5b6b7 b8b9babbbcbdbebf c0c1c2c3c4c5c6c7  ........................................
 000000c8: c8c9cacbcccdcecf d0d1d2d3d4d5d6d7 d8d9dadbdcdddedf e0e1e2e3e4e5e6e7 e8e9eaebecedeeef  ........................................
 000000f0: f0f1f2f3f4f5f6f7 f8f9fafbfcfdfeff                                                     ................
-;
-00000007: 000102 030405 060708 090a0b 0c0d0e 0f1011 121314 151617 18191a 1b1c1d 1e1f20 212223 242526 272829 2a2b2c 2d2e2f 303132 333435 363738 393a3b 3c3d3e 3f4041 424344 454647 48494a 4b4c4d 4e4f50 515253 545556 575859 5a5b5c 5d5e5f 606162 63  ................................ !\"#$%&'()*+,-./0123456789:;<=>?@ABCDEFGHIJKLMNOPQRSTUVWXYZ[\\]^_`abc
-0000006b: 646566 676869 6a6b6c 6d6e6f 707172 737475 767778 797a7b 7c7d7e 7f8081 828384 858687 88898a 8b8c8d 8e8f90 919293 949596 979899 9a9b9c 9d9e9f a0a1a2 a3a4a5 a6a7a8 a9aaab acadae afb0b1 b2b3b4 b5b6b7 b8b9ba bbbcbd bebfc0 c1c2c3 c4c5c6 c7  defghijklmnopqrstuvwxyz{|}~.........................................................................
-000000cf: c8c9ca cbcccd cecfd0 d1d2d3 d4d5d6 d7d8d9 dadbdc dddedf e0e1e2 e3e4e5 e6e7e8 e9eaeb ecedee eff0f1 f2f3f4 f5f6f7 f8f9fa fbfcfd feff                                                                                                         ........................................................
-;
-0000000|0|: |0b| 30| 55|                              |                              |                              |  |.0U|
-|;
-fffffffe|: |0b|30|
-|;
-";
-
-#[test]
-fn bytes_that_are_not_printable_are_dots_and_long_rows_come_in_pieces(rt: HostRuntime) {
-    let mut table = Table::new(rt.alloc());
-    let bytes = each_byte();
-    table.put_made(dump_of(rt.alloc(), &bytes, &HexDump::XXD));
-    table.put_made(dump_of(rt.alloc(), &BYTES, &in_rows(40, 1)));
-    table.put_made(dump_of(rt.alloc(), &bytes, &in_rows(40, 8)));
+",
+    );
     let long = HexDump {
         offset: Some(7),
         ..in_rows(100, 3)
     };
     table.put_made(dump_of(rt.alloc(), &bytes, &long));
+    table.wants(
+        "\
+00000007: 000102 030405 060708 090a0b 0c0d0e 0f1011 121314 151617 18191a 1b1c1d 1e1f20 212223 242526 272829 2a2b2c 2d2e2f 303132 333435 363738 393a3b 3c3d3e 3f4041 424344 454647 48494a 4b4c4d 4e4f50 515253 545556 575859 5a5b5c 5d5e5f 606162 63  ................................ !\"#$%&'()*+,-./0123456789:;<=>?@ABCDEFGHIJKLMNOPQRSTUVWXYZ[\\]^_`abc
+0000006b: 646566 676869 6a6b6c 6d6e6f 707172 737475 767778 797a7b 7c7d7e 7f8081 828384 858687 88898a 8b8c8d 8e8f90 919293 949596 979899 9a9b9c 9d9e9f a0a1a2 a3a4a5 a6a7a8 a9aaab acadae afb0b1 b2b3b4 b5b6b7 b8b9ba bbbcbd bebfc0 c1c2c3 c4c5c6 c7  defghijklmnopqrstuvwxyz{|}~.........................................................................
+000000cf: c8c9ca cbcccd cecfd0 d1d2d3 d4d5d6 d7d8d9 dadbdc dddedf e0e1e2 e3e4e5 e6e7e8 e9eaeb ecedee eff0f1 f2f3f4 f5f6f7 f8f9fa fbfcfd feff                                                                                                         ........................................................
+",
+    );
     laws::dump_rows_have_each_byte();
     table.pieces(&Dumped {
         bytes: &BYTES[..3],
         dump: in_rows(33, 1),
     });
+    table.wants(
+        "\
+0000000|0|: |0b| 30| 55|                              |                              |                              |  |.0U|
+|",
+    );
     let one_row = HexDump {
         per_row: usize::MAX,
         group: 0,
@@ -313,38 +323,59 @@ fn bytes_that_are_not_printable_are_dots_and_long_rows_come_in_pieces(rt: HostRu
         bytes: &BYTES[..2],
         dump: one_row,
     });
-    has_rows(&rt, &table, LONG_ROWS);
+    table.wants(
+        "\
+fffffffe|: |0b|30|
+|",
+    );
+    has_wanted_rows(&rt, &table);
 }
 
 // `xxd -c8 -g1` of 9 bytes
-const IN_BUFFERS: &str = "\
-Ok(81) 00000000: 0b 30 55 7a 9f c4 e9 0e  .0Uz....
-00000008: 33                       3
-~;
-Ok(81) 00000000: 0b 30 55 7a 9f c4 e9 0e  .0Uz....
-00000008: 33                       3
-;
-Err(Full) 00000000: 0b 30 55 7a 9f c4 e9 0e  .0Uz....
-~~~~~~~~~~~~~~~~~~~~~~~~~~~~~~~~~~~~;
-Err(Full) ~~~~~~~~~~~~~~~~~~~~~~~~~~~~~~~~~~~~~~~~~~~;
-Ok(0) ~~;
-Err(Full) 00000000: 0b~~~~;
-Err(Full) 00000000: 0b~~~~;
-";
-
 #[test]
 fn dumps_into_a_buffer_keep_what_fits(rt: HostRuntime) {
     let mut table = Table::new(rt.alloc());
-    for (count, length) in [(9, 82), (9, 81), (9, 80), (9, 43), (0, 2)] {
+    for ((count, length), wanted) in [
+        (
+            (9, 82),
+            "\
+Ok(81) 00000000: 0b 30 55 7a 9f c4 e9 0e  .0Uz....
+00000008: 33                       3
+~",
+        ),
+        (
+            (9, 81),
+            "\
+Ok(81) 00000000: 0b 30 55 7a 9f c4 e9 0e  .0Uz....
+00000008: 33                       3
+",
+        ),
+        (
+            (9, 80),
+            "\
+Err(Full) 00000000: 0b 30 55 7a 9f c4 e9 0e  .0Uz....
+~~~~~~~~~~~~~~~~~~~~~~~~~~~~~~~~~~~~",
+        ),
+        (
+            (9, 43),
+            "Err(Full) ~~~~~~~~~~~~~~~~~~~~~~~~~~~~~~~~~~~~~~~~~~~",
+        ),
+        ((0, 2), "Ok(0) ~~"),
+    ] {
         let mut bytes = [b'~'; 82];
         let outcome = show_packet(&mut bytes[..length], &BYTES[..count]);
         table.put_outcome(outcome, &bytes[..length]);
+        table.wants(wanted);
     }
     // A row of as many bytes as a `usize` counts has more spaces than any buffer holds.
-    for group in [0, 1] {
+    for (group, wanted) in [
+        (0, "Err(Full) 00000000: 0b~~~~"),
+        (1, "Err(Full) 00000000: 0b~~~~"),
+    ] {
         let mut bytes = [b'~'; 16];
         let outcome = hex_dump_into(&mut bytes, &BYTES[..1], &in_rows(usize::MAX, group));
         table.put_outcome(outcome, &bytes);
+        table.wants(wanted);
     }
-    has_rows(&rt, &table, IN_BUFFERS);
+    has_wanted_rows(&rt, &table);
 }

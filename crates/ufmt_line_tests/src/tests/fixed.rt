@@ -1,7 +1,7 @@
 //! Tests of a user's own writer, which keeps its bytes in a fixed array.
 use ufmt::{Full, uWrite, write_debug};
 use ufmt_print_examples::Fixed;
-use ufmt_test_rows::rows::{Table, has_rows};
+use ufmt_test_rows::rows::{Table, has_wanted_rows};
 
 trait FixedRows {
     // Adds a row of what a call returned, and of what is written then.
@@ -15,31 +15,30 @@ impl FixedRows for Table {
     }
 }
 
-const PIECES: &str = "\
-Ok(0) ;
-Ok(2) ab;
-Err(Full) ab;
-Ok(5) abcde;
-Ok(5) abcde;
-Err(Full) abcde;
-Ok(7) [1, 23];
-Err(Full) [1, 23;
-";
-
 #[test]
 fn a_fixed_writer_takes_pieces_whole(rt: HostRuntime) {
     let mut table = Table::new(rt.alloc());
     // A piece that fits exactly is taken, and nothing of one that doesn't fit.
     let mut writer = Fixed::<5>::new();
-    for piece in ["", "ab", "cdef", "cde", "", "f"] {
+    for (piece, wanted) in [
+        ("", "Ok(0) "),
+        ("ab", "Ok(2) ab"),
+        ("cdef", "Err(Full) ab"),
+        ("cde", "Ok(5) abcde"),
+        ("", "Ok(5) abcde"),
+        ("f", "Err(Full) abcde"),
+    ] {
         let outcome = writer.write_str(piece);
         table.put_fixed(outcome, &writer);
+        table.wants(wanted);
     }
     let mut writer = Fixed::<7>::new();
     let outcome = write_debug(&mut writer, &[1u8, 23]);
     table.put_fixed(outcome, &writer);
+    table.wants("Ok(7) [1, 23]");
     let mut writer = Fixed::<6>::new();
     let outcome = write_debug(&mut writer, &[1u8, 23]);
     table.put_fixed(outcome, &writer);
-    has_rows(&rt, &table, PIECES);
+    table.wants("Err(Full) [1, 23");
+    has_wanted_rows(&rt, &table);
 }

@@ -3,7 +3,7 @@ use std::alloc::{AllocError, Global};
 use ufmt::{Formatter, Full, Line, line_into, pieces, uWrite, write_line};
 use ufmt_print_examples::{Measurement, dump_packet, list_measurements};
 use ufmt_test_rows::printed::{PREFIXED, Printed, print_to};
-use ufmt_test_rows::rows::{Table, are_ok, has_rows, same};
+use ufmt_test_rows::rows::{Table, are_ok, has_wanted_rows, same};
 
 // The pieces of a line with each mark, with a bar between each two.
 const PIECES: &str = "a=|7| |(|1|,|)|[|\n|    |2|,\n|]|0x|0|0|ff|1|-|2|.";
@@ -117,15 +117,12 @@ impl Printed for EmptyPieces {
     }
 }
 
-const EMPTY_PIECES: &str = "\
-|||1||2||3|||||0x|0|0|0|1||0x|0|0|0|2|a||b|;
-";
-
 #[test]
 fn empty_pieces_are_passed_to_the_writer(rt: HostRuntime) {
     let mut table = Table::new(rt.alloc());
     table.pieces(&EmptyPieces);
-    has_rows(&rt, &table, EMPTY_PIECES);
+    table.wants("|||1||2||3|||||0x|0|0|0|1||0x|0|0|0|2|a||b|");
+    has_wanted_rows(&rt, &table);
 }
 
 struct ALine;
@@ -147,38 +144,37 @@ fn a_line_prints_in_pretty_mode(rt: HostRuntime) {
     );
 }
 
-const LISTED: &str = "\
-Ok(17) len=4 de ad be ef~~~;
-Ok(8) len=1 00~~~~~~~~~~~~;
-Ok(6) len=0 ~~~~~~~~~~~~~~;
-Err(Full) len=2 01 ~~~~~~~~~~~;
-Ok(20) measured: 3=-4, 5=20~~~~;
-Ok(14) measured: 3=-4~~~~~~~~~~;
-Ok(10) measured: ~~~~~~~~~~~~~~;
-Err(Full) measured: 3=-4, 5=~~~~~~;
-";
-
 #[test]
 fn dump_packet_and_list_measurements_print_lines(rt: HostRuntime) {
     let mut table = Table::new(rt.alloc());
-    for (packet, length) in [
-        ([0xdeu8, 0xad, 0xbe, 0xef].as_slice(), 20),
-        ([0].as_slice(), 8),
-        ([].as_slice(), 20),
-        ([1, 2].as_slice(), 9),
+    for ((packet, length), wanted) in [
+        (
+            ([0xdeu8, 0xad, 0xbe, 0xef].as_slice(), 20),
+            "Ok(17) len=4 de ad be ef~~~",
+        ),
+        (([0].as_slice(), 8), "Ok(8) len=1 00~~~~~~~~~~~~"),
+        (([].as_slice(), 20), "Ok(6) len=0 ~~~~~~~~~~~~~~"),
+        (([1, 2].as_slice(), 9), "Err(Full) len=2 01 ~~~~~~~~~~~"),
     ] {
         let mut bytes = [b'~'; 20];
         let outcome = dump_packet(&mut bytes[..length], packet);
         table.put_outcome(outcome, &bytes);
+        table.wants(wanted);
     }
     let measurements = [(3, -4), (5, 20)].map(|(channel, celsius)| Measurement {
         channel,
         celsius,
     });
-    for (count, length) in [(2, 24), (1, 24), (0, 24), (2, 19)] {
+    for ((count, length), wanted) in [
+        ((2, 24), "Ok(20) measured: 3=-4, 5=20~~~~"),
+        ((1, 24), "Ok(14) measured: 3=-4~~~~~~~~~~"),
+        ((0, 24), "Ok(10) measured: ~~~~~~~~~~~~~~"),
+        ((2, 19), "Err(Full) measured: 3=-4, 5=~~~~~~"),
+    ] {
         let mut bytes = [b'~'; 24];
         let outcome = list_measurements(&mut bytes[..length], &measurements[..count]);
         table.put_outcome(outcome, &bytes);
+        table.wants(wanted);
     }
-    has_rows(&rt, &table, LISTED);
+    has_wanted_rows(&rt, &table);
 }

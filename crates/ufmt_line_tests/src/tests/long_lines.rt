@@ -12,7 +12,7 @@ ghost use Rattle.ufmt_print_examples.specs.Logger.{measurement_document};
 
 use ufmt::{Align, Column, Full, HexOptions, line_into, pieces};
 use ufmt_print_examples::Measurement;
-use ufmt_test_rows::rows::{Table, has_rows};
+use ufmt_test_rows::rows::{Table, has_wanted_rows};
 
 const HEX: HexOptions = HexOptions {
     upper_case: false,
@@ -96,18 +96,6 @@ fn line_of_each_kind(
     )
 }
 
-const LINES: &str = "\
-Ok(20) \"a\" 7-3\"a\"0x0007;\"a\";
-Ok(25) \"a\" 7-30x0007;\"a\"-3,7a\"a\";
-Ok(46) \"a\" 7-30x0007;7-3\"a\",7a!0xfffffffffffffffd7\"a\";
-Ok(61) \"a\" 7-30x0007;7-3,7a!\"a\"0xfffffffffffffffd7?-3.7-3 0x00077\"a\";
-Ok(258) Measurement { channel: 3, celsius: -4 } at -3, 0x0007, -003, Measurement {
-    channel: 3,
-    celsius: -4,
-}, 0b0111, ..-3, \"a\", Measurement { channel: 1, celsius: 0 }; Measurement { channel: 2, celsius: -7 }, \
-a-3-37Measurement { channel: 3, celsius: -4 }-3;
-";
-
 trait LineRows {
     // Adds a row of what the call returned, and of the text that it printed.
     fn put_line(&mut self, outcome: Result<usize, Full>, buffer: &[u8]);
@@ -126,12 +114,16 @@ fn lines_of_many_pieces_print_in_order(rt: HostRuntime) {
     let mut buffer = [0u8; 260];
     let outcome = line_of_8(&mut buffer, "a", 7, -3);
     table.put_line(outcome, &buffer);
+    table.wants("Ok(20) \"a\" 7-3\"a\"0x0007;\"a\"");
     let outcome = line_of_12(&mut buffer, "a", 7, -3);
     table.put_line(outcome, &buffer);
+    table.wants("Ok(25) \"a\" 7-30x0007;\"a\"-3,7a\"a\"");
     let outcome = line_of_16(&mut buffer, "a", 7, -3);
     table.put_line(outcome, &buffer);
+    table.wants("Ok(46) \"a\" 7-30x0007;7-3\"a\",7a!0xfffffffffffffffd7\"a\"");
     let outcome = line_of_24(&mut buffer, "a", 7, -3);
     table.put_line(outcome, &buffer);
+    table.wants("Ok(61) \"a\" 7-30x0007;7-3,7a!\"a\"0xfffffffffffffffd7?-3.7-3 0x00077\"a\"");
     let last = Measurement {
         channel: 3,
         celsius: -4,
@@ -148,5 +140,12 @@ fn lines_of_many_pieces_print_in_order(rt: HostRuntime) {
     ];
     let outcome = line_of_each_kind(&mut buffer, &last, "a", 7, -3, &all);
     table.put_line(outcome, &buffer);
-    has_rows(&rt, &table, LINES);
+    table.wants(
+        "\
+Ok(258) Measurement { channel: 3, celsius: -4 } at -3, 0x0007, -003, Measurement {
+    channel: 3,
+    celsius: -4,
+}, 0b0111, ..-3, \"a\", Measurement { channel: 1, celsius: 0 }; Measurement { channel: 2, celsius: -7 }, a-3-37Measurement { channel: 3, celsius: -4 }-3",
+    );
+    has_wanted_rows(&rt, &table);
 }

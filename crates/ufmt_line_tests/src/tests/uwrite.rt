@@ -1,7 +1,7 @@
 //! Tests of what `uwrite!` and `uwriteln!` pass to the writer, and of what they evaluate.
 use ufmt::{Cursor, Formatter, Full, laws, uWrite, uwrite, uwriteln};
 use ufmt_test_rows::printed::{PREFIXED, Printed};
-use ufmt_test_rows::rows::{Table, are_ok, has_rows, same};
+use ufmt_test_rows::rows::{Table, are_ok, has_wanted_rows, same};
 
 /// Pieces by each macro, and by the laws of both.
 #[derive(Clone, Copy)]
@@ -51,35 +51,45 @@ impl Printed for Written {
     }
 }
 
-const PIECES: &str = "\
-n=|7||(|1|,|)|Some|(|\n|    |2|,\n|)|0x|0|0|ff|~
-n=|7||(|\n|    |1|,\n|)|Some|(|\n|    |2|,\n|)|0x|0|0|ff|;
-n=|7||(|1|,|)|Some|(|\n|    |2|,\n|)|0x|0|0|ff||(|3|,|)|0x|0|0|10|n=|0x|0|0|11|~
-n=|7||(|\n|    |1|,\n|)|Some|(|\n|    |2|,\n|)|0x|0|0|ff||(|\n|    |3|,\n|)|0x|0|0|10|n=|0x|0|0|11|;
-n=|7||(|1|,|)|\n|~
-n=|7||(|\n|    |1|,\n|)|\n|;
-0x|0|0|0|1|ab|0x|0|0|0|2|3|0x|0|0|0|4|5|0x|0|0|0|6|7|0x|0|0|0|8|0x|0|0|0|9|;
-a|0x|0|0|0|1|b|\n|;
-a b|7|[|1|]|[|\n|    |2|,\n|]|\n|~
-a b|7|[|\n|    |1|,\n|]|[|\n|    |2|,\n|]|\n|;
-||1||||\n|;
-";
-
 #[test]
 fn pieces_are_passed_to_the_writer(rt: HostRuntime) {
     let mut table = Table::new(rt.alloc());
-    for written in [
-        Written::AllPieces,
-        Written::LineOfAllPieces,
-        Written::LineFeedLast,
-        Written::HexadecimalFirst,
-        Written::HexadecimalInALine,
-        Written::AllForms,
-        Written::EmptyTexts,
+    for (written, wanted) in [
+        (
+            Written::AllPieces,
+            "\
+n=|7||(|1|,|)|Some|(|\n|    |2|,\n|)|0x|0|0|ff|~
+n=|7||(|\n|    |1|,\n|)|Some|(|\n|    |2|,\n|)|0x|0|0|ff|",
+        ),
+        (
+            Written::LineOfAllPieces,
+            "\
+n=|7||(|1|,|)|Some|(|\n|    |2|,\n|)|0x|0|0|ff||(|3|,|)|0x|0|0|10|n=|0x|0|0|11|~
+n=|7||(|\n|    |1|,\n|)|Some|(|\n|    |2|,\n|)|0x|0|0|ff||(|\n|    |3|,\n|)|0x|0|0|10|n=|0x|0|0|11|",
+        ),
+        (
+            Written::LineFeedLast,
+            "\
+n=|7||(|1|,|)|\n|~
+n=|7||(|\n|    |1|,\n|)|\n|",
+        ),
+        (
+            Written::HexadecimalFirst,
+            "0x|0|0|0|1|ab|0x|0|0|0|2|3|0x|0|0|0|4|5|0x|0|0|0|6|7|0x|0|0|0|8|0x|0|0|0|9|",
+        ),
+        (Written::HexadecimalInALine, "a|0x|0|0|0|1|b|\n|"),
+        (
+            Written::AllForms,
+            "\
+a b|7|[|1|]|[|\n|    |2|,\n|]|\n|~
+a b|7|[|\n|    |1|,\n|]|[|\n|    |2|,\n|]|\n|",
+        ),
+        (Written::EmptyTexts, "||1||||\n|"),
     ] {
         table.pieces(&written);
+        table.wants(wanted);
     }
-    has_rows(&rt, &table, PIECES);
+    has_wanted_rows(&rt, &table);
 }
 
 const IN_ORDER: &str = "\

@@ -5,7 +5,7 @@ use ufmt::{
     Align, Column, Decimal, HexDump, HexOptions, Line, hex_dump_into, line_cut_into, line_into,
     pieces,
 };
-use ufmt_test_rows::rows::{Table, has_rows};
+use ufmt_test_rows::rows::{Table, has_wanted_rows};
 
 const ZEROS: HexOptions = HexOptions {
     upper_case: false,
@@ -53,7 +53,10 @@ impl FullRows for Table {
 }
 
 macro_rules! put_lines {
-    ($table:ident; $(($($line:tt)*))*) => { $($table.put_full_line(&pieces!($($line)*));)* };
+    ($table:ident; $(($($line:tt)*) => $wanted:tt)*) => {
+        $($table.put_full_line(&pieces!($($line)*));
+        $table.wants($wanted);)*
+    };
 }
 
 // Lines with a text that is padded to this width.
@@ -71,19 +74,19 @@ fn put_padded(table: &mut Table, width: usize) {
         places: 1,
     };
     put_lines!(table;
-        (hex 7u8 with zeros)
-        (hex 7u8 with spaces)
-        (bin 5i64 with zeros)
-        (oct 8u128 with spaces)
-        (zeros (-7i8) to width)
-        (zeros price to width)
-        (zeros (Decimal { places: 255, ..price }) to width)
-        (each zeros [1u8, 2] to width between ",")
+        (hex 7u8 with zeros) => "Err(Full) 0x0000000000"
+        (hex 7u8 with spaces) => "Err(Full)             "
+        (bin 5i64 with zeros) => "Err(Full) 0b0000000000"
+        (oct 8u128 with spaces) => "Err(Full)             "
+        (zeros (-7i8) to width) => "Err(Full) -00000000000"
+        (zeros price to width) => "Err(Full) -00000000000"
+        (zeros (Decimal { places: 255, ..price }) to width) => "Err(Full) -00000000000"
+        (each zeros [1u8, 2] to width between ",") => "Err(Full) 000000000000"
     );
 }
 
-// Lines with such a text in a narrow column.
-fn put_in_a_column(table: &mut Table, width: usize, within: Column) {
+// Lines with such a text in a narrow column. `nested` is wanted of a column of this width in that one.
+fn put_in_a_column(table: &mut Table, width: usize, within: Column, nested: &str) {
     let zeros = HexOptions {
         pad_length: width,
         ..ZEROS
@@ -101,53 +104,13 @@ fn put_in_a_column(table: &mut Table, width: usize, within: Column) {
         column: within,
     };
     put_lines!(table;
-        (hex 7u8 with zeros in within)
-        (bin 5i64 with spaces in within)
-        (zeros (-7i8) to width in within)
-        (each hex [1u8, 2] with zeros in within between ",")
-        (each ["x"] by narrow between "")
+        (hex 7u8 with zeros in within) => "Err(Full) 0x0000000000"
+        (bin 5i64 with spaces in within) => "Err(Full)             "
+        (zeros (-7i8) to width in within) => "Err(Full) -00000000000"
+        (each hex [1u8, 2] with zeros in within between ",") => "Err(Full) 0x0000000000"
+        (each ["x"] by narrow between "") => nested
     );
 }
-
-const PADDED: &str = "\
-Err(Full) 0x0000000000;
-Err(Full)             ;
-Err(Full) 0b0000000000;
-Err(Full)             ;
-Err(Full) -00000000000;
-Err(Full) -00000000000;
-Err(Full) -00000000000;
-Err(Full) 000000000000;
-Err(Full) 0x0000000000;
-Err(Full)             ;
-Err(Full) -00000000000;
-Err(Full) 0x0000000000;
-Err(Full) x***********;
-Err(Full) 0x0000000000;
-Err(Full)             ;
-Err(Full) -00000000000;
-Err(Full) 0x0000000000;
-Err(Full) ************;
-Err(Full) 0x0000000000;
-Err(Full)             ;
-Err(Full) -00000000000;
-Err(Full) 0x0000000000;
-Err(Full) ************;
-Err(Full) 0x0000000000;
-Err(Full)             ;
-Err(Full) -00000000000;
-Err(Full) 0x0000000000;
-Err(Full) x***********;
-";
-
-const DUMPS: &str = "\
-Err(Full) 6162~~~~~~~~;
-Err(Full) 61 62~~~~~~~;
-Err(Full) 6162~~~~~~~~;
-Err(Full) ~~~~~~~~~~~~;
-Ok(5) 6162
-~~~~~~~;
-";
 
 const WIDTHS: [usize; 2] = [1 << 63, usize::MAX];
 
@@ -156,7 +119,11 @@ fn a_width_that_no_buffer_holds_fails_with_full(rt: HostRuntime) {
     for width in WIDTHS {
         let mut table = Table::new(rt.alloc());
         put_padded(&mut table, width);
-        for align in [Align::Left, Align::Center, Align::Right] {
+        for (align, nested) in [
+            (Align::Left, "Err(Full) x***********"),
+            (Align::Center, "Err(Full) ************"),
+            (Align::Right, "Err(Full) ************"),
+        ] {
             put_in_a_column(
                 &mut table,
                 width,
@@ -165,6 +132,7 @@ fn a_width_that_no_buffer_holds_fails_with_full(rt: HostRuntime) {
                     align,
                     fill: '*',
                 },
+                nested,
             );
         }
         put_in_a_column(
@@ -175,8 +143,9 @@ fn a_width_that_no_buffer_holds_fails_with_full(rt: HostRuntime) {
                 align: Align::Left,
                 fill: '*',
             },
+            "Err(Full) x***********",
         );
-        has_rows(&rt, &table, PADDED);
+        has_wanted_rows(&rt, &table);
     }
 }
 
@@ -188,25 +157,34 @@ fn a_dump_of_rows_that_no_buffer_holds_fails_with_full(rt: HostRuntime) {
             per_row: width,
             ..DUMP
         });
+        table.wants("Err(Full) 6162~~~~~~~~");
         table.put_dump(&HexDump {
             per_row: width,
             group: 1,
             ..DUMP
         });
+        table.wants("Err(Full) 61 62~~~~~~~");
         table.put_dump(&HexDump {
             per_row: width,
             group: width,
             ..DUMP
         });
+        table.wants("Err(Full) 6162~~~~~~~~");
         table.put_dump(&HexDump {
             group: width,
             ..DUMP
         });
+        table.wants("Err(Full) ~~~~~~~~~~~~");
         table.put_dump(&HexDump {
             per_row: width,
             ascii: false,
             ..DUMP
         });
-        has_rows(&rt, &table, DUMPS);
+        table.wants(
+            "\
+Ok(5) 6162
+~~~~~~~",
+        );
+        has_wanted_rows(&rt, &table);
     }
 }

@@ -2,25 +2,7 @@
 use std::alloc::{AllocError, Allocator};
 use std::collections::{BTreeMap, BTreeSet};
 use ufmt::{Formatter, write_debug, write_display};
-use ufmt_test_rows::rows::{Table, are_ok, has_rows, same};
-
-const VALUES: &str = "\
-[1, 2]~
-[
-    1,
-    2,
-];
-{3}~
-{
-    3,
-};
-{4: 5}~
-{
-    4: 5,
-};
-6;
-\"7xé\";
-";
+use ufmt_test_rows::rows::{Table, are_ok, has_wanted_rows, same};
 
 fn set_of_3<A: Allocator + Clone>(alloc: A) -> Result<BTreeSet<u8, A>, AllocError> {
     let mut set = BTreeSet::new(alloc);
@@ -39,11 +21,35 @@ fn values_over_a_lent_allocator_print(rt: HostRuntime) {
     let global = rt.alloc();
     let mut table = Table::new(rt.alloc());
     table.texts_of_made(Vec::from_slice(&global, &[1u8, 2]));
+    table.wants(
+        "\
+[1, 2]~
+[
+    1,
+    2,
+]",
+    );
     table.texts_of_made(set_of_3(&global));
+    table.wants(
+        "\
+{3}~
+{
+    3,
+}",
+    );
     table.texts_of_made(map_of_4(&global));
+    table.wants(
+        "\
+{4: 5}~
+{
+    4: 5,
+}",
+    );
     table.texts_of_made(Box::new(&global, 6u8));
+    table.wants("6");
     table.texts_of_made(String::from_str(&global, "7xé"));
-    has_rows(&rt, &table, VALUES);
+    table.wants("\"7xé\"");
+    has_wanted_rows(&rt, &table);
 }
 
 #[test]

@@ -2,52 +2,7 @@
 //! except where a comment says so. `tools/expected/show VALUE` prints them again.
 use std::alloc::{AllocError, Global};
 use std::collections::{BTreeMap, BTreeSet};
-use ufmt_test_rows::rows::{Table, has_rows, list, map, repeated, same, set};
-
-const LIKE_UFMT: &str = "\
-[];
-[0]~
-[
-    0,
-];
-[];
-[0, 1]~
-[
-    0,
-    1,
-];
-[[1, 1]]~
-[
-    [
-        1,
-        1,
-    ],
-];
-{1, 3}~
-{
-    1,
-    3,
-};
-{80: [7, 9]}~
-{
-    80: [
-        7,
-        9,
-    ],
-};
-Some(0)~
-Some(
-    0,
-);
-Ok(1)~
-Ok(
-    1,
-);
-Err(2)~
-Err(
-    2,
-);
-";
+use ufmt_test_rows::rows::{Table, has_wanted_rows, list, map, repeated, same, set};
 
 // ufmt 0.2.0 has arrays of at most 32.
 #[test]
@@ -72,128 +27,83 @@ fn ports(alloc: Global) -> Result<BTreeMap<u64, Vec<u64>>, AllocError> {
 fn collections_options_and_results_print_as_by_core_fmt(rt: HostRuntime) {
     let mut table = Table::new(rt.alloc());
     table.texts(&[0i32; 0].as_slice());
+    table.wants("[]");
     table.texts(&[0u64].as_slice());
+    table.wants(
+        "\
+[0]~
+[
+    0,
+]",
+    );
     table.texts(&Vec::<u64>::new(rt.alloc()));
+    table.wants("[]");
     table.texts_of_made(list(rt.alloc(), &[0i32, 1]));
+    table.wants(
+        "\
+[0, 1]~
+[
+    0,
+    1,
+]",
+    );
     table.texts(&[[1u64; 2]; 1]);
+    table.wants(
+        "\
+[[1, 1]]~
+[
+    [
+        1,
+        1,
+    ],
+]",
+    );
     table.texts_of_made(set(rt.alloc(), &[3u64, 1]));
+    table.wants(
+        "\
+{1, 3}~
+{
+    1,
+    3,
+}",
+    );
     table.texts_of_made(ports(rt.alloc()));
+    table.wants(
+        "\
+{80: [7, 9]}~
+{
+    80: [
+        7,
+        9,
+    ],
+}",
+    );
     table.texts(&Some(0u64));
+    table.wants(
+        "\
+Some(0)~
+Some(
+    0,
+)",
+    );
     table.texts(&Ok::<u64, i32>(1));
+    table.wants(
+        "\
+Ok(1)~
+Ok(
+    1,
+)",
+    );
     table.texts(&Err::<u64, i32>(2));
-    has_rows(&rt, &table, LIKE_UFMT);
+    table.wants(
+        "\
+Err(2)~
+Err(
+    2,
+)",
+    );
+    has_wanted_rows(&rt, &table);
 }
-
-const UNLIKE_UFMT: &str = "\
-[[], [0, 1]]~
-[
-    [],
-    [
-        0,
-        1,
-    ],
-];
-[[], [1]]~
-[
-    [],
-    [
-        1,
-    ],
-];
-[{}, {1}]~
-[
-    {},
-    {
-        1,
-    },
-];
-[{1: 2}, {}]~
-[
-    {
-        1: 2,
-    },
-    {},
-];
-{1: {2: 3}}~
-{
-    1: {
-        2: 3,
-    },
-};
-Err([])~
-Err(
-    [],
-);
-Some({1: 2})~
-Some(
-    {
-        1: 2,
-    },
-);
-({}, [[]])~
-(
-    {},
-    [
-        [],
-    ],
-);
-";
-
-// The texts of the same values by ufmt 0.2.0.
-const BY_UFMT: &str = "\
-[[], [0, 1]]~
-[
-    [    ],
-    [
-        0,
-        1,
-    ],
-];
-[[], [1]]~
-[
-    [    ],
-    [
-        1,
-    ],
-];
-[{}, {1}]~
-[
-    {},
-        {
-            1,
-},
-        ];
-[{1: 2}, {}]~
-[
-    {
-        1: 2,
-},
-        {},
-        ];
-{1: {2: 3}}~
-{
-    1: {
-        2: 3,
-},
-};
-Err([])~
-Err(
-    [    ],
-);
-Some({1: 2})~
-Some(
-    {
-        1: 2,
-},
-    );
-({}, [[]])~
-(
-    {},
-        [
-            [            ],
-        ],
-    );
-";
 
 fn array_of_lists(alloc: Global) -> Result<[Vec<i32>; 2], AllocError> {
     let both = list(alloc, &[0i32, 1])?;
@@ -241,19 +151,174 @@ fn count_unlike(rows: &str, others: &str) -> (usize, usize) {
     (unlike, alike_in_plain)
 }
 
+// By ufmt 0.2.0 the same values have other texts, which are put beside these.
 #[test]
 fn nested_values_print_as_by_core_fmt_and_not_as_by_ufmt(rt: HostRuntime) {
     let mut table = Table::new(rt.alloc());
+    let mut by_ufmt = Table::new(rt.alloc());
     table.texts_of_made(array_of_lists(rt.alloc()));
+    table.wants(
+        "\
+[[], [0, 1]]~
+[
+    [],
+    [
+        0,
+        1,
+    ],
+]",
+    );
+    by_ufmt.put(
+        "\
+[[], [0, 1]]~
+[
+    [    ],
+    [
+        0,
+        1,
+    ],
+]",
+    );
     table.texts_of_made(list_of_lists(rt.alloc()));
+    table.wants(
+        "\
+[[], [1]]~
+[
+    [],
+    [
+        1,
+    ],
+]",
+    );
+    by_ufmt.put(
+        "\
+[[], [1]]~
+[
+    [    ],
+    [
+        1,
+    ],
+]",
+    );
     table.texts_of_made(list_of_sets(rt.alloc()));
+    table.wants(
+        "\
+[{}, {1}]~
+[
+    {},
+    {
+        1,
+    },
+]",
+    );
+    by_ufmt.put(
+        "\
+[{}, {1}]~
+[
+    {},
+        {
+            1,
+},
+        ]",
+    );
     table.texts_of_made(list_of_maps(rt.alloc()));
+    table.wants(
+        "\
+[{1: 2}, {}]~
+[
+    {
+        1: 2,
+    },
+    {},
+]",
+    );
+    by_ufmt.put(
+        "\
+[{1: 2}, {}]~
+[
+    {
+        1: 2,
+},
+        {},
+        ]",
+    );
     table.texts_of_made(map_of_a_map(rt.alloc()));
+    table.wants(
+        "\
+{1: {2: 3}}~
+{
+    1: {
+        2: 3,
+    },
+}",
+    );
+    by_ufmt.put(
+        "\
+{1: {2: 3}}~
+{
+    1: {
+        2: 3,
+},
+}",
+    );
     table.texts(&Err::<(), [i32; 0]>([]));
+    table.wants(
+        "\
+Err([])~
+Err(
+    [],
+)",
+    );
+    by_ufmt.put(
+        "\
+Err([])~
+Err(
+    [    ],
+)",
+    );
     table.texts_of_made(map(rt.alloc(), &[(1u64, 2u64)]).map(Some));
+    table.wants(
+        "\
+Some({1: 2})~
+Some(
+    {
+        1: 2,
+    },
+)",
+    );
+    by_ufmt.put(
+        "\
+Some({1: 2})~
+Some(
+    {
+        1: 2,
+},
+    )",
+    );
     let map: BTreeMap<i32, i32> = BTreeMap::new(rt.alloc());
     let lists: [Vec<u64>; 1] = [Vec::new(rt.alloc())];
     table.texts(&(map, lists));
-    has_rows(&rt, &table, UNLIKE_UFMT);
-    same(&rt, count_unlike(UNLIKE_UFMT, BY_UFMT), (8, 8), "by ufmt");
+    table.wants(
+        "\
+({}, [[]])~
+(
+    {},
+    [
+        [],
+    ],
+)",
+    );
+    by_ufmt.put(
+        "\
+({}, [[]])~
+(
+    {},
+        [
+            [            ],
+        ],
+    )",
+    );
+    has_wanted_rows(&rt, &table);
+    let unlike = count_unlike(table.text().unwrap_or(""), by_ufmt.text().unwrap_or(""));
+    same(&rt, unlike, (8, 8), "by ufmt");
 }

@@ -1,43 +1,41 @@
 //! Tests of values that are one piece in both modes, and of quoted texts, whose escapes are pieces.
 use std::alloc::{AllocError, Global};
 use ufmt_test_rows::printed::Displayed;
-use ufmt_test_rows::rows::{Table, has_rows, repeated, same};
+use ufmt_test_rows::rows::{Table, has_wanted_rows, repeated, same};
 
 // Each escape is a piece, and so is each stretch between escapes.
-const QUOTED: &str = r#""|"|;
-"|a|\"|é b|\n|"|;
-"|\n|\n|"|;
-"|\u{1b}|"|;
-"|a|\u{1b}|\u{7f}|é|\u{1}|"|;
-"|\0|\t|\n|\r|\\|'|"|;
-'|é|'|;
-'|🦀|'|;
-'|\'|'|;
-'|"|'|;
-'|\0|'|;
-'|\t|'|;
-'|\n|'|;
-'|\r|'|;
-'|\\|'|;
-'|\u{1b}|'|;
-'|\u{7f}|'|;
-"#;
-
 #[test]
 fn each_escape_of_a_quoted_leaf_is_a_piece(rt: HostRuntime) {
     let mut table = Table::new(rt.alloc());
     table.pieces(&"");
+    table.wants(r#""|"|"#);
     table.pieces(&"a\"é b\n");
+    table.wants(r#""|a|\"|é b|\n|"|"#);
     table.pieces(&"\n\n");
+    table.wants(r#""|\n|\n|"|"#);
     table.pieces(&"\u{1b}");
+    table.wants(r#""|\u{1b}|"|"#);
     table.pieces(&"a\u{1b}\u{7f}é\u{1}");
+    table.wants(r#""|a|\u{1b}|\u{7f}|é|\u{1}|"|"#);
     table.pieces_of_made(String::from_str(rt.alloc(), "\0\t\n\r\\'"));
-    for character in [
-        'é', '🦀', '\'', '"', '\0', '\t', '\n', '\r', '\\', '\u{1b}', '\u{7f}',
+    table.wants(r#""|\0|\t|\n|\r|\\|'|"|"#);
+    for (character, wanted) in [
+        ('é', "'|é|'|"),
+        ('🦀', "'|🦀|'|"),
+        ('\'', r#"'|\'|'|"#),
+        ('"', r#"'|"|'|"#),
+        ('\0', r#"'|\0|'|"#),
+        ('\t', r#"'|\t|'|"#),
+        ('\n', r#"'|\n|'|"#),
+        ('\r', r#"'|\r|'|"#),
+        ('\\', r#"'|\\|'|"#),
+        ('\u{1b}', r#"'|\u{1b}|'|"#),
+        ('\u{7f}', r#"'|\u{7f}|'|"#),
     ] {
         table.pieces(&character);
+        table.wants(wanted);
     }
-    has_rows(&rt, &table, QUOTED);
+    has_wanted_rows(&rt, &table);
 }
 
 // Whether a text of this length is one piece by both traits.
@@ -58,51 +56,45 @@ fn a_long_text_is_one_piece(rt: HostRuntime) {
     }
 }
 
-const ONE_PIECE: &str = "\
-true|;
-false|;
-()|;
-None|;
-1|;
-2|;
-1|;
-2|;
-3|;
-4|;
-true|;
-false|;
-a text|;
-|;
-|;
-a text|;
-a|;
-é|;
-€|;
-🦀|;
-";
-
 #[test]
 fn leaves_and_references_to_them_print_as_one_piece(rt: HostRuntime) {
     let mut table = Table::new(rt.alloc());
     table.pieces(&true);
+    table.wants("true|");
     table.pieces(&false);
+    table.wants("false|");
     table.pieces(&());
+    table.wants("()|");
     table.pieces(&None::<i32>);
+    table.wants("None|");
     let mut number = 2u8;
     table.pieces(&&1i32);
+    table.wants("1|");
     table.pieces(&&mut number);
+    table.wants("2|");
     table.pieces(&Displayed(&1i32));
+    table.wants("1|");
     table.pieces(&Displayed(&mut number));
+    table.wants("2|");
     table.pieces_of_made(Box::new(rt.alloc(), 3u64));
+    table.wants("3|");
     table.pieces_of_made(Box::new(rt.alloc(), 4u64).map(Displayed));
+    table.wants("4|");
     table.pieces(&Displayed(true));
+    table.wants("true|");
     table.pieces(&Displayed(false));
+    table.wants("false|");
     table.pieces(&Displayed("a text"));
+    table.wants("a text|");
     table.pieces(&Displayed(""));
+    table.wants("|");
     table.pieces(&Displayed(String::new(rt.alloc())));
+    table.wants("|");
     table.pieces_of_made(String::from_str(rt.alloc(), "a text").map(Displayed));
-    for character in ['a', 'é', '€', '🦀'] {
+    table.wants("a text|");
+    for (character, wanted) in [('a', "a|"), ('é', "é|"), ('€', "€|"), ('🦀', "🦀|")] {
         table.pieces(&Displayed(character));
+        table.wants(wanted);
     }
-    has_rows(&rt, &table, ONE_PIECE);
+    has_wanted_rows(&rt, &table);
 }

@@ -8,77 +8,86 @@ use std::num::{
 };
 use ufmt::{Formatter, uDebug, uDisplay};
 use ufmt_test_rows::put_nonzero;
-use ufmt_test_rows::rows::{Table, has_rows, same};
-
-const NUMBERS: &str = "\
-0|;
-10|;
-100|;
-255|;
-65535|;
-4294967295|;
-18446744073709551615|;
-18446744073709551615|;
-0|;
-340282366920938463463374607431768211455|;
-0|;
-10|;
-100|;
--128|;
-127|;
--32768|;
-32767|;
-0|;
--2147483648|;
-2147483647|;
--9223372036854775808|;
-9223372036854775807|;
--9223372036854775808|;
-9223372036854775807|;
-0|;
--170141183460469231731687303715884105728|;
-170141183460469231731687303715884105727|;
-";
+use ufmt_test_rows::rows::{Table, has_wanted_rows, same};
 
 #[test]
 fn numbers_print_as_one_piece(rt: HostRuntime) {
     let mut table = Table::new(rt.alloc());
-    for n in [0u8, 10, 100, 255] {
+    for (n, wanted) in [(0u8, "0|"), (10, "10|"), (100, "100|"), (255, "255|")] {
         table.number(n);
+        table.wants(wanted);
     }
     table.number(u16::MAX);
+    table.wants("65535|");
     table.number(u32::MAX);
+    table.wants("4294967295|");
     table.number(u64::MAX);
+    table.wants("18446744073709551615|");
     table.number(usize::MAX);
+    table.wants("18446744073709551615|");
     table.number(0u128);
+    table.wants("0|");
     table.number(u128::MAX);
-    for z in [0i8, 10, 100, -128, 127] {
+    table.wants("340282366920938463463374607431768211455|");
+    for (z, wanted) in [
+        (0i8, "0|"),
+        (10, "10|"),
+        (100, "100|"),
+        (-128, "-128|"),
+        (127, "127|"),
+    ] {
         table.number(z);
+        table.wants(wanted);
     }
     table.number(i16::MIN);
+    table.wants("-32768|");
     table.number(i16::MAX);
-    for z in [0i32, i32::MIN, i32::MAX] {
+    table.wants("32767|");
+    for (z, wanted) in [
+        (0i32, "0|"),
+        (i32::MIN, "-2147483648|"),
+        (i32::MAX, "2147483647|"),
+    ] {
         table.number(z);
+        table.wants(wanted);
     }
     table.number(i64::MIN);
+    table.wants("-9223372036854775808|");
     table.number(i64::MAX);
+    table.wants("9223372036854775807|");
     table.number(isize::MIN);
+    table.wants("-9223372036854775808|");
     table.number(isize::MAX);
-    for z in [0i128, i128::MIN, i128::MAX] {
+    table.wants("9223372036854775807|");
+    for (z, wanted) in [
+        (0i128, "0|"),
+        (i128::MIN, "-170141183460469231731687303715884105728|"),
+        (i128::MAX, "170141183460469231731687303715884105727|"),
+    ] {
         table.number(z);
+        table.wants(wanted);
     }
-    has_rows(&rt, &table, NUMBERS);
+    has_wanted_rows(&rt, &table);
 }
 
 #[test]
 fn nonzero_numbers_print_as_one_piece(rt: HostRuntime) {
     let mut table = Table::new(rt.alloc());
     put_nonzero!(table.number:
-        NonZeroU8 1, NonZeroU16 2, NonZeroU32 3, NonZeroU64 4, NonZeroUsize 5, NonZeroI8 -128,
-        NonZeroI16 -2, NonZeroI32 -3, NonZeroI64 -4, NonZeroIsize -5, NonZeroU128 6, NonZeroI128 -6
+        NonZeroU8 1 => "1|",
+        NonZeroU16 2 => "2|",
+        NonZeroU32 3 => "3|",
+        NonZeroU64 4 => "4|",
+        NonZeroUsize 5 => "5|",
+        NonZeroI8 -128 => "-128|",
+        NonZeroI16 -2 => "-2|",
+        NonZeroI32 -3 => "-3|",
+        NonZeroI64 -4 => "-4|",
+        NonZeroIsize -5 => "-5|",
+        NonZeroU128 6 => "6|",
+        NonZeroI128 -6 => "-6|"
     );
-    let wanted = "1|;\n2|;\n3|;\n4|;\n5|;\n-128|;\n-2|;\n-3|;\n-4|;\n-5|;\n6|;\n-6|;\n";
-    has_rows(&rt, &table, wanted);
+    has_wanted_rows(&rt, &table);
 }
 
 // Whether the number prints as by `to_string`. Without memory this is false.

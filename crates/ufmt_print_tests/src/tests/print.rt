@@ -2,7 +2,7 @@
 use ufmt::{
     Formatter, debug_into, display_into, pretty_into, write_debug, write_display, write_pretty,
 };
-use ufmt_test_rows::rows::{Table, are_ok, has_rows, same};
+use ufmt_test_rows::rows::{Table, are_ok, has_wanted_rows, same};
 
 #[test]
 fn whole_values_print_in_one_call(rt: HostRuntime) {
@@ -24,47 +24,57 @@ fn whole_values_print_in_one_call(rt: HostRuntime) {
 }
 
 // In turn a number by `debug_into`, and a text by `display_into`.
-const IN_BUFFERS: &str = "\
-Ok(3) 123.;
-Ok(3) 123.;
-Ok(3) 123.;
-Ok(3) 123.;
-Err(Full) ....;
-Err(Full) ....;
-Err(Full) \"a....;
-Ok(6) \"a\\\"b\";
-Ok(10) [
-    7,
-].;
-Ok(10) [
-    7,
-].;
-Err(Full) [
-    7,
-..;
-Err(Full) ...........;
-";
-
 #[test]
 fn calls_that_print_into_a_buffer_fill_it(rt: HostRuntime) {
     let mut table = Table::new(rt.alloc());
-    for length in [4, 3, 2] {
+    for (length, wanted, second) in [
+        (4, "Ok(3) 123.", "Ok(3) 123."),
+        (3, "Ok(3) 123.", "Ok(3) 123."),
+        (2, "Err(Full) ....", "Err(Full) ...."),
+    ] {
         let mut buffer = [b'.'; 4];
         let outcome = debug_into(&mut buffer[..length], &123u8);
         table.put_outcome(outcome, &buffer);
+        table.wants(wanted);
         let mut buffer = [b'.'; 4];
         let outcome = display_into(&mut buffer[..length], &"123");
         table.put_outcome(outcome, &buffer);
+        table.wants(second);
     }
-    for length in [3, 6] {
+    for (length, wanted) in [(3, "Err(Full) \"a...."), (6, "Ok(6) \"a\\\"b\"")] {
         let mut buffer = [b'.'; 6];
         let outcome = debug_into(&mut buffer[..length], &"a\"b");
         table.put_outcome(outcome, &buffer);
+        table.wants(wanted);
     }
-    for length in [11, 10, 9, 0] {
+    for (length, wanted) in [
+        (
+            11,
+            "\
+Ok(10) [
+    7,
+].",
+        ),
+        (
+            10,
+            "\
+Ok(10) [
+    7,
+].",
+        ),
+        (
+            9,
+            "\
+Err(Full) [
+    7,
+..",
+        ),
+        (0, "Err(Full) ..........."),
+    ] {
         let mut buffer = [b'.'; 11];
         let outcome = pretty_into(&mut buffer[..length], &[7u8]);
         table.put_outcome(outcome, &buffer);
+        table.wants(wanted);
     }
-    has_rows(&rt, &table, IN_BUFFERS);
+    has_wanted_rows(&rt, &table);
 }

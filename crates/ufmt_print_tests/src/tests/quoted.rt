@@ -2,42 +2,8 @@
 //! `tools/expected/show VALUE` prints one again.
 use std::alloc::{AllocError, Global};
 use ufmt_print_examples::Message;
-use ufmt_test_rows::rows::{Table, has_rows, joined_if_different, map, same};
+use ufmt_test_rows::rows::{Table, has_wanted_rows, joined_if_different, map, same};
 use ufmt_test_rows::text_rows::texts_of;
-
-const QUOTED: &str = "\
-\"\";
-\"\\0\\\\\";
-\"\\t\\n\\r\";
-\"\\u{1}\";
-\"\\u{1b}\";
-\"\\u{1f} ~\\u{7f}\";
-\"a\\\"b\\n\";
-\"'\";
-\"\u{80}é€\u{10ffff}\";
-'é';
-'\\n';
-'\"';
-'\\'';
-'\\\\';
-'\\0';
-'\\u{1f}';
-'\\u{7f}';
-'\u{80}';
-'\u{10ffff}';
-{\"k\": Some('c')}~
-{
-    \"k\": Some(
-        'c',
-    ),
-};
-Message { node: 2, level: '!', text: \"valve is \\\"open\\\"\" }~
-Message {
-    node: 2,
-    level: '!',
-    text: \"valve is \\\"open\\\"\",
-};
-";
 
 // The texts of a `&str`, and those of the same `String` if they differ.
 fn texts_by_both(alloc: Global, text: &str) -> Result<String, AllocError> {
@@ -103,17 +69,58 @@ fn an_escape_is_found_at_each_place(rt: HostRuntime) {
 #[test]
 fn texts_and_characters_are_quoted(rt: HostRuntime) {
     let mut table = Table::new(rt.alloc());
-    for text in "|\0\\|\t\n\r|\u{1}|\u{1b}|\u{1f} ~\u{7f}|a\"b\n|'|\u{80}é€\u{10ffff}".split('|') {
+    for (text, wanted) in [
+        ("", "\"\""),
+        ("\0\\", "\"\\0\\\\\""),
+        ("\t\n\r", "\"\\t\\n\\r\""),
+        ("\u{1}", "\"\\u{1}\""),
+        ("\u{1b}", "\"\\u{1b}\""),
+        ("\u{1f} ~\u{7f}", "\"\\u{1f} ~\\u{7f}\""),
+        ("a\"b\n", "\"a\\\"b\\n\""),
+        ("'", "\"'\""),
+        ("\u{80}é€\u{10ffff}", "\"\u{80}é€\u{10ffff}\""),
+    ] {
         table.put_made(texts_by_both(rt.alloc(), text));
+        table.wants(wanted);
     }
-    for character in "é\n\"'\\\0\u{1f}\u{7f}\u{80}\u{10ffff}".chars() {
+    for (character, wanted) in [
+        ('é', "'é'"),
+        ('\n', "'\\n'"),
+        ('"', "'\"'"),
+        ('\'', "'\\''"),
+        ('\\', "'\\\\'"),
+        ('\0', "'\\0'"),
+        ('\u{1f}', "'\\u{1f}'"),
+        ('\u{7f}', "'\\u{7f}'"),
+        ('\u{80}', "'\u{80}'"),
+        ('\u{10ffff}', "'\u{10ffff}'"),
+    ] {
         table.texts(&character);
+        table.wants(wanted);
     }
     table.texts_of_made(map(rt.alloc(), &[("k", Some('c'))]));
+    table.wants(
+        "\
+{\"k\": Some('c')}~
+{
+    \"k\": Some(
+        'c',
+    ),
+}",
+    );
     table.texts(&Message {
         node: 2,
         level: '!',
         text: "valve is \"open\"",
     });
-    has_rows(&rt, &table, QUOTED);
+    table.wants(
+        "\
+Message { node: 2, level: '!', text: \"valve is \\\"open\\\"\" }~
+Message {
+    node: 2,
+    level: '!',
+    text: \"valve is \\\"open\\\"\",
+}",
+    );
+    has_wanted_rows(&rt, &table);
 }

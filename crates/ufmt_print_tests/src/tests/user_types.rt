@@ -10,145 +10,7 @@ use ufmt_print_examples::{
     Scores, Session, Temperature, Tree, Tuple, Users, Window, X, Y, log, print,
 };
 use ufmt_test_rows::forwarded;
-use ufmt_test_rows::rows::{Table, has_rows, list};
-
-// A derive of Rust's `Debug` prints the same, and of ports and scores `debug_map` and `debug_list` of core::fmt.
-const TYPES: &str = "\
-I32(0)~
-I32(
-    0,
-);
-Tuple(0, 0)~
-Tuple(
-    0,
-    0,
-);
-X(0)~
-X(
-    0,
-);
-Pair { x: 0, y: 0 }~
-Pair {
-    x: 0,
-    y: 0,
-};
-Nested { first: Pair { x: 0, y: 0 }, second: Pair { x: 0, y: 0 } }~
-Nested {
-    first: Pair {
-        x: 0,
-        y: 0,
-    },
-    second: Pair {
-        x: 0,
-        y: 0,
-    },
-};
-A;
-B(0, 1)~
-B(
-    0,
-    1,
-);
-C { x: 0, y: 1 }~
-C {
-    x: 0,
-    y: 1,
-};
-[DisconnectedByOtherSide, ReceivedAcknowledgement(7, Some(2)), ReconfiguredAfterPowerLoss { temperature_in_celsius: -4, time_without_connection: 60 }]~
-[
-    DisconnectedByOtherSide,
-    ReceivedAcknowledgement(
-        7,
-        Some(
-            2,
-        ),
-    ),
-    ReconfiguredAfterPowerLoss {
-        temperature_in_celsius: -4,
-        time_without_connection: 60,
-    },
-];
-Z(0)~
-Z(
-    0,
-);
-W;
-X;
-21 °C;
-[-4 °C]~
-[
-    -4 °C,
-];
-Node { value: 1, next: Some(Node { value: 0, next: None }) }~
-Node {
-    value: 1,
-    next: Some(
-        Node {
-            value: 0,
-            next: None,
-        },
-    ),
-};
-Tree { size: 1, children: [Tree { size: 2, children: [] }] }~
-Tree {
-    size: 1,
-    children: [
-        Tree {
-            size: 2,
-            children: [],
-        },
-    ],
-};
-[Some(1), None]~
-[
-    Some(
-        1,
-    ),
-    None,
-];
-{80: 7, 443: 9}~
-{
-    80: 7,
-    443: 9,
-};
-[7, 9]~
-[
-    7,
-    9,
-];
-Window { name: \"main\", lines: 3..9, recent: [7, 8] }~
-Window {
-    name: \"main\",
-    lines: 3..9,
-    recent: [
-        7,
-        8,
-    ],
-};
-[Link { id: 1, rest: Some(Link { id: 3, rest: None }) }, Link { id: 2, rest: Some(Link { id: 3, rest: None }) }]~
-[
-    Link {
-        id: 1,
-        rest: Some(
-            Link {
-                id: 3,
-                rest: None,
-            },
-        ),
-    },
-    Link {
-        id: 2,
-        rest: Some(
-            Link {
-                id: 3,
-                rest: None,
-            },
-        ),
-    },
-];
-Object([(\"a\", Array([Number(-1)]))]);
-Object([(\"b\", Table({7: Null}))]);
-";
+use ufmt_test_rows::rows::{Table, has_rows, has_wanted_rows, list};
 
 fn node(alloc: Global) -> Result<Node, AllocError> {
     let last = Node {
@@ -183,19 +45,6 @@ fn ports(alloc: Global) -> Result<Vec<Port<u8>>, AllocError> {
     Ok(ports)
 }
 
-const IN_BUFFERS: &str = "\
-Ok(59) Measurement { channel: 3, celsius: -4 } control 0x0000beef
-.....;
-Ok(59) Measurement { channel: 3, celsius: -4 } control 0x0000beef
-.....;
-Err(Full) Measurement { channel: 3, celsius: -4 } control 0x0000beef......;
-Err(Full) Measurement { ..................................................;
-Ok(58) Message { node: 2, level: '!', text: \"valve is \\\"open\\\"\" }......;
-Ok(58) Message { node: 2, level: '!', text: \"valve is \\\"open\\\"\" }......;
-Err(Full) Message { node: 2, level: '!', text: \"valve is \\\"open\\\"\" .......;
-Err(Full) Message { node: 2...............................................;
-";
-
 #[test]
 fn log_and_print_write_into_a_buffer(rt: HostRuntime) {
     let mut table = Table::new(rt.alloc());
@@ -203,22 +52,62 @@ fn log_and_print_write_into_a_buffer(rt: HostRuntime) {
         channel: 3,
         celsius: -4,
     };
-    for length in [64, 59, 58, 20] {
+    for (length, wanted) in [
+        (
+            64,
+            "\
+Ok(59) Measurement { channel: 3, celsius: -4 } control 0x0000beef
+.....",
+        ),
+        (
+            59,
+            "\
+Ok(59) Measurement { channel: 3, celsius: -4 } control 0x0000beef
+.....",
+        ),
+        (
+            58,
+            "Err(Full) Measurement { channel: 3, celsius: -4 } control 0x0000beef......",
+        ),
+        (
+            20,
+            "Err(Full) Measurement { ..................................................",
+        ),
+    ] {
         let mut buffer = [b'.'; 64];
         let outcome = log(&mut buffer[..length], &measurement, 0xbeef);
         table.put_outcome(outcome, &buffer);
+        table.wants(wanted);
     }
     let message = Message {
         node: 2,
         level: '!',
         text: "valve is \"open\"",
     };
-    for length in [64, 58, 57, 18] {
+    for (length, wanted) in [
+        (
+            64,
+            "Ok(58) Message { node: 2, level: '!', text: \"valve is \\\"open\\\"\" }......",
+        ),
+        (
+            58,
+            "Ok(58) Message { node: 2, level: '!', text: \"valve is \\\"open\\\"\" }......",
+        ),
+        (
+            57,
+            "Err(Full) Message { node: 2, level: '!', text: \"valve is \\\"open\\\"\" .......",
+        ),
+        (
+            18,
+            "Err(Full) Message { node: 2...............................................",
+        ),
+    ] {
         let mut buffer = [b'.'; 64];
         let outcome = print(&mut buffer[..length], &message);
         table.put_outcome(outcome, &buffer);
+        table.wants(wanted);
     }
-    has_rows(&rt, &table, IN_BUFFERS);
+    has_wanted_rows(&rt, &table);
 }
 
 fn pairs_of_a_list(alloc: Global) -> Result<Json, AllocError> {
@@ -237,27 +126,49 @@ fn pairs_of_a_table(alloc: Global) -> Result<Json, AllocError> {
     Ok(Json::Object(pairs))
 }
 
+const SESSION: Session = Session { user: 7, key: 9 };
+
 // A struct that ends in dots, by itself and in other values, as `finish_non_exhaustive` of core::fmt prints it.
-const SESSIONS: &str = "\
+#[test]
+fn structs_that_end_in_dots_print_as_by_core_fmt(rt: HostRuntime) {
+    let mut table = Table::new(rt.alloc());
+    table.texts(&SESSION);
+    table.wants(
+        "\
 Session { user: 7, .. }~
 Session {
     user: 7,
     ..
-};
+}",
+    );
+    table.texts(&[SESSION]);
+    table.wants(
+        "\
 [Session { user: 7, .. }]~
 [
     Session {
         user: 7,
         ..
     },
-];
+]",
+    );
+    table.texts(&Some(SESSION));
+    table.wants(
+        "\
 Some(Session { user: 7, .. })~
 Some(
     Session {
         user: 7,
         ..
     },
-);
+)",
+    );
+    table.texts(&Pair {
+        x: SESSION,
+        y: SESSION,
+    });
+    table.wants(
+        "\
 Pair { x: Session { user: 7, .. }, y: Session { user: 7, .. } }~
 Pair {
     x: Session {
@@ -268,7 +179,11 @@ Pair {
         user: 7,
         ..
     },
-};
+}",
+    );
+    table.texts(&Tuple(1u8, SESSION));
+    table.wants(
+        "\
 Tuple(1, Session { user: 7, .. })~
 Tuple(
     1,
@@ -276,7 +191,11 @@ Tuple(
         user: 7,
         ..
     },
-);
+)",
+    );
+    table.texts(&[Some(Pair { x: SESSION, y: 0u8 })]);
+    table.wants(
+        "\
 [Some(Pair { x: Session { user: 7, .. }, y: 0 })]~
 [
     Some(
@@ -288,83 +207,151 @@ Tuple(
             y: 0,
         },
     ),
-];
-";
-
-const SESSION: Session = Session { user: 7, key: 9 };
-
-#[test]
-fn structs_that_end_in_dots_print_as_by_core_fmt(rt: HostRuntime) {
-    let mut table = Table::new(rt.alloc());
-    table.texts(&SESSION);
-    table.texts(&[SESSION]);
-    table.texts(&Some(SESSION));
-    table.texts(&Pair {
-        x: SESSION,
-        y: SESSION,
-    });
-    table.texts(&Tuple(1u8, SESSION));
-    table.texts(&[Some(Pair { x: SESSION, y: 0u8 })]);
-    has_rows(&rt, &table, SESSIONS);
+]",
+    );
+    has_wanted_rows(&rt, &table);
 }
 
 // What doesn't fit is left out by whole pieces.
-const SESSIONS_IN_BUFFERS: &str = "\
-Ok(23) Session { user: 7, .. }_;
-Ok(23) Session { user: 7, .. }_;
-Err(Full) Session { user: 7, .. __;
-Err(Full) Session { user: 7, ..___;
-Err(Full) Session { user: 7_______;
-Ok(31) Session {
-    user: 7,
-    ..
-}_;
-Ok(31) Session {
-    user: 7,
-    ..
-}_;
-Err(Full) Session {
-    user: 7,
-    ..
-__;
-Err(Full) Session {
-    user: 7,
-    _____;
-Err(Full) Session {
-    user: 7,
-_________;
-";
-
 #[test]
 fn structs_that_end_in_dots_print_into_a_buffer(rt: HostRuntime) {
     let mut table = Table::new(rt.alloc());
-    for length in [24, 23, 22, 21, 20] {
+    for (length, wanted) in [
+        (24, "Ok(23) Session { user: 7, .. }_"),
+        (23, "Ok(23) Session { user: 7, .. }_"),
+        (22, "Err(Full) Session { user: 7, .. __"),
+        (21, "Err(Full) Session { user: 7, ..___"),
+        (20, "Err(Full) Session { user: 7_______"),
+    ] {
         let mut buffer = [b'_'; 24];
         let outcome = debug_into(&mut buffer[..length], &SESSION);
         table.put_outcome(outcome, &buffer);
+        table.wants(wanted);
     }
-    for length in [32, 31, 30, 29, 26] {
+    for (length, wanted) in [
+        (
+            32,
+            "\
+Ok(31) Session {
+    user: 7,
+    ..
+}_",
+        ),
+        (
+            31,
+            "\
+Ok(31) Session {
+    user: 7,
+    ..
+}_",
+        ),
+        (
+            30,
+            "\
+Err(Full) Session {
+    user: 7,
+    ..
+__",
+        ),
+        (
+            29,
+            "\
+Err(Full) Session {
+    user: 7,
+    _____",
+        ),
+        (
+            26,
+            "\
+Err(Full) Session {
+    user: 7,
+_________",
+        ),
+    ] {
         let mut buffer = [b'_'; 32];
         let outcome = pretty_into(&mut buffer[..length], &SESSION);
         table.put_outcome(outcome, &buffer);
+        table.wants(wanted);
     }
-    has_rows(&rt, &table, SESSIONS_IN_BUFFERS);
+    has_wanted_rows(&rt, &table);
 }
 
+// A derive of Rust's `Debug` prints the same, and of ports and scores `debug_map` and `debug_list` of core::fmt.
 #[test]
 fn types_of_users_print_as_by_core_fmt(rt: HostRuntime) {
     let mut table = Table::new(rt.alloc());
     table.texts(&I32(0i32));
+    table.wants(
+        "\
+I32(0)~
+I32(
+    0,
+)",
+    );
     table.texts(&Tuple(0i32, 0u64));
+    table.wants(
+        "\
+Tuple(0, 0)~
+Tuple(
+    0,
+    0,
+)",
+    );
     table.texts(&X(0i32));
+    table.wants(
+        "\
+X(0)~
+X(
+    0,
+)",
+    );
     table.texts(&Pair { x: 0i32, y: 0u64 });
+    table.wants(
+        "\
+Pair { x: 0, y: 0 }~
+Pair {
+    x: 0,
+    y: 0,
+}",
+    );
     table.texts(&Nested {
         first: Pair { x: 0u64, y: 0u64 },
         second: Pair { x: 0u64, y: 0u64 },
     });
+    table.wants(
+        "\
+Nested { first: Pair { x: 0, y: 0 }, second: Pair { x: 0, y: 0 } }~
+Nested {
+    first: Pair {
+        x: 0,
+        y: 0,
+    },
+    second: Pair {
+        x: 0,
+        y: 0,
+    },
+}",
+    );
     table.texts(&Letter::A::<u64>);
+    table.wants("A");
     table.texts(&Letter::B(0i32, 1));
+    table.wants(
+        "\
+B(0, 1)~
+B(
+    0,
+    1,
+)",
+    );
     table.texts(&Letter::C { x: 0u64, y: 1 });
+    table.wants(
+        "\
+C { x: 0, y: 1 }~
+C {
+    x: 0,
+    y: 1,
+}",
+    );
     table.texts(&[
         LinkEvent::DisconnectedByOtherSide,
         LinkEvent::ReceivedAcknowledgement(7, Some(2)),
@@ -373,21 +360,145 @@ fn types_of_users_print_as_by_core_fmt(rt: HostRuntime) {
             time_without_connection: 60,
         },
     ]);
+    table.wants(
+        "\
+[DisconnectedByOtherSide, ReceivedAcknowledgement(7, Some(2)), ReconfiguredAfterPowerLoss { temperature_in_celsius: -4, time_without_connection: 60 }]~
+[
+    DisconnectedByOtherSide,
+    ReceivedAcknowledgement(
+        7,
+        Some(
+            2,
+        ),
+    ),
+    ReconfiguredAfterPowerLoss {
+        temperature_in_celsius: -4,
+        time_without_connection: 60,
+    },
+]",
+    );
     table.texts(&Y::Z(0i32));
+    table.wants(
+        "\
+Z(0)~
+Z(
+    0,
+)",
+    );
     table.texts(&Y::W::<u64>);
+    table.wants("W");
     table.texts(&forwarded::Y);
+    table.wants("X");
     table.texts(&Temperature { celsius: 21 });
+    table.wants("21 °C");
     table.texts(&[Temperature { celsius: -4 }]);
+    table.wants(
+        "\
+[-4 °C]~
+[
+    -4 °C,
+]",
+    );
     table.texts_of_made(node(rt.alloc()));
+    table.wants(
+        "\
+Node { value: 1, next: Some(Node { value: 0, next: None }) }~
+Node {
+    value: 1,
+    next: Some(
+        Node {
+            value: 0,
+            next: None,
+        },
+    ),
+}",
+    );
     table.texts_of_made(tree(rt.alloc()));
+    table.wants(
+        "\
+Tree { size: 1, children: [Tree { size: 2, children: [] }] }~
+Tree {
+    size: 1,
+    children: [
+        Tree {
+            size: 2,
+            children: [],
+        },
+    ],
+}",
+    );
     table.texts_of_made(list(rt.alloc(), &[Some(1u64), None]).map(|scores| Scores { scores }));
+    table.wants(
+        "\
+[Some(1), None]~
+[
+    Some(
+        1,
+    ),
+    None,
+]",
+    );
     table.texts_of_made(ports(rt.alloc()).map(|ports| Ports { ports }));
+    table.wants(
+        "\
+{80: 7, 443: 9}~
+{
+    80: 7,
+    443: 9,
+}",
+    );
     table.texts_of_made(ports(rt.alloc()).map(|ports| Users { ports }));
+    table.wants(
+        "\
+[7, 9]~
+[
+    7,
+    9,
+]",
+    );
     table.texts_of_made(window(rt.alloc()));
+    table.wants(
+        "\
+Window { name: \"main\", lines: 3..9, recent: [7, 8] }~
+Window {
+    name: \"main\",
+    lines: 3..9,
+    recent: [
+        7,
+        8,
+    ],
+}",
+    );
     table.texts_of_made(chains_with_one_end(rt.alloc()));
+    table.wants(
+        "\
+[Link { id: 1, rest: Some(Link { id: 3, rest: None }) }, Link { id: 2, rest: Some(Link { id: 3, rest: None }) }]~
+[
+    Link {
+        id: 1,
+        rest: Some(
+            Link {
+                id: 3,
+                rest: None,
+            },
+        ),
+    },
+    Link {
+        id: 2,
+        rest: Some(
+            Link {
+                id: 3,
+                rest: None,
+            },
+        ),
+    },
+]",
+    );
     table.plain_of_made(pairs_of_a_list(rt.alloc()));
+    table.wants("Object([(\"a\", Array([Number(-1)]))])");
     table.plain_of_made(pairs_of_a_table(rt.alloc()));
-    has_rows(&rt, &table, TYPES);
+    table.wants("Object([(\"b\", Table({7: Null}))])");
+    has_wanted_rows(&rt, &table);
 }
 
 #[test]

@@ -4,21 +4,22 @@ use ufmt_scan::leaf::{is_leaf, is_symbol, is_word};
 use ufmt_scan::quoted::split_escaped;
 
 // The kind of a text, and the text.
-const TEXTS: &str = "\
-none:;\
-word:-;\
-word:az_AZ-09;\
-none:a b;\
-none:a,;\
-none:\u{e9};\
-symbol:();\
-none:()();\
-symbol:\"\";\
-none:\"a\"b;\
-none:\"\\u{7F}\";\
-symbol:'\u{e9}';\
-none:'';\
-none:'ab'";
+const TEXTS: [(&str, &str); 14] = [
+    ("none", ""),
+    ("word", "-"),
+    ("word", "az_AZ-09"),
+    ("none", "a b"),
+    ("none", "a,"),
+    ("none", "\u{e9}"),
+    ("symbol", "()"),
+    ("none", "()()"),
+    ("symbol", "\"\""),
+    ("none", "\"a\"b"),
+    ("none", "\"\\u{7F}\""),
+    ("symbol", "'\u{e9}'"),
+    ("none", "''"),
+    ("none", "'ab'"),
+];
 
 fn kind(text: &str) -> &'static str {
     match (is_leaf(text), is_word(text), is_symbol(text)) {
@@ -31,13 +32,9 @@ fn kind(text: &str) -> &'static str {
 
 #[test]
 fn texts_are_words_symbols_or_no_leaves(rt: HostRuntime) {
-    let mut count = 0usize;
-    for row in TEXTS.split(';') {
-        let (wanted, text) = row.split_once(':').unwrap_or((row, ""));
-        same(&rt, kind(text), wanted, row);
-        count = count.saturating_add(1);
+    for (wanted, text) in TEXTS {
+        same(&rt, kind(text), wanted, text);
     }
-    same(&rt, count, 14, "texts");
 }
 
 // What is between quotation marks, the byte that its front is decoded to, and how many bytes

@@ -4,21 +4,90 @@ use super::verdict::{Verdict, verdict_on};
 use std::alloc::{AllocError, Global};
 use ufmt::layout::Mode;
 
-// Leaves in wrong quotes, with a bar between each two. Here a character has a wrong spelling, in a text or by itself.
-const SPELLED_OTHERWISE: &str =
-    r#""\u{a}"|'\u{a}'|"\u{07f}"|'\u{07f}'|"\u{7F}"|'\u{7F}'|"\u{41}"|'\u{41}'|"\u{1B}"|'\u{1B}'|"\u{01}"|'\u{001}'|"\u{0}"|'\u{9}'|"\u{d}"|"\u{22}"|'\u{27}'|"\u{5c}"|"\u{20}"|'\u{80}'|"\u{80}"|"\u{e9}"|"\'"|'\"'|'''|""""#;
+// Leaves in wrong quotes. Here a character has a wrong spelling, in a text or by itself.
+const SPELLED_OTHERWISE: &[&str] = &[
+    r#""\u{a}""#,
+    r#"'\u{a}'"#,
+    r#""\u{07f}""#,
+    r#"'\u{07f}'"#,
+    r#""\u{7F}""#,
+    r#"'\u{7F}'"#,
+    r#""\u{41}""#,
+    r#"'\u{41}'"#,
+    r#""\u{1B}""#,
+    r#"'\u{1B}'"#,
+    r#""\u{01}""#,
+    r#"'\u{001}'"#,
+    r#""\u{0}""#,
+    r#"'\u{9}'"#,
+    r#""\u{d}""#,
+    r#""\u{22}""#,
+    r#"'\u{27}'"#,
+    r#""\u{5c}""#,
+    r#""\u{20}""#,
+    r#"'\u{80}'"#,
+    r#""\u{80}""#,
+    r#""\u{e9}""#,
+    r#""\'""#,
+    r#"'\"'"#,
+    "'''",
+    r#"""""#,
+];
 
 // Escapes that don't exist.
-const NO_ESCAPES: &str =
-    r#""\x"|'\x'|"\a"|'\a'|"\x41"|"\N"|"\1"|"\ "|"\u1b"|"\u{}"|'\u{}'|"\u{1b"|"\U{1b}""#;
+const NO_ESCAPES: &[&str] = &[
+    r#""\x""#,
+    r#"'\x'"#,
+    r#""\a""#,
+    r#"'\a'"#,
+    r#""\x41""#,
+    r#""\N""#,
+    r#""\1""#,
+    r#""\ ""#,
+    r#""\u1b""#,
+    r#""\u{}""#,
+    r#"'\u{}'"#,
+    r#""\u{1b""#,
+    r#""\U{1b}""#,
+];
 
 // No character or several between apostrophes, an open quote, or bytes after the closing quote.
-const MISCOUNTED: &str =
-    "''|'ab'|'\u{e9}\u{e9}'|'e\u{301}'|'\\n\\n'|'a\\''|\"|'|\"a|'a|a\"|a'|\"a'|'a\"|\"\\|\"\\\"|'\\'|\"a\"b|'a'b|\"a\"\"b\"|\"a\" ";
+const MISCOUNTED: &[&str] = &[
+    "''",
+    "'ab'",
+    "'\u{e9}\u{e9}'",
+    "'e\u{301}'",
+    "'\\n\\n'",
+    "'a\\''",
+    "\"",
+    "'",
+    "\"a",
+    "'a",
+    "a\"",
+    "a'",
+    "\"a'",
+    "'a\"",
+    "\"\\",
+    "\"\\\"",
+    "'\\'",
+    "\"a\"b",
+    "'a'b",
+    "\"a\"\"b\"",
+    "\"a\" ",
+];
 
 // Leaves without quotes, and leaves in quotes as they are printed.
-const RIGHT: &str =
-    "x|()|\"\"|\"a\\\"b\\n\"|\"\\0\\t\\r\\\\\\u{1}\\u{1b}\\u{7f}'é€\"|'\"'|'\\''|'\\u{7f}'|'€'";
+const RIGHT: &[&str] = &[
+    "x",
+    "()",
+    "\"\"",
+    "\"a\\\"b\\n\"",
+    "\"\\0\\t\\r\\\\\\u{1}\\u{1b}\\u{7f}'é€\"",
+    "'\"'",
+    "'\\''",
+    "'\\u{7f}'",
+    "'€'",
+];
 
 // Bytes that are no UTF-8, in a text or as a character.
 const NOT_UTF8: [&[u8]; 9] = [
@@ -66,14 +135,13 @@ fn count_places(alloc: Global, leaf: &[u8], wanted: Verdict) -> Result<usize, Al
 
 #[test]
 fn leaves_are_taken_in_right_quotes_and_refused_in_wrong_ones(rt: HostRuntime) {
-    for (leaves, wanted, length) in [
-        (SPELLED_OTHERWISE, Verdict::Refused, 26),
-        (NO_ESCAPES, Verdict::Refused, 13),
-        (MISCOUNTED, Verdict::Refused, 21),
-        (RIGHT, Verdict::Taken, 9),
+    for (leaves, wanted) in [
+        (SPELLED_OTHERWISE, Verdict::Refused),
+        (NO_ESCAPES, Verdict::Refused),
+        (MISCOUNTED, Verdict::Refused),
+        (RIGHT, Verdict::Taken),
     ] {
-        same(&rt, leaves.split('|').count(), length, leaves);
-        for leaf in leaves.split('|') {
+        for leaf in leaves {
             let places = count_places(rt.alloc(), leaf.as_bytes(), wanted);
             same(&rt, places, Ok(8), leaf);
         }

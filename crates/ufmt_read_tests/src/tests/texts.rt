@@ -244,79 +244,83 @@ Some(
 )";
 
 // Inputs that are no text, with a bar between each two. The first is empty.
-pub const NOT_PLAIN: &str = "\
-|\n\
-| x\
-|x \
-|x\n\
-|x\r\
-|a b\
-|()x\
-|(,)\
-|(x)\
-|(1)\
-|(x, )\
-|(x,y)\
-|n()\
-|n( x)\
-|n(x,)\
-|()(x)\
-|{a:b}\
-|{a: b: c}\
-|{a: b, c}\
-|{x, y: z}\
-|{ a: b }\
-|{}}\
-|[x\
-|[x]]\
-|[x,]\
-|[x, ]\
-|[x y]\
-|[1,2]\
-|[]\n\n\
-|S {}\
-|S { }\
-|S {a: b }\
-|S { a: b}\
-|S { a: b, }\
-|S { (): b }\
-|S { a b }\
-|\u{e9}\
-|[\n    x,\n]\
-|n(1,)\
-|[1, ]\
-|[1\
-|[\n    1,\n]";
+pub const NOT_PLAIN: [&str; 43] = [
+    "",
+    "\n",
+    " x",
+    "x ",
+    "x\n",
+    "x\r",
+    "a b",
+    "()x",
+    "(,)",
+    "(x)",
+    "(1)",
+    "(x, )",
+    "(x,y)",
+    "n()",
+    "n( x)",
+    "n(x,)",
+    "()(x)",
+    "{a:b}",
+    "{a: b: c}",
+    "{a: b, c}",
+    "{x, y: z}",
+    "{ a: b }",
+    "{}}",
+    "[x",
+    "[x]]",
+    "[x,]",
+    "[x, ]",
+    "[x y]",
+    "[1,2]",
+    "[]\n\n",
+    "S {}",
+    "S { }",
+    "S {a: b }",
+    "S { a: b}",
+    "S { a: b, }",
+    "S { (): b }",
+    "S { a b }",
+    "\u{e9}",
+    "[\n    x,\n]",
+    "n(1,)",
+    "[1, ]",
+    "[1",
+    "[\n    1,\n]",
+];
 
-pub const NOT_PRETTY: &str = "\
-|\n\
-|x\n\
-|[\n]\
-|{\n}\
-|S {\n}\
-|(\n)\
-|(\n    x\n)\
-|[\n    x,\n    ]\
-|[\n    x,\n\n    y,\n]\
-|[\n    x, y,\n]\
-|[\n    x,\n    y\n]\
-|{\n    a : b,\n}\
-|{\n    a: b,\n    c,\n}\
-|[\n    x,\n]x\
-|[\n    x,\n]\n\n\
-|[\n     x,\n]\
-|[\n   x,\n]\
-|[\n\tx,\n]\
-|[\n    x,\r\n]\
-|[\n    x,\r\n\
-|[\n    [\n        x,\n],\n]\
-|[x]\
-|[\n   1,\n]\
-|[\n\t1,\n]\
-|[\n    1\n]\
-|[\n    1,\n]\n\n\
-|[\n    [\n        1,\n],\n]\
-|[1]";
+pub const NOT_PRETTY: [&str; 29] = [
+    "",
+    "\n",
+    "x\n",
+    "[\n]",
+    "{\n}",
+    "S {\n}",
+    "(\n)",
+    "(\n    x\n)",
+    "[\n    x,\n    ]",
+    "[\n    x,\n\n    y,\n]",
+    "[\n    x, y,\n]",
+    "[\n    x,\n    y\n]",
+    "{\n    a : b,\n}",
+    "{\n    a: b,\n    c,\n}",
+    "[\n    x,\n]x",
+    "[\n    x,\n]\n\n",
+    "[\n     x,\n]",
+    "[\n   x,\n]",
+    "[\n\tx,\n]",
+    "[\n    x,\r\n]",
+    "[\n    x,\r\n",
+    "[\n    [\n        x,\n],\n]",
+    "[x]",
+    "[\n   1,\n]",
+    "[\n\t1,\n]",
+    "[\n    1\n]",
+    "[\n    1,\n]\n\n",
+    "[\n    [\n        1,\n],\n]",
+    "[1]",
+];
 
 // Bytes that are no UTF-8, and a character past ASCII, without quotes.
 pub const NO_WORDS: [&[u8]; 4] = [b"\xff", b"a\xff", b"\xc3\xa9", b"()\xff"];

@@ -1,12 +1,12 @@
 //! Tests of enums.
 ghost use Rattle.std.specs.Prelude.{[], ◌∷◌, IfSome, ⊤};
 ghost use Rattle.ufmt.specs.ValueDocuments.{named, named_struct, named_tuple, number, string};
-ghost use Rattle.ufmt_parse_tests.specs.declared.tests.variants.Event.TheVariants.{Started, Said, Lost};
-ghost use Rattle.ufmt_parse_tests.specs.declared.tests.variants.Signal.TheVariants.{A, AB, ABC};
-ghost use Rattle.ufmt_parse_tests.specs.declared.tests.variants.Eight.TheVariants.{First, Second, Third, Fourth, Fifth, Sixth, Seventh, Eighth};
+ghost use Rattle.ufmt_parse_tests.specs.declared.tests.enums.shapes.Event.TheVariants.{Started, Said, Lost};
+ghost use Rattle.ufmt_parse_tests.specs.declared.tests.enums.shapes.Signal.TheVariants.{A, AB, ABC};
+ghost use Rattle.ufmt_parse_tests.specs.declared.tests.enums.shapes.Eight.TheVariants.{First, Second, Third, Fourth, Fifth, Sixth, Seventh, Eighth};
 ghost use Rattle.ufmt_parse.specs.Values.{is_u8};
 
-use super::same;
+use crate::tests::same;
 use std::alloc::Global;
 use ufmt::{Formatter, fields, plain_text, uDebug, uWrite};
 use ufmt_parse::ParseError::NotText;

@@ -1,10 +1,10 @@
 //! Tests of an enum with names of 2 to 28 letters, for which no proof is written.
 ghost use Rattle.std.specs.Prelude.{[], ◌∷◌, ⊤};
 ghost use Rattle.ufmt.specs.ValueDocuments.{integer, named, named_struct, named_tuple, number};
-ghost use Rattle.ufmt_parse_tests.specs.declared.tests.long_names.Link.TheVariants.{Up, Disconnected, Interrupted, Reconfigured, AwaitingCalibrationOfSensor};
+ghost use Rattle.ufmt_parse_tests.specs.declared.tests.enums.long_names.Link.TheVariants.{Up, Disconnected, Interrupted, Reconfigured, AwaitingCalibrationOfSensor};
 ghost use Rattle.ufmt_parse.specs.Values.{is_i16, is_u8, is_u32, is_u64};
 
-use super::same;
+use crate::tests::same;
 use ufmt::{Formatter, fields, uDebug, uWrite};
 use ufmt_parse::ParseError::NotText;
 use ufmt_parse::{Fault, ParseMode, Parser, parse, parse_pretty, parse_variants, uParse};

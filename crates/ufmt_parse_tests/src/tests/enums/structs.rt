@@ -1,10 +1,10 @@
 //! Tests of an enum with structs in its variants, beside other values, for which no proof is written.
 ghost use Rattle.std.specs.Prelude.{[], ◌∷◌, ⊤, IfSome};
 ghost use Rattle.ufmt.specs.ValueDocuments.{integer, named, named_struct, named_tuple, number};
-ghost use Rattle.ufmt_parse_tests.specs.declared.tests.structs_in_variants.Order.TheVariants.{Halt, Apply, Hold, CrossFadeBetween, Pulse};
+ghost use Rattle.ufmt_parse_tests.specs.declared.tests.enums.structs.Order.TheVariants.{Halt, Apply, Hold, CrossFadeBetween, Pulse};
 ghost use Rattle.ufmt_parse.specs.Values.{is_i16, is_u8};
 
-use super::same;
+use crate::tests::same;
 use ufmt::{Formatter, fields, uDebug, uWrite};
 use ufmt_parse::ParseError::NotText;
 use ufmt_parse::{Fault, ParseMode, Parser, parse, parse_pretty, parse_variants, uParse};
