@@ -246,8 +246,8 @@ fn each_byte() -> [u8; 256] {
 }
 
 // `xxd -g1` of the bytes from 0 to 255, `xxd -c40 -g1` of 33 bytes, and `xxd -c40 -g8` and `xxd -c100 -g3 -o7` of those
-// from 0 to 255
-// `xxd -c33 -g1` of three bytes: zeros, digits, the bytes, the spaces in place of 30 bytes, and the text
+// from 0 to 255. Then in pieces `xxd -c33 -g1` of three bytes: zeros, digits, the bytes, the spaces in place of 30 bytes, and
+// the text.
 #[test]
 fn bytes_that_are_not_printable_are_dots_and_long_rows_come_in_pieces(rt: HostRuntime) {
     let mut table = Table::new(rt.alloc());
@@ -331,7 +331,7 @@ fffffffe|: |0b|30|
     has_wanted_rows(&rt, &table);
 }
 
-// `xxd -c8 -g1` of 9 bytes
+// The first rows are `xxd -c8 -g1` of 9 bytes.
 #[test]
 fn dumps_into_a_buffer_keep_what_fits(rt: HostRuntime) {
     let mut table = Table::new(rt.alloc());
