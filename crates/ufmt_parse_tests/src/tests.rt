@@ -3,13 +3,12 @@
 mod allocators;
 mod by_parsers;
 mod collections;
-mod counts;
 mod deep;
+mod enums;
 mod errors;
+mod field_counts;
 mod laws;
 mod leaves;
-mod long_names;
-mod long_numbers;
 mod long_texts;
 mod names;
 mod nested;
@@ -18,11 +17,7 @@ mod numbers;
 mod places;
 mod round_trips;
 mod std_types;
-mod stops;
-mod structs_in_variants;
-mod user_types;
-mod values;
-mod variants;
+mod structs;
 
 use std::alloc::Global;
 use std::fmt::Debug;
@@ -35,22 +30,22 @@ pub fn same<T: PartialEq + Debug + Drop>(rt: &impl Abort, given: T, wanted: T, c
     assert_eq!(rt; given, wanted, "{case}");
 }
 
-// The first of these texts, with semicolons between them, that isn't parsed as it should be. Each taken
-// text prints as itself again, in each mode. Each other text fails with `NotText`.
+// The first of these texts that isn't parsed as it should be. Each taken text prints as itself again, in each mode. Each other
+// text fails with `NotText`.
 pub fn first_wrong<'a, T: uParse<Global>>(
     alloc: Global,
-    taken: &'a str,
-    others: &'a str,
+    taken: &[&'a str],
+    others: &[&'a str],
 ) -> Option<&'a str> {
-    for text in taken.split(';') {
+    for text in taken {
         if !comes_back::<T>(alloc, text) {
-            return Some(text);
+            return Some(*text);
         }
     }
-    for text in others.split(';') {
+    for text in others {
         let outcome = parse::<T, Global>(alloc, text.as_bytes());
         if !matches!(outcome, Err(ParseError::NotText { .. })) {
-            return Some(text);
+            return Some(*text);
         }
     }
     None

@@ -1,4 +1,4 @@
-"""Refuses each allocation of ufmt_alloc_failures, which makes each call of the library.
+"""Refuses each allocation of ufmt_memory_probe, which makes each call of the library.
 
 Its input says how many allocations it makes before the calls. With fewer of them, one fixed number refuses a later allocation
 of the calls. So one build serves all runs. After the calls the program makes one more allocation. When that is refused, each
@@ -104,14 +104,14 @@ class Calls:
 
     def judge(self, outputs, errors):
         if " ended=%d fault=0 " % (REFUSED + 1) not in errors:
-            self.faults.append("not each run of ufmt_alloc_failures ended: %s" % errors.splitlines()[-1:])
+            self.faults.append("not each run of ufmt_memory_probe ended: %s" % errors.splitlines()[-1:])
             return
         if outputs["0"] != b"refused before the calls\n":
             self.faults.append("the last allocation before the calls is not the one that was refused: %s" % outputs["0"][:80])
         for number in range(1, REFUSED + 1):
             self.judge_run(outputs[str(number)])
             if len(self.faults) >= MOST_FAULTS:
-                self.faults.append("the runs of ufmt_alloc_failures after number %d are not judged" % number)
+                self.faults.append("the runs of ufmt_memory_probe after number %d are not judged" % number)
                 return
             if self.last == len(self.ample) - 1:
                 self.refusals -= 1

@@ -22,7 +22,7 @@ ON_TEXTS = (
     ("read_plain", "read_plain"), ("read_field", "read_field"), ("print a Doc", "doc_to_string"), ("drop a Doc", "drop_doc"),
 )
 # A program, the library that it is over, and its calls.
-PROGRAMS = (("stack_values", "ufmt_parse", WITHOUT_MEMORY), ("stack_texts", "ufmt_examples", ON_TEXTS))
+PROGRAMS = (("stack_values", "ufmt_parse", WITHOUT_MEMORY), ("stack_texts", "ufmt_parse_examples", ON_TEXTS))
 
 
 class Row:

@@ -16,5 +16,5 @@ CALLS = {
     "tree_to_string": (320, 176), "drop_tree": (160, 112), "read_plain": (6464, 256), "read_field": (6800, 256),
     "doc_to_string": (304, 208), "drop_doc": (336, 256),
 }
-# By its name: at most, and a level more. Those of ufmt_against_model were measured by runs.
-PROGRAMS = {"ufmt_conv": (12864, 0), "ufmt_lines": (12576, 0), "ufmt_against_model": (16384, 1200)}
+# By its name: at most, and a level more. Those of ufmt_model_probe were measured by runs.
+PROGRAMS = {"ufmt_conv": (12864, 0), "ufmt_lines": (12576, 0), "ufmt_model_probe": (16384, 1200)}

@@ -36,7 +36,7 @@ def leaf_case(text):
 
 
 class Sample(NamedTuple):
-    """A text, and what is known of it in each half of a line of `ufmt_against_model costs`."""
+    """A text, and what is known of it in each half of a line of `ufmt_model_probe costs`."""
 
     name: str
     data: bytes

@@ -1,18 +1,20 @@
 """Compares "The definitions to trust" in docs/PROMISES.md with what its headline rests on.
 
 A promise names calls and definitions. It rests on each definition of specs/ in the clauses of these calls, on each that
-such a definition cites, and so on. The table of that section must list every one of the headline's, and nothing else of
-this repository. A row lists a file of specs/ whole, or `without` some of its definitions, or only those that it names.
+such a definition cites, and so on. The list of that section must have every one of the headline's, and nothing else of
+this repository. An item lists a file of specs/ whole, or `without` some of its definitions, or only those that it names. A call's
+name may have stars.
 
 A fault is a name of the page that is nothing, a definition that isn't listed, or one that is listed and not cited. `--list` first
-prints, for each table of promises, the definitions that these rest on beside the headline's, by file.
+prints, for each list of promises, the definitions that these rest on beside the headline's, by file.
 """
+import fnmatch
 import pathlib
 import re
 
-
 from lib.contracts.functions import functions_of
 from lib.memory_errors.source import end_of, name_at, tokens_of
+from lib.pages.items import items_of, promises_of, section
 
 TOP = pathlib.Path(__file__).resolve().parents[3]
 CRATES = TOP / "crates"
@@ -20,7 +22,7 @@ PAGE = TOP / "docs" / "PROMISES.md"
 IMPORT = re.compile(r"^\s*(?:ghost |pub )?use Rattle\.(\w+)\.specs\.([\w.]+)\.\{([^}]*)\}", re.M)
 BEGINS = re.compile(r"^ *(?:(?:abbrev|unfoldable|pub|inductive|data) )*(record )?([\w◌]\S*) ?(.*)$")
 # Crates whose promises are none of this repository's.
-LEFT_OUT = ("_tests", "ufmt_user", "ufmt_examples", "ufmt_alloc_failures", "ufmt_against_model")
+LEFT_OUT = ("_tests", "ufmt_test_rows", "ufmt_print_examples", "ufmt_parse_examples", "ufmt_memory_probe", "ufmt_model_probe")
 # Words of the page that stand for many calls.
 MANY_CALLS = {
     "each builder call": ("formatter/builder.rt", "core/src/list.rt", "core/src/set.rt", "core/src/map.rt", "core/src/structs.rt", "core/src/tuple.rt"),
@@ -131,27 +133,15 @@ class Tree(object):
         return known
 
 
-def section(title):
-    text = PAGE.read_text()
-    start = text.index("\n## " + title + "\n")
-    return text[start : (text.find("\n## ", start + 1) + len(text)) % len(text) or None]
-
-
-def cells(text):
-    for line in text.split("\n"):
-        if line.startswith("|") and not line.startswith("|---"):
-            yield [cell.strip() for cell in re.split(r"(?<!\\)\|", line)[1:-1]]
-
-
 def calls_named(tree, name, before):
     """The calls that a name of the page means; `_texts` ends the name before it in another way."""
     parts = name.split("::")
     if name.startswith("_"):
         stems = [before[:at] + name for at in range(len(before)) if before[at] == "_"]
         return [call for call in tree.calls if call.name in stems]
-    found = [call for call in tree.calls if call.name == parts[-1]]
+    found = [call for call in tree.calls if fnmatch.fnmatchcase(call.name, parts[-1])]
     if len(parts) > 1:
-        found = [call for call in found if parts[-2] in call.owner or parts[-2] in (call.path.stem, crate_of(call.path))]
+        found = [call for call in found if parts[-2] in call.owner or parts[-2] in call.path.with_suffix("").parts]
     if not found:
         found = [call for call in tree.calls if call.path.stem == parts[-1] and (len(parts) == 1 or parts[-2] in call.path.parts)]
     return found
@@ -171,13 +161,13 @@ def ghost_identifiers(path, wanted):
     return identifiers
 
 
-def calls_in(tree, cell):
-    """The calls that a promise's cell means, its names that are no clause's, and those that are nothing."""
+def calls_in(tree, place):
+    """The calls that a promise's place means, its names that are no clause's, and those that are nothing."""
     calls, names, unknown, before = [], [], [], ""
     for identifiers, files in MANY_CALLS.items():
-        if identifiers in cell:
+        if identifiers in place:
             calls += [call for call in tree.calls if str(call.path).endswith(files)]
-    for name in re.findall(r"`([\w:]+)`", cell):
+    for name in re.findall(r"`([\w:*]+)`", place):
         if any(name in call.clauses for call in calls):
             continue
         names.append(name)
@@ -189,14 +179,14 @@ def calls_in(tree, cell):
     return calls, names, unknown
 
 
-def rests_on(tree, rows, is_near=lambda path: True):
-    """The definitions that the promises of these rows rest on, and the names in them that are nothing.
+def rests_on(tree, places, is_near=lambda path: True):
+    """The definitions that the promises with these places rest on, and the names in them that are nothing.
 
     A clause that has the name of a ghost value means those of implementations, in the files that are near.
     """
     keys, unknown, identifiers = set(), [], set()
-    for row in rows:
-        calls, names, strange = calls_in(tree, row[1])
+    for place in places:
+        calls, names, strange = calls_in(tree, place)
         unknown += strange
         keys |= {key for key in tree.definitions if key[1] in names and not is_private(key)}
         for call in calls:
@@ -212,30 +202,29 @@ def crate_of(path):
     return path.relative_to(CRATES).parts[0]
 
 
-def tables_of(text):
-    """The rows of each table of promises, by its title."""
+def lists_of(text):
+    """The places of each list of promises, by its title."""
     for part in text.split("\n### ")[1:]:
         title, rest = part.split("\n", 1)
-        if "| Promise |" in rest:
-            yield title, promises(rest)
+        if places_in(rest):
+            yield title, places_in(rest)
 
 
-def promises(text):
-    """The rows of a page's tables that have calls."""
-    return [row for row in cells(text) if len(row) > 1 and row[1] != "Call and clause"]
+def places_in(text):
+    """Where each promise is, by its calls and clauses."""
+    return [place for _, place in items_of(text)]
 
 
 def names_in(text):
     return set(re.findall(r"`(\w+)`", text))
 
 
-def beside_files(rows):
-    """For each file in the headline's table, the names beside it: only these, or without these, or the whole file."""
+def beside_files(text):
+    """For each file in the headline's list, the names beside it: only these, or without these, or the whole file."""
     found = {}
-    for row in rows:
-        if row[0].endswith(".antt`"):
-            names, left_out = names_in(row[1]), "without" in row[1]
-            found[CRATES / row[0].strip("`")] = [(None if left_out else names or None, names if left_out else set())]
+    for file, words in items_of(text):
+        names, left_out = names_in(words), "without" in words
+        found[CRATES / file.strip("`")] = [(None if left_out else names or None, names if left_out else set())]
     return found
 
 
@@ -263,23 +252,23 @@ def listed_by_file(keys):
 
 
 def show_others(tree, text, headline):
-    """The definitions that the promises of each table rest on, less those of the headline."""
-    for title, rows in tables_of(text):
-        crates = {crate_of(call.path) for row in rows for call in calls_in(tree, row[1])[0]}
-        keys, _ = rests_on(tree, rows, lambda path: crate_of(path) in crates)
+    """The definitions that the promises of each list rest on, less those of the headline."""
+    for title, places in lists_of(text):
+        crates = {crate_of(call.path) for place in places for call in calls_in(tree, place)[0]}
+        keys, _ = rests_on(tree, places, lambda path: crate_of(path) in crates)
         print("\n".join([title, *listed_by_file(keys - headline), ""]))
 
 
 def main(arguments):
     tree = Tree()
-    text = section("What is proved")
-    text = text[: text.index("\n### What calls ask for")]
-    whole, unknown = rests_on(tree, promises(text))
-    part, _ = rests_on(tree, promises(text[text.index("\n### The headline") :]))
+    page = PAGE.read_text()
+    text = promises_of(page)
+    whole, unknown = rests_on(tree, places_in(text))
+    part, _ = rests_on(tree, places_in(section(text, "### The headline, by clause")))
     if arguments:
         show_others(tree, text, part)
     faults = ["there is no `%s`" % name for name in unknown]
-    faults += list(faults_of(tree, part, beside_files(cells(section("The definitions to trust"))), "the headline"))
+    faults += list(faults_of(tree, part, beside_files(section(page, "## The definitions to trust")), "the headline"))
     for fault in faults:
         print("fault: " + fault)
     print("%d definitions, %d of them of the headline, %d faults" % (len(whole), len(part), len(faults)))

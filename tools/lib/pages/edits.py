@@ -12,6 +12,8 @@ change something as files of the folder.
 import pathlib
 import re
 
+from lib.pages.items import items_of, promises_of
+
 TOP = pathlib.Path(__file__).resolve().parents[3]
 PAGE = TOP / "docs" / "PROMISES.md"
 NONE = "none: "
@@ -78,16 +80,8 @@ def every_edit():
 
 
 def promises():
-    """The first cell of each row of a table of promises."""
-    is_table = False
-    for line in PAGE.read_text().split("\n"):
-        cells = [cell.strip() for cell in re.split(r"(?<!\\)\|", line)[1:-1]]
-        if cells and cells[0] == "Promise":
-            is_table = True
-        elif cells and is_table and not cells[0].startswith("---"):
-            yield cells[0]
-        elif not cells:
-            is_table = False
+    """What each item promises."""
+    return [promise for promise, _ in items_of(promises_of(PAGE.read_text()))]
 
 
 def faults_of(edits, rows):
@@ -127,7 +121,7 @@ def main(arguments):
     if arguments[:1] == ["--write"]:
         write(arguments[1], pathlib.Path(arguments[2]))
         return 0
-    edits, rows = every_edit(), list(promises())
+    edits, rows = every_edit(), promises()
     if arguments:
         show(edits, rows)
     faults = list(faults_of(edits, rows))

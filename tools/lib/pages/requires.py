@@ -1,10 +1,10 @@
 """Compares "What calls ask for" in docs/PROMISES.md with each `requires` of a public function.
 
 The functions, methods and methods of traits are those that another crate can call, of the libraries and of the modules
-`run` of the two programs. The table of that section names each one that asks for something, and says in its second column
-for what. A name is the last words of the function's path, as `Parser::is_named`, and may have stars.
+`run` of the two programs. The list of that section names each one that asks for something, and says after the colon for what. A
+name is the last words of the function's path, as `Parser::is_named`, and may have stars. A call that is in two items asks for both.
 
-A fault is a function that asks for something and isn't in the table, or a name in the table that is of no function, or of one
+A fault is a function that asks for something and isn't in the list, or a name in the list that is of no function, or of one
 that asks for nothing. `--list` prints each function with what it asks for.
 """
 import fnmatch
@@ -12,6 +12,7 @@ import pathlib
 import re
 
 from lib.contracts.functions import Exports, functions_of
+from lib.pages.items import items_of
 
 TOP = pathlib.Path(__file__).resolve().parents[3]
 PAGE = TOP / "docs" / "PROMISES.md"
@@ -22,7 +23,7 @@ TESTS = {"tests", "tests.rt"}
 
 
 class Row(object):
-    """A name in the table, its line in the page, and what the table says that it asks for."""
+    """A name in the list, its line in the page, and what the list says that it asks for."""
 
     def __init__(self, line, name, words):
         self.line, self.name, self.words = line, name, words
@@ -47,13 +48,12 @@ def public_functions():
 
 
 def rows():
-    """Each name in the first column of the section's table."""
+    """Each name of the section's list."""
     lines = PAGE.read_text().split("\n")
     at = lines.index(SECTION) + 1
     while at < len(lines) and not lines[at].startswith("#"):
-        cells = [cell.strip() for cell in re.split(r"(?<!\\)\|", lines[at])[1:-1]]
-        if len(cells) == 2:
-            yield from (Row(at + 1, name, cells[1]) for name in re.findall(r"`([\w:*]+)`", cells[0]))
+        for names, words in items_of(lines[at]):
+            yield from (Row(at + 1, name, words) for name in re.findall(r"`([\w:*]+)`", names))
         at += 1
 
 
@@ -61,30 +61,30 @@ def where(function):
     return "%s:%d" % (function.path.relative_to(TOP), function.line)
 
 
-def faults_of(functions, table):
+def faults_of(functions, listed):
     for name, function in functions:
-        if function.requires and not any(row.means(name) for row in table):
-            yield "%s: %s asks for %s, and isn't in the table" % (where(function), name, ", ".join(function.requires))
-    for row in table:
+        if function.requires and not any(row.means(name) for row in listed):
+            yield "%s: %s asks for %s, and isn't in the list" % (where(function), name, ", ".join(function.requires))
+    for row in listed:
         meant = [(name, function) for name, function in functions if row.means(name)]
         if not meant:
             yield "%s: there is no public function %s" % (row.where(), row.name)
         if not row.words:
-            yield "%s: the table doesn't say what %s asks for" % (row.where(), row.name)
+            yield "%s: the list doesn't say what %s asks for" % (row.where(), row.name)
         for name, function in meant:
             if not function.requires:
-                yield "%s: the table names %s, which asks for nothing: %s" % (row.where(), name, where(function))
+                yield "%s: the list names %s, which asks for nothing: %s" % (row.where(), name, where(function))
 
 
 def main(arguments):
-    functions, table = public_functions(), list(rows())
+    functions, listed = public_functions(), list(rows())
     asking = [(name, function) for name, function in functions if function.requires]
     if arguments:
         for name, function in asking:
             print("%s: %s" % (name, ", ".join(function.requires)))
-    faults = list(faults_of(functions, table))
+    faults = list(faults_of(functions, listed))
     for fault in faults:
         print("fault: " + fault)
-    print("%d public functions, %d of them ask for something, %d names in the table, %d faults" % (
-        len(functions), len(asking), len(table), len(faults)))
+    print("%d public functions, %d of them ask for something, %d names in the list, %d faults" % (
+        len(functions), len(asking), len(listed), len(faults)))
     return 1 if faults else 0

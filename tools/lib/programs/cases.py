@@ -151,7 +151,7 @@ def run(words, text=b""):
 
 
 def answers(program, texts):
-    """The line that ufmt_against_model writes of each text, and a fault if it doesn't of each."""
+    """The line that ufmt_model_probe writes of each text, and a fault if it doesn't of each."""
     ran = run([program], b"".join(b"%d\n%s" % (len(text), text) for text in texts))
     lines = ran.output.decode(errors="replace").splitlines()
     if ran.status == 0 and len(lines) == len(texts):

@@ -1,133 +1,162 @@
-//! Tests of each builder and its formatter after a failed call, for each piece of each call.
-use super::builder_calls::Block;
-use super::same;
-use super::stopped_calls::wrong_piece;
+//! Tests of structs and tuples that builders write, with each way to write a field.
+use std::collections::BTreeMap;
+use ufmt::{Formatter, uDebug, uWrite};
+use ufmt_test_rows::printed::Printed;
+use ufmt_test_rows::rows::{Table, has_wanted_rows, map};
 
-const PLAIN_LIST: &str = "\
-opening [|;
-entry 1|;
-entries , |2|, |3|;
-begin_entry , |;
-end_entry 4|;
-finish ]|";
+/// What builders write.
+#[derive(Drop)]
+enum Built {
+    Settings(BTreeMap<u64, u64>),
+    Unit,
+    /// Tuples with this name. `TwoFields` writes its second field by `begin_field` and `end_field`.
+    NoField(&'static str),
+    OneField(&'static str),
+    TwoFields(&'static str),
+    /// A struct without a name. Its fields have no name, and each is written in another way.
+    NoNames,
+    /// The same struct in one call.
+    NoNamesInOneCall,
+    /// A struct and two tuples without a name, each in one call.
+    UnnamedInOneCall,
+    /// Structs that end in dots, with this name: without fields, and with a field in each of two ways.
+    OnlyDots(&'static str),
+    FieldsAndDots(&'static str),
+    /// The same two structs, each in one call.
+    DotsInOneCall,
+}
 
-const PRETTY_LIST: &str = "\
-opening [|;
-entry \n|    |    |1|,\n|;
-entries     |    |2|,\n|    |    |3|,\n|;
-begin_entry     |    |;
-end_entry 4|,\n|;
-finish     |]|";
-
-const PLAIN_SET: &str = "\
-opening {|;
-entry 1|;
-entries , |2|, |3|;
-begin_entry , |;
-end_entry 4|;
-finish }|";
-
-const PRETTY_SET: &str = "\
-opening {|;
-entry \n|    |    |1|,\n|;
-entries     |    |2|,\n|    |    |3|,\n|;
-begin_entry     |    |;
-end_entry 4|,\n|;
-finish     |}|";
-
-const PLAIN_MAP: &str = "\
-opening {|;
-entry 1|: |2|;
-entries , |3|: |4|, |5|: |6|;
-begin_entry , |;
-begin_value 7|: |;
-end_entry 8|;
-finish }|";
-
-const PRETTY_MAP: &str = "\
-opening {|;
-entry \n|    |    |1|: |2|,\n|;
-entries     |    |3|: |4|,\n|    |    |5|: |6|,\n|;
-begin_entry     |    |;
-begin_value 7|: |;
-end_entry 8|,\n|;
-finish     |}|";
-
-const PLAIN_STRUCT: &str = "\
-opening S|;
-begin_field  {| |a|: |;
-end_field 1|;
-field , |b|: |2|;
-finish  |}|";
-
-const PRETTY_STRUCT: &str = "\
-opening S|;
-begin_field  {|\n|    |    |a|: |;
-end_field 1|,\n|;
-field     |    |b|: |2|,\n|;
-finish     |}|";
-
-const PLAIN_STRUCT_WITH_DOTS: &str = "\
-opening S|;
-begin_field  {| |a|: |;
-end_field 1|;
-field , |b|: |2|;
-finish_non_exhaustive , ..| |}|";
-
-const PRETTY_STRUCT_WITH_DOTS: &str = "\
-opening S|;
-begin_field  {|\n|    |    |a|: |;
-end_field 1|,\n|;
-field     |    |b|: |2|,\n|;
-finish_non_exhaustive     |    |..\n|    |}|";
-
-const ONLY_DOTS: &str = "\
-opening S|;
-finish_non_exhaustive  { .. }|";
-
-const PLAIN_TUPLE: &str = "\
-opening T|;
-begin_field (|;
-end_field 1|;
-field , |2|;
-finish )|";
-
-const PRETTY_TUPLE: &str = "\
-opening T|;
-begin_field (|\n|    |    |;
-end_field 1|,\n|;
-field     |    |2|,\n|;
-finish     |)|";
+impl Printed for Built {
+    fn print<W: uWrite>(&self, f: &mut Formatter<W>) -> Result<(), W::Error> {
+        match self {
+            Built::Settings(map) => {
+                let mut settings = f.debug_struct("S")?;
+                settings.field("m", map)?;
+                let outcome = 3i32.fmt(settings.begin_field("n")?);
+                settings.end_field(outcome)?;
+                settings.finish()
+            }
+            Built::Unit => f.debug_struct("A")?.finish(),
+            Built::NoField(name) => f.debug_tuple(name)?.finish(),
+            Built::OneField(name) => {
+                let mut tuple = f.debug_tuple(name)?;
+                tuple.field(&1u64)?;
+                tuple.finish()
+            }
+            Built::TwoFields(name) => {
+                let mut tuple = f.debug_tuple(name)?;
+                tuple.field(&1u64)?;
+                let outcome = 2i32.fmt(tuple.begin_field()?);
+                tuple.end_field(outcome)?;
+                tuple.finish()
+            }
+            Built::NoNames => {
+                let mut builder = f.debug_struct("")?;
+                builder.field("", &1u8)?;
+                let outcome = 2u8.fmt(builder.begin_field("")?);
+                builder.end_field(outcome)?;
+                builder.finish()
+            }
+            Built::NoNamesInOneCall => f.struct_2("", "", &1u8, "", &2u8),
+            Built::UnnamedInOneCall => {
+                f.struct_0("")?;
+                f.tuple_0("")?;
+                f.tuple_1("", &1u8)
+            }
+            Built::OnlyDots(name) => f.debug_struct(name)?.finish_non_exhaustive(),
+            Built::FieldsAndDots(name) => {
+                let mut builder = f.debug_struct(name)?;
+                builder.field("m", &1u8)?;
+                let outcome = 2u8.fmt(builder.begin_field("n")?);
+                builder.end_field(outcome)?;
+                builder.finish_non_exhaustive()
+            }
+            Built::DotsInOneCall => {
+                f.non_exhaustive_0("A")?;
+                f.non_exhaustive_2("S", "m", &1u8, "n", &2u8)
+            }
+        }
+    }
+}
 
 #[test]
-fn builders_close_at_each_refused_piece(rt: HostRuntime) {
-    for (case, block, is_pretty, calls) in [
-        ("a plain list", Block::List, false, PLAIN_LIST),
-        ("a pretty list", Block::List, true, PRETTY_LIST),
-        ("a plain set", Block::Set, false, PLAIN_SET),
-        ("a pretty set", Block::Set, true, PRETTY_SET),
-        ("a plain map", Block::Map, false, PLAIN_MAP),
-        ("a pretty map", Block::Map, true, PRETTY_MAP),
-        ("a plain struct", Block::Struct, false, PLAIN_STRUCT),
-        ("a pretty struct", Block::Struct, true, PRETTY_STRUCT),
+fn builders_write_structs_and_tuples_in_pieces(rt: HostRuntime) {
+    let mut table = Table::new(rt.alloc());
+    table.pieces_of_made(map(rt.alloc(), &[(1u64, 2u64)]).map(Built::Settings));
+    table.wants(
+        "\
+S| {| |m|: |{|1|: |2|}|, |n|: |3| |}|~
+S| {|\n|    |m|: |{|\n|    |    |1|: |2|,\n|    |}|,\n|    |n|: |3|,\n|}|",
+    );
+    for (built, wanted) in [
+        (Built::Unit, "A|"),
+        (Built::NoField(""), "|"),
+        (Built::NoField("T"), "T|"),
         (
-            "a plain struct with dots",
-            Block::StructWithDots,
-            false,
-            PLAIN_STRUCT_WITH_DOTS,
+            Built::OneField(""),
+            "\
+|(|1|,|)|~
+|(|\n|    |1|,\n|)|",
         ),
         (
-            "a pretty struct with dots",
-            Block::StructWithDots,
-            true,
-            PRETTY_STRUCT_WITH_DOTS,
+            Built::OneField("T"),
+            "\
+T|(|1|)|~
+T|(|\n|    |1|,\n|)|",
         ),
-        ("only dots, plain", Block::OnlyDots, false, ONLY_DOTS),
-        ("only dots, pretty", Block::OnlyDots, true, ONLY_DOTS),
-        ("a plain tuple", Block::Tuple, false, PLAIN_TUPLE),
-        ("a pretty tuple", Block::Tuple, true, PRETTY_TUPLE),
+        (
+            Built::TwoFields(""),
+            "\
+|(|1|, |2|)|~
+|(|\n|    |1|,\n|    |2|,\n|)|",
+        ),
+        (
+            Built::TwoFields("T"),
+            "\
+T|(|1|, |2|)|~
+T|(|\n|    |1|,\n|    |2|,\n|)|",
+        ),
+        (
+            Built::NoNames,
+            "\
+| {| ||: |1|, ||: |2| |}|~
+| {|\n|    ||: |1|,\n|    ||: |2|,\n|}|",
+        ),
+        (
+            Built::NoNamesInOneCall,
+            "\
+| {| ||: |1|, ||: |2| |}|~
+| {|\n|    ||: |1|,\n|    ||: |2|,\n|}|",
+        ),
+        (
+            Built::UnnamedInOneCall,
+            "\
+|||(|1|,|)|~
+|||(|\n|    |1|,\n|)|",
+        ),
+        (Built::OnlyDots(""), "| { .. }|"),
+        (Built::OnlyDots("A"), "A| { .. }|"),
+        (
+            Built::FieldsAndDots(""),
+            "\
+| {| |m|: |1|, |n|: |2|, ..| |}|~
+| {|\n|    |m|: |1|,\n|    |n|: |2|,\n|    |..\n|}|",
+        ),
+        (
+            Built::FieldsAndDots("S"),
+            "\
+S| {| |m|: |1|, |n|: |2|, ..| |}|~
+S| {|\n|    |m|: |1|,\n|    |n|: |2|,\n|    |..\n|}|",
+        ),
+        (
+            Built::DotsInOneCall,
+            "\
+A| { .. }|S| {| |m|: |1|, |n|: |2|, ..| |}|~
+A| { .. }|S| {|\n|    |m|: |1|,\n|    |n|: |2|,\n|    |..\n|}|",
+        ),
     ] {
-        let wrong = wrong_piece(rt.alloc(), block, is_pretty, calls);
-        same(&rt, wrong, Ok(None), case);
+        table.pieces(&built);
+        table.wants(wanted);
     }
+    has_wanted_rows(&rt, &table);
 }

@@ -3,9 +3,9 @@
 use super::nested::{comes_back, pretty_comes_back};
 use super::same;
 use std::alloc::{AllocError, Global};
-use ufmt_examples::{Node, Tree};
 use ufmt_parse::ParseError::NotText;
 use ufmt_parse::{ParseError, uParse};
+use ufmt_parse_examples::{Node, Tree};
 
 /// The parts of a value's text before and after the value that it holds.
 #[derive(Drop)]

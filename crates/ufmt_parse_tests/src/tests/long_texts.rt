@@ -42,13 +42,41 @@ fn first_wrong_place(
 #[test]
 fn pieces_at_each_place(rt: HostRuntime) {
     let alloc = rt.alloc();
-    let taken =
-        "\\n;\\\";\\\\;\\u{1b};\\u{7f};\u{e9};\u{1f600};\\n\u{e9};\u{e9}\\n;\\n\\t\\0; ;!;#;[;];~;'";
-    for piece in taken.split(';') {
+    for piece in [
+        "\\n",
+        "\\\"",
+        "\\\\",
+        "\\u{1b}",
+        "\\u{7f}",
+        "\u{e9}",
+        "\u{1f600}",
+        "\\n\u{e9}",
+        "\u{e9}\\n",
+        "\\n\\t\\0",
+        " ",
+        "!",
+        "#",
+        "[",
+        "]",
+        "~",
+        "'",
+    ] {
         same(&rt, first_wrong_place(alloc, piece, true), Ok(None), piece);
     }
-    let others = "\";\n;\u{7f};\u{1f};\\;\\u{41};\\';\\u{e9};\\n\";\u{e9}\";\\n\u{1};\u{e9}\u{7f}";
-    for piece in others.split(';') {
+    for piece in [
+        "\"",
+        "\n",
+        "\u{7f}",
+        "\u{1f}",
+        "\\",
+        "\\u{41}",
+        "\\'",
+        "\\u{e9}",
+        "\\n\"",
+        "\u{e9}\"",
+        "\\n\u{1}",
+        "\u{e9}\u{7f}",
+    ] {
         same(&rt, first_wrong_place(alloc, piece, false), Ok(None), piece);
     }
 }

@@ -190,20 +190,51 @@ fn names_past_ascii_are_parsed(rt: HostRuntime) {
     let wrong = [
         first_wrong::<Size>(
             alloc,
-            "Größe { höhe: 1, 名: \"é\" };Größe { höhe: 255, 名: \"\" }",
-            "Größe { hohe: 1, 名: \"é\" };Größ { höhe: 1, 名: \"é\" };Größe: { höhe: 1, 名: \"é\" };Größe { höhe: 256, 名: \"é\" };Größe { höhe: 1, 名 : \"é\" };Größe",
+            &[
+                "Größe { höhe: 1, 名: \"é\" }",
+                "Größe { höhe: 255, 名: \"\" }",
+            ],
+            &[
+                "Größe { hohe: 1, 名: \"é\" }",
+                "Größ { höhe: 1, 名: \"é\" }",
+                "Größe: { höhe: 1, 名: \"é\" }",
+                "Größe { höhe: 256, 名: \"é\" }",
+                "Größe { höhe: 1, 名 : \"é\" }",
+                "Größe",
+            ],
         ),
         first_wrong::<Pair>(
             alloc,
-            "a.b/c+ü(1, true);a.b/c+ü(0, false)",
-            "a.b/c+u(1, true);a.b(1, true);a.b/c+ü (1, true);a.b/c+ü",
+            &["a.b/c+ü(1, true)", "a.b/c+ü(0, false)"],
+            &[
+                "a.b/c+u(1, true)",
+                "a.b(1, true)",
+                "a.b/c+ü (1, true)",
+                "a.b/c+ü",
+            ],
         ),
         first_wrong::<Vec<Shape>>(
             alloc,
-            "[Größe, Empty];[größen::Paar(3, true)];[名 { höhe: 4 }, Größe];[]",
-            "[Größer];[Größe::Paar];[Größ];[Größe:];[Emptyé];[größen:Paar(3, true)];[größen::Paar];[größen(3, true)];[名];[名(4)]",
+            &[
+                "[Größe, Empty]",
+                "[größen::Paar(3, true)]",
+                "[名 { höhe: 4 }, Größe]",
+                "[]",
+            ],
+            &[
+                "[Größer]",
+                "[Größe::Paar]",
+                "[Größ]",
+                "[Größe:]",
+                "[Emptyé]",
+                "[größen:Paar(3, true)]",
+                "[größen::Paar]",
+                "[größen(3, true)]",
+                "[名]",
+                "[名(4)]",
+            ],
         ),
-        first_wrong::<Option<Shape>>(alloc, "Some(Größe);None", "Some(Größe: );Größe"),
+        first_wrong::<Option<Shape>>(alloc, &["Some(Größe)", "None"], &["Some(Größe: )", "Größe"]),
     ];
     for found in wrong {
         same(&rt, found, None, "names");

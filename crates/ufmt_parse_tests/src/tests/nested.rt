@@ -2,9 +2,9 @@
 use super::same;
 use std::alloc::Global;
 use ufmt::plain_text;
-use ufmt_examples::{Node, Tree};
 use ufmt_parse::ParseError::NotText;
 use ufmt_parse::{ParseError, parse, parse_pretty, uParse};
+use ufmt_parse_examples::{Node, Tree};
 
 // Whether the value that is parsed from a plain text prints as that text again.
 pub fn comes_back<T: uParse<Global>>(alloc: Global, text: &str) -> Result<bool, ParseError> {

@@ -3,9 +3,9 @@
 use super::same;
 use std::alloc::Global;
 use std::collections::{BTreeMap, BTreeSet};
-use ufmt_examples::Set;
 use ufmt_parse::ParseError::NotText;
 use ufmt_parse::{ParseError, line_and_column, parse, parse_pretty, uParse};
+use ufmt_parse_examples::Set;
 
 // Where a plain text stops fitting.
 fn place_of<T: uParse<Global>>(alloc: Global, text: &str) -> Option<usize> {

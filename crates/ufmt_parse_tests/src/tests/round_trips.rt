@@ -1,8 +1,8 @@
 //! Tests of values that are printed and parsed again.
 use super::same;
 use std::collections::BTreeMap;
-use ufmt_examples::Set;
 use ufmt_parse::{ParseError, parse, round_trip, round_trip_in};
+use ufmt_parse_examples::Set;
 
 const SET: Set = Set {
     channel: 255,

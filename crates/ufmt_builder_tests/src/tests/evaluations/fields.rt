@@ -1,8 +1,8 @@
 //! Tests of what `fields!` evaluates.
 use super::Turns;
-use crate::tests::rows::{Table, has_rows};
 use std::alloc::{AllocError, Global};
 use ufmt::{Formatter, fields};
+use ufmt_test_rows::rows::{Table, has_rows};
 
 #[derive(Drop)]
 struct Unit;

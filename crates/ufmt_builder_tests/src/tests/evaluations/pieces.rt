@@ -1,8 +1,8 @@
 //! Tests of what `pieces!` evaluates: all of its values, before a piece can be written.
 use super::Turns;
-use crate::tests::rows::{Table, has_rows};
 use ufmt::pieces;
 use ufmt::pieces::Line;
+use ufmt_test_rows::rows::{Table, has_wanted_rows};
 
 // The line is made, and not written.
 fn take<L: Line>(_line: &L) {}
@@ -78,11 +78,6 @@ fn make_three(number: usize, turns: &mut Turns) {
     }
 }
 
-const LINES: &str = "\
-a,a a,a a,a a,a aO,aO aS,aS aS,aS aS,aS aOS,aOS aC,aC aOC,aOC aCS,aCS aOCS,aOCS aMS,aMS aO,aO aO,aO aW,aW aWS,aWS aWC,aWC ;
-abcS abOcS abScOS abScMS aObSc aSbOSc aSbMSc aSbc aOSbcO aMSbcS ;
-";
-
 #[test]
 fn pieces_evaluates_in_order(rt: HostRuntime) {
     let mut table = Table::new(rt.alloc());
@@ -94,11 +89,15 @@ fn pieces_evaluates_in_order(rt: HostRuntime) {
         turns.note(' ');
     }
     table.put_made(Ok(turns.noted));
+    table.wants(
+        "a,a a,a a,a a,a aO,aO aS,aS aS,aS aS,aS aOS,aOS aC,aC aOC,aOC aCS,aCS aOCS,aOCS aMS,aMS aO,aO aO,aO aW,aW aWS,aWS aWC,aWC ",
+    );
     let mut turns = Turns::new(rt.alloc());
     for number in 0..10usize {
         make_three(number, &mut turns);
         turns.note(' ');
     }
     table.put_made(Ok(turns.noted));
-    has_rows(&rt, &table, LINES);
+    table.wants("abcS abOcS abScOS abScMS aObSc aSbOSc aSbMSc aSbc aOSbcO aMSbcS ");
+    has_wanted_rows(&rt, &table);
 }

@@ -1,9 +1,9 @@
 //! Tests of what `uwrite!` and `uwriteln!` evaluate.
 use super::Turns;
-use crate::tests::rows::{Table, has_rows};
 use crate::tests::writers::FailOnce;
 use std::alloc::{AllocError, Global};
 use ufmt::{Formatter, Full, uwrite, uwriteln};
+use ufmt_test_rows::rows::{Table, has_rows};
 
 // Each kind of piece by itself.
 macro_rules! one_piece {

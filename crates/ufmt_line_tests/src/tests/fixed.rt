@@ -1,0 +1,44 @@
+//! Tests of a user's own writer, which keeps its bytes in a fixed array.
+use ufmt::{Full, uWrite, write_debug};
+use ufmt_print_examples::Fixed;
+use ufmt_test_rows::rows::{Table, has_wanted_rows};
+
+trait FixedRows {
+    // Adds a row of what a call returned, and of what is written then.
+    fn put_fixed<const N: usize>(&mut self, outcome: Result<(), Full>, writer: &Fixed<N>);
+}
+
+impl FixedRows for Table {
+    fn put_fixed<const N: usize>(&mut self, outcome: Result<(), Full>, writer: &Fixed<N>) {
+        let outcome = outcome.map(|()| writer.written().len());
+        self.put_outcome(outcome, writer.written());
+    }
+}
+
+#[test]
+fn a_fixed_writer_takes_pieces_whole(rt: HostRuntime) {
+    let mut table = Table::new(rt.alloc());
+    // A piece that fits exactly is taken, and nothing of one that doesn't fit.
+    let mut writer = Fixed::<5>::new();
+    for (piece, wanted) in [
+        ("", "Ok(0) "),
+        ("ab", "Ok(2) ab"),
+        ("cdef", "Err(Full) ab"),
+        ("cde", "Ok(5) abcde"),
+        ("", "Ok(5) abcde"),
+        ("f", "Err(Full) abcde"),
+    ] {
+        let outcome = writer.write_str(piece);
+        table.put_fixed(outcome, &writer);
+        table.wants(wanted);
+    }
+    let mut writer = Fixed::<7>::new();
+    let outcome = write_debug(&mut writer, &[1u8, 23]);
+    table.put_fixed(outcome, &writer);
+    table.wants("Ok(7) [1, 23]");
+    let mut writer = Fixed::<6>::new();
+    let outcome = write_debug(&mut writer, &[1u8, 23]);
+    table.put_fixed(outcome, &writer);
+    table.wants("Err(Full) [1, 23");
+    has_wanted_rows(&rt, &table);
+}

@@ -1,0 +1,6 @@
+#![tactic(auto)]
+
+//! Tests of how values print, by public calls only.
+
+#[cfg(test)]
+mod tests;

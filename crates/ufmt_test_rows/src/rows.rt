@@ -1,0 +1,169 @@
+//! A table of rows. They are in one text, which one assert compares.
+use std::alloc::{AllocError, Global};
+use std::collections::{BTreeMap, BTreeSet};
+use std::fmt::Debug;
+use std::process::Abort;
+use ufmt::Full;
+
+// Checking an assert takes as long as checking twenty calls, so asserts are calls of these two.
+// No other function is generic over the handle: checking that takes as long again.
+pub fn same<T: PartialEq + Debug + Drop>(rt: &impl Abort, given: T, wanted: T, case: &str) {
+    assert_eq!(rt; given, wanted, "{case}");
+}
+
+/// Adds a row of each of these nonzero numbers by a method of the table, and after an arrow what is wanted of it.
+#[macro_export]
+macro_rules! put_nonzero {
+    ($table:ident.$put:ident: $($number:ident $value:expr => $wanted:expr),*) => {
+        $(match $number::new($value) {
+            Some(number) => $table.$put(number),
+            None => $table.put_nothing(),
+        }
+        $table.wants($wanted);)*
+    };
+}
+
+/// Asserts that the table has these rows.
+pub fn has_rows(rt: &impl Abort, table: &Table, wanted: &str) {
+    let given = table.text().unwrap_or("no memory for a row");
+    let rows = given.split(";\n").zip(wanted.split(";\n"));
+    for (number, (given, wanted)) in rows.enumerate() {
+        assert_eq!(rt; (number, given), (number, wanted));
+    }
+    assert_eq!(rt; given, wanted);
+}
+
+/// Asserts that each row of the table is what is wanted of it.
+pub fn has_wanted_rows(rt: &impl Abort, table: &Table) {
+    has_rows(rt, table, table.wanted.as_str());
+}
+
+/// Rows, one after another, with a semicolon and a line feed after each.
+#[derive(Drop)]
+pub struct Table {
+    alloc: Global,
+    text: String,
+    wanted: String,
+    has_all: bool,
+}
+
+impl Table {
+    pub fn new(alloc: Global) -> Self {
+        Table {
+            alloc,
+            text: String::new(alloc),
+            wanted: String::new(alloc),
+            has_all: true,
+        }
+    }
+
+    pub fn alloc(&self) -> Global {
+        self.alloc
+    }
+
+    /// Returns the rows, if there was memory for all of them.
+    pub fn text(&self) -> Option<&str> {
+        if self.has_all {
+            Some(self.text.as_str())
+        } else {
+            None
+        }
+    }
+
+    /// Says what is wanted of the row that was added last. It stands beside the row's value, so that a failure names it.
+    pub fn wants(&mut self, row: &str) {
+        let row = self.wanted.push_str(row);
+        let end = self.wanted.push_str(";\n");
+        self.has_all &= row.is_ok() && end.is_ok();
+    }
+
+    /// Adds a row.
+    pub fn put(&mut self, row: &str) {
+        let row = self.text.push_str(row);
+        let end = self.text.push_str(";\n");
+        self.has_all &= row.is_ok() && end.is_ok();
+    }
+
+    /// Adds a row that was made, if there was memory for it.
+    pub fn put_made(&mut self, row: Result<String, AllocError>) {
+        match row {
+            Ok(row) => self.put(row.as_str()),
+            Err(_) => self.has_all = false,
+        }
+    }
+
+    /// Adds a row of two texts that were made, by `joined_if_different`.
+    pub fn put_both(
+        &mut self,
+        first: Result<String, AllocError>,
+        second: Result<String, AllocError>,
+    ) {
+        match (first, second) {
+            (Ok(first), Ok(second)) => self.put_made(joined_if_different(first, second.as_str())),
+            _ => self.has_all = false,
+        }
+    }
+
+    /// Notes that a row couldn't be made.
+    pub fn put_nothing(&mut self) {
+        self.has_all = false;
+    }
+
+    /// Adds a row of a call's result, and of what it left in a buffer.
+    pub fn put_outcome(&mut self, outcome: Result<usize, Full>, left: &[u8]) {
+        let text = str::from_utf8(left).unwrap_or("bytes that are no UTF-8");
+        self.put_made(format!(in self.alloc; "{outcome:?} {text}"));
+    }
+}
+
+/// Returns the first text, and after a tilde the second if it differs.
+pub fn joined_if_different(mut first: String, second: &str) -> Result<String, AllocError> {
+    if first.as_str() != second {
+        first.push_str("~\n")?;
+        first.push_str(second)?;
+    }
+    Ok(first)
+}
+
+pub fn are_ok(outcomes: &[Result<(), AllocError>]) -> bool {
+    outcomes.iter().all(|outcome| outcome.is_ok())
+}
+
+pub fn list<N: Copy>(alloc: Global, items: &[N]) -> Result<Vec<N>, AllocError> {
+    Vec::from_slice(alloc, items)
+}
+
+pub fn set<N: Copy + Ord>(alloc: Global, items: &[N]) -> Result<BTreeSet<N>, AllocError> {
+    let mut set = BTreeSet::new(alloc);
+    for item in items {
+        set.insert(*item)?;
+    }
+    Ok(set)
+}
+
+pub fn map<K: Copy + Ord, V: Copy>(
+    alloc: Global,
+    pairs: &[(K, V)],
+) -> Result<BTreeMap<K, V>, AllocError> {
+    let mut map = BTreeMap::new(alloc);
+    for (key, value) in pairs {
+        map.insert(*key, *value)?;
+    }
+    Ok(map)
+}
+
+// `part`, `count` times, between a start and an end.
+pub fn repeated(
+    alloc: Global,
+    start: &str,
+    part: &str,
+    count: usize,
+    end: &str,
+) -> Result<String, AllocError> {
+    let mut text = String::from_str(alloc, start)?;
+    for _ in 0..count {
+        text.push_str(part)?;
+    }
+    text.push_str(end)?;
+    Ok(text)
+}

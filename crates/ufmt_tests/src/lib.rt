@@ -1,6 +1,0 @@
-#![tactic(auto)]
-
-//! Tests of the libraries that print, by public calls only.
-
-#[cfg(test)]
-mod tests;
