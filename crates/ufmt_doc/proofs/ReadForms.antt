@@ -1,5 +1,5 @@
 -- What is read from a text is the normal form of each document with that text.
-use Rattle.std.proofs.Common.{◌≡◌, ◌∙◌, sym, List, ℕ, Result, Ok, Err, IfOk}
+use Rattle.std.proofs.Common.{◌≡◌, ◌∙◌, refl, sym, List, ℕ, Result, Ok, Err, IfOk}
 use Rattle.ufmt.specs.Document.{Document}
 use Rattle.ufmt.specs.Layout.{layout, setting}
 use Rattle.ufmt_core.specs.declared.layout.Mode.{Mode}
@@ -10,7 +10,12 @@ use Rattle.ufmt.specs.Token.{IsDocument, normal}
 use Rattle.ufmt_grammar.proofs.NormalForms.{IsDocument-normal, layout-normal, normal-normal}
 use Rattle.ufmt_grammar.proofs.OneWay.{plain_text_determines, pretty_text_determines}
 use Rattle.ufmt_scan.specs.declared.error.ReadError.{ReadError}
-use Rattle.ufmt_scan.specs.Texts.{IsConvertedAs, IsNormalFormAs}
+use Rattle.ufmt_scan.specs.Texts.{IsConverted, IsNormalForm, other_mode}
+
+-- the other mode of the other mode is the mode itself
+pub other_other : (mode : Mode) → other_mode (other_mode mode) ≡ mode
+other_other Plain = refl
+other_other Pretty = refl
 
 module _ (class : Class) where
   -- in each mode equal texts have equal normal forms
@@ -20,25 +25,25 @@ module _ (class : Class) where
   determines Pretty d e hd he same = (pretty_text_determines class d e hd he).0 same
 
   -- what was read from a text is the normal form of each document with that text
-  pub form_is : (mode : Mode) (input : List ℕ) (e d : Document) → IsNormalFormAs class (layout (setting mode 0)) input e → IsDocument class d
+  pub form_is : (mode : Mode) (input : List ℕ) (e d : Document) → IsNormalForm class (layout (setting mode 0)) input e → IsDocument class d
       → layout (setting mode 0) d ≡ input → e ≡ normal d
   form_is mode input e d read one same = sym read.1 ∙ determines mode e d read.0 one (read.2 ∙ sym same)
 
   -- what is read from a document's text is its normal form
   pub read_again : {X : Type 0} (view : X → Document) (mode : Mode) (outcome : Result X ReadError) (input : List ℕ) (d : Document) → IsDocument class d → input ≡ layout (setting mode 0) d
-      → IfOk outcome (λ doc. IsNormalFormAs class (layout (setting mode 0)) input (view doc)) → IfOk outcome (λ doc. view doc ≡ normal d)
+      → IfOk outcome (λ doc. IsNormalForm class (layout (setting mode 0)) input (view doc)) → IfOk outcome (λ doc. view doc ≡ normal d)
   read_again view mode (Ok doc) input d one is read = form_is mode input (view doc) d read one (sym is)
   read_again view mode (Err e) input d one is read = tt
 
   -- a text that was converted is that of a document in normal form
-  converted_form : (s : Setting) (to : Document → List ℕ) (input text : List ℕ) → IsConvertedAs class (layout s) to input text
-      → (d : Document) × IsNormalFormAs class (layout s) input d
+  converted_form : (s : Setting) (to : Document → List ℕ) (input text : List ℕ) → IsConverted class (layout s) to input text
+      → (d : Document) × IsNormalForm class (layout s) input d
   converted_form s to input text is =
       let some = is.some in
       (normal some.0, (IsDocument-normal class some.0 some.1, normal-normal some.0, layout-normal s some.0 ∙ some.2))
 
   -- so it is, whatever is made of the text
-  pub converted_has_form : (s : Setting) (to : Document → List ℕ) (input text : List ℕ) → IsConvertedAs class (layout s) to input text
-      → {A E : Type 0} (outcome : Result A E) → IfOk outcome (λ _. (d : Document) × IsNormalFormAs class (layout s) input d)
+  pub converted_has_form : (s : Setting) (to : Document → List ℕ) (input text : List ℕ) → IsConverted class (layout s) to input text
+      → {A E : Type 0} (outcome : Result A E) → IfOk outcome (λ _. (d : Document) × IsNormalForm class (layout s) input d)
   converted_has_form s to input text is (Ok again) = converted_form s to input text is
   converted_has_form s to input text is (Err e) = tt

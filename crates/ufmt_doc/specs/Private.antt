@@ -4,8 +4,6 @@ use Rattle.ufmt.specs.Document.{Document, nest}
 use Rattle.ufmt.specs.Quoted.{escaped_bytes}
 use Rattle.ufmt_grammar.specs.declared.class.Class.{Class}
 use Rattle.ufmt.specs.Token.{IsBuilt, IsName, MayEndInDots}
-use Rattle.ufmt_core.specs.declared.layout.Mode.{Mode}
-use Rattle.ufmt_core.specs.declared.layout.Mode.TheVariants.{Plain, Pretty}
 pub mod Growing
 
 -- built from names and leaves of the class, with blocks with entries nested at most n deep. `is_token` and `is_debug` test it with the depth that is left
@@ -19,8 +17,3 @@ IsStructName class name = IsName class name.0 × (IsTrue name.1 → MayEndInDots
 -- these are the bytes that are spelled up to the closing quote, if the text ends with one
 abbrev pub AreSpelled : ℕ → List ℕ → List ℕ → Type 0
 AreSpelled quote inside bytes = (bs : List ℕ) → inside ≡ escaped_bytes quote bs ++ (quote ∷ []) → bytes ≡ bs
-
--- the mode of the other text
-abbrev pub other_mode : Mode → Mode
-other_mode Plain = Pretty
-other_mode Pretty = Plain

@@ -51,8 +51,8 @@ impl<N: StructName> Tree<N> {
         self.is_within(Class::Token, u8::MAX)
     }
 
-    /// Returns whether it is a debug document. `read_debug_plain` and `read_debug_pretty` take the texts
-    /// of these. Each token document is one.
+    /// Returns whether it is a debug document. `read_debug` takes the texts of these. Each token document
+    /// is one.
     pub fn is_debug(&self) -> bool
         ensures { IsTrue result ↔ IsDebugDocument (tree_document N.shown self.now) }
     {

@@ -5,6 +5,7 @@ ghost use Rattle.ufmt.specs.Layout.{plain_text};
 ghost use Rattle.ufmt.specs.Token.{IsTokenDocument, normal};
 ghost use Rattle.ufmt_doc.specs.Doc.{tree_document};
 ghost use Rattle.ufmt_doc.specs.FieldTexts.{ShowsField, ShowsText};
+ghost use Rattle.ufmt_grammar.specs.declared.class.Class.TheVariants.{Token};
 ghost use Rattle.ufmt_scan.specs.Texts.{IsNormalForm, NoDocumentPrints};
 
 use crate::doc::{StructName, Tree};
@@ -43,11 +44,11 @@ impl<N: StructName> Tree<N> {
 /// Returns the text of a field of the struct that was printed to a line, as `Doc::field_text` does. Fails
 /// with `NotText` only if no token document has this plain text; the other error is `OutOfMemory`.
 pub fn read_field(alloc: Global, line: &[u8], name: &str) -> Result<Option<String>, ReadError>
-    ensures found { IfOk result (λ outcome. (d : Document) × IsNormalForm plain_text line.now d
+    ensures found { IfOk result (λ outcome. (d : Document) × IsNormalForm Token plain_text line.now d
         × ShowsField name.now d outcome) }
     ensures each { IfOk result (λ outcome. (d : Document) → IsTokenDocument d → plain_text d ≡ line.now
         → ShowsField name.now (normal d) outcome) }
-    ensures not_text { IsErrOf result ReadError.NotText → NoDocumentPrints plain_text line.now }
+    ensures not_text { IsErrOf result ReadError.NotText → NoDocumentPrints Token plain_text line.now }
 {
     let doc = read_plain(alloc, line)?;
     Ok(doc.field_text(alloc, name)?)

@@ -2,8 +2,8 @@
 ghost use Rattle.std.specs.Prelude.{IfOk, IsErrOf};
 ghost use Rattle.ufmt.specs.Layout.{layout, plain_text, pretty_text, setting};
 ghost use Rattle.ufmt_doc.specs.Doc.{debug_document, doc_document, tree_document};
-ghost use Rattle.ufmt_grammar.specs.declared.class.Class.TheVariants.{Debug};
-ghost use Rattle.ufmt_scan.specs.Texts.{IsNormalForm, IsNormalFormAs, NoDocumentPrints, NoDocumentPrintsAs};
+ghost use Rattle.ufmt_grammar.specs.declared.class.Class.TheVariants.{Debug, Token};
+ghost use Rattle.ufmt_scan.specs.Texts.{IsNormalForm, NoDocumentPrints};
 
 mod document_sink;
 mod open_blocks;
@@ -20,39 +20,30 @@ use ufmt_scan::scan::scan;
 /// name without a block is a leaf. Fails with `NotText` only if no token document has this text;
 /// the other error is `OutOfMemory`.
 pub fn read_plain(alloc: Global, input: &[u8]) -> Result<Doc, ReadError>
-    ensures ok { IfOk result (λ doc. IsNormalForm plain_text input.now (doc_document doc)) }
-    ensures not_text { IsErrOf result ReadError.NotText → NoDocumentPrints plain_text input.now }
+    ensures ok { IfOk result (λ doc. IsNormalForm Token plain_text input.now (doc_document doc)) }
+    ensures not_text { IsErrOf result ReadError.NotText → NoDocumentPrints Token plain_text input.now }
 {
     read_text(alloc, Class::Token, Mode::Plain, input)
 }
 
 /// Returns the document with this pretty text, as `read_plain` does with a plain one.
 pub fn read_pretty(alloc: Global, input: &[u8]) -> Result<Doc, ReadError>
-    ensures ok { IfOk result (λ doc. IsNormalForm pretty_text input.now (doc_document doc)) }
-    ensures not_text { IsErrOf result ReadError.NotText → NoDocumentPrints pretty_text input.now }
+    ensures ok { IfOk result (λ doc. IsNormalForm Token pretty_text input.now (doc_document doc)) }
+    ensures not_text { IsErrOf result ReadError.NotText → NoDocumentPrints Token pretty_text input.now }
 {
     read_text(alloc, Class::Token, Mode::Pretty, input)
 }
 
-/// Returns the debug document with this plain text, in normal form. Fails with `NotText` only if no
-/// debug document has this text; the other error is `OutOfMemory`.
-pub fn read_debug_plain(alloc: Global, input: &[u8]) -> Result<DebugDoc, ReadError>
+/// Returns the debug document with this text in this mode, in normal form. Fails with `NotText` only if
+/// no debug document has this text; the other error is `OutOfMemory`.
+#[inline(always)]
+pub fn read_debug(alloc: Global, mode: Mode, text: &[u8]) -> Result<DebugDoc, ReadError>
     ensures ok { IfOk result
-        (λ doc. IsNormalFormAs Debug plain_text input.now (debug_document doc)) }
+        (λ doc. IsNormalForm Debug (layout (setting mode 0)) text.now (debug_document doc)) }
     ensures not_text { IsErrOf result ReadError.NotText
-        → NoDocumentPrintsAs Debug plain_text input.now }
+        → NoDocumentPrints Debug (layout (setting mode 0)) text.now }
 {
-    read_text(alloc, Class::Debug, Mode::Plain, input)
-}
-
-/// Returns the debug document with this pretty text, as `read_debug_plain` does with a plain one.
-pub fn read_debug_pretty(alloc: Global, input: &[u8]) -> Result<DebugDoc, ReadError>
-    ensures ok { IfOk result
-        (λ doc. IsNormalFormAs Debug pretty_text input.now (debug_document doc)) }
-    ensures not_text { IsErrOf result ReadError.NotText
-        → NoDocumentPrintsAs Debug pretty_text input.now }
-{
-    read_text(alloc, Class::Debug, Mode::Pretty, input)
+    read_text(alloc, Class::Debug, mode, text)
 }
 
 /// The document of the class in normal form that has the whole text. Debug documents are read with names
@@ -63,10 +54,10 @@ pub(crate) fn read_text<N: StructName>(
     mode: Mode,
     input: &[u8],
 ) -> Result<Tree<N>, ReadError>
-    ensures ok { IfOk result (λ doc. IsNormalFormAs class (layout (setting mode 0)) input.now
+    ensures ok { IfOk result (λ doc. IsNormalForm class (layout (setting mode 0)) input.now
         (tree_document N.shown doc)) }
     ensures not_text { IsErrOf result ReadError.NotText
-        → NoDocumentPrintsAs class (layout (setting mode 0)) input.now }
+        → NoDocumentPrints class (layout (setting mode 0)) input.now }
 {
     let mut sink = DocumentSink::new(alloc);
     scan(class, mode, input, &mut sink)?;

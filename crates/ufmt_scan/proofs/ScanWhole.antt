@@ -11,7 +11,7 @@ use Rattle.ufmt_core.specs.declared.layout.Mode.{Mode}
 use Rattle.ufmt_scan.specs.declared.scan.event.ScanError.TheVariants.{NotText, Sink}
 use Rattle.ufmt_scan.specs.Private.Scanning.{ScansOn, Stops, Emits, Scanned, prefixed}
 use Rattle.ufmt_scan.specs.Scan.{TextEvent, Leads, ScanRefused, Scans, events_of, ScanError}
-use Rattle.ufmt_scan.specs.Texts.{IsNormalFormAs, NoDocumentPrintsAs}
+use Rattle.ufmt_scan.specs.Texts.{IsNormalForm, NoDocumentPrints}
 
 -- if there are no events, there is no document
 none_is_whole : (o : Option (Document × List ℕ)) → parse_map events_of o ≡ None → option_and_then (λ x. if_all x.0 x.1) o ≡ None
@@ -31,7 +31,7 @@ leads_whole (Some x) es (Some y) is d whole =
     (y.0, ap events_of (sym (if_all_is x.0 d x.1 whole)) ∙ (same_parts {A = List TextEvent} {B = List ℕ} (events_of x.0, x.1) (es ++ y.0, y.1) is).0)
 
 -- a document in normal form is read from its text
-form_is_read : (class : Class) (mode : Mode) (t : List ℕ) (d : Document) → IsNormalFormAs class (layout (setting mode 0)) t d → read_text class mode t ≡ Some d
+form_is_read : (class : Class) (mode : Mode) (t : List ℕ) (d : Document) → IsNormalForm class (layout (setting mode 0)) t d → read_text class mode t ≡ Some d
 form_is_read class mode t d form = ap (read_text class mode) (sym form.2) ∙ reads_each_text class mode d form.0 ∙ ap Some form.1
 
 -- the events of the document at the front of a text were emitted, or the scan ended before
@@ -51,7 +51,7 @@ module _ {S : Type 0} (took stopped : S → List TextEvent → S → Type 0) (cl
 
   -- a scan that came to the end of the text, and one that left a rest
   pub whole_scanned : (rest : List ℕ) → Emits took took a b (parse_map events_of (read class (setting mode 0) 255 t)) (Some ([], rest))
-      → (length rest == 0) ≡ true → (d : Document) × IsNormalFormAs class (layout (setting mode 0)) t d × took a (events_of d) b
+      → (length rest == 0) ≡ true → (d : Document) × IsNormalForm class (layout (setting mode 0)) t d × took a (events_of d) b
   whole_scanned (c ∷ rest) h ended = let none = eqb-true (length (c ∷ rest)) 0 ended in absurd (omega arith)
   whole_scanned [] h ended =
       let read_as = mapped_from events_of (read class (setting mode 0) 255 t) (h.events ++ []) [] h.is in
@@ -59,7 +59,7 @@ module _ {S : Type 0} (took stopped : S → List TextEvent → S → Type 0) (cl
       (read_as.0, form, subst (λ es. took a es b) (sym (read_as.2 ∙ append-nil h.events)) (h.takes a [] begun))
 
   pub whole_goes_on : (rest : List ℕ) → Emits took took a b (parse_map events_of (read class (setting mode 0) 255 t)) (Some ([], rest))
-      → (length rest == 0) ≡ false → (es : List TextEvent) × took a es b × NoDocumentPrintsAs class (layout (setting mode 0)) t
+      → (length rest == 0) ≡ false → (es : List TextEvent) × took a es b × NoDocumentPrints class (layout (setting mode 0)) t
   whole_goes_on [] h more = absurd (cc)
   whole_goes_on (c ∷ rest) h more =
       let read_as = mapped_from events_of (read class (setting mode 0) 255 t) (h.events ++ []) (c ∷ rest) h.is in

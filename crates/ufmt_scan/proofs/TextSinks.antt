@@ -17,7 +17,7 @@ use Rattle.ufmt_scan.specs.declared.scan.event.ScanError.TheVariants.{NotText, S
 use Rattle.ufmt_scan.specs.Private.TextSink.{Wrote}
 use Rattle.ufmt_scan.specs.Scan.{TextEvent, TakesEvent, Scans, events_of, ScanError}
 use Rattle.ufmt_scan.specs.ScanTexts.{written, setting_after, texts_written}
-use Rattle.ufmt_scan.specs.Texts.{ConvertsToAs, IsConvertedAs, IsNormalFormAs}
+use Rattle.ufmt_scan.specs.Texts.{ConvertsTo, IsConverted, IsNormalForm}
 use Rattle.ufmt_scan.proofs.EventTexts.{last_setting-append, texts_written-append, events_written}
 
 -- two documents of a class with the same text in one mode have the same text in the other
@@ -33,10 +33,10 @@ written_of to d = texts_written (setting to 0) (events_of d)
 
 module _ (class : Class) (from to : Mode) (input : List ℕ) where
   abbrev IsOther : List ℕ → Type 0
-  IsOther text = IsConvertedAs class (layout (setting from 0)) (layout (setting to 0)) input text
+  IsOther text = IsConverted class (layout (setting from 0)) (layout (setting to 0)) input text
 
   -- the input is converted to the text of the events of its document, and to no other text
-  read_is : (d : Document) → IsNormalFormAs class (layout (setting from 0)) input d → IsOther (written_of to d) × ((text : List ℕ) → IsOther text → written_of to d ≡ text)
+  read_is : (d : Document) → IsNormalForm class (layout (setting from 0)) input d → IsOther (written_of to d) × ((text : List ℕ) → IsOther text → written_of to d ≡ text)
   read_is d form =
       let whole = events_written to class 0 d form.0.0 (omega (arith, form.0.1)) in (
         record { some = (d, form.0, form.2); each = λ e token same. modes_agree class from to e d token form.0 (same ∙ sym form.2) ∙ sym whole },
@@ -66,7 +66,7 @@ module _ {W : Type 0} {p : ℕ} (seen : Seen W) where
 
     -- what a scan with that sink does with its writer
     pub scan_converts : {E : Type 0} (outcome : Result (⊤) (ScanError E)) (new : TextSink W p) → Scans (Wrote seen true) (Wrote seen false) class outcome begun new (layout (setting from 0)) input
-        → ConvertsToAs seen class (layout (setting from 0)) (layout (setting to 0)) input writer.now outcome new.writer.now × (writer.ghost_name ≡ new.writer.ghost_name)
+        → ConvertsTo seen class (layout (setting from 0)) (layout (setting to 0)) input writer.now outcome new.writer.now × (writer.ghost_name ≡ new.writer.ghost_name)
     scan_converts (Ok x) new h = (
       record {
         ok = λ is. (written_of to h.0, (read_is class from to input h.0 h.1).0);
@@ -91,7 +91,7 @@ module _ {W : Type 0} {p : ℕ} (seen : Seen W) where
         not_text = λ is. absurd (cc);
         writes = λ text other.
             let d = other.some.0 in
-            let form : IsNormalFormAs class (layout (setting from 0)) input (normal d) = (IsDocument-normal class d other.some.1, normal-normal d, layout-normal (setting from 0) d ∙ other.some.2) in
+            let form : IsNormalForm class (layout (setting from 0)) input (normal d) = (IsDocument-normal class d other.some.1, normal-normal d, layout-normal (setting from 0) d ∙ other.some.2) in
             rw (← (read_is class from to input (normal d) form).1 text other, (h.2 (normal d) form).1, texts_written-append) (Writes-fails _ h.1.writes);
         lawful = (texts_written (setting to 0) h.0, false, h.1.writes);
       },

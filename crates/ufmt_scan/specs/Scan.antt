@@ -10,7 +10,7 @@ use Rattle.ufmt_core.specs.declared.layout.Kind.TheVariants.{Brackets, Braces, S
 pub use Rattle.ufmt_scan.specs.declared.scan.event.ScanError.{ScanError}
 use Rattle.ufmt_scan.specs.declared.scan.event.ScanError.TheVariants.{NotText, Sink}
 use Rattle.ufmt_grammar.specs.declared.class.Class.{Class}
-use Rattle.ufmt_scan.specs.Texts.{IsNormalFormAs, NoDocumentPrintsAs}
+use Rattle.ufmt_scan.specs.Texts.{IsNormalForm, NoDocumentPrints}
 use Rattle.ufmt_scan.specs.declared.scan.event.Event.{Event}
 pub use Rattle.ufmt_scan.specs.declared.scan.event.Event.TheVariants.{Leaf, Empty, OnlyDots, Open, FieldName, Colon, Next, Close, Dots}
 
@@ -77,11 +77,11 @@ module _ {S : Type 0} (took stopped : S → List TextEvent → S → Type 0) whe
 
   -- a failed scan: the sink took some events, and no document of the class has the text; or it stopped at the last, and these come first in each document with the text
   abbrev pub ScanRefused : {E : Type 0} → Class → S → S → (Document → List ℕ) → List ℕ → ScanError E → Type 0
-  ScanRefused class old new text_of input NotText = (es : List TextEvent) × took old es new × NoDocumentPrintsAs class text_of input
+  ScanRefused class old new text_of input NotText = (es : List TextEvent) × took old es new × NoDocumentPrints class text_of input
   ScanRefused class old new text_of input (Sink e) = (es : List TextEvent) × stopped old es new
-      × ((d : Document) → IsNormalFormAs class text_of input d → Leads es (events_of d))
+      × ((d : Document) → IsNormalForm class text_of input d → Leads es (events_of d))
 
   -- a scan: the sink took the events of the document of the class in normal form that has the text; or the scan fails
   abbrev pub Scans : {E : Type 0} → Class → Result (⊤) (ScanError E) → S → S → (Document → List ℕ) → List ℕ → Type 0
   Scans class outcome old new text_of input =
-      MatchResult outcome (λ x. (d : Document) × IsNormalFormAs class text_of input d × took old (events_of d) new) (ScanRefused class old new text_of input)
+      MatchResult outcome (λ x. (d : Document) × IsNormalForm class text_of input d × took old (events_of d) new) (ScanRefused class old new text_of input)

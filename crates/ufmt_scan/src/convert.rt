@@ -1,8 +1,8 @@
-//! Conversions of plain texts to pretty ones and back. Those with `debug` in their name convert the texts
-//! of debug documents, the others those of token documents.
+//! Conversions of plain texts to pretty ones and back. A text is in the other mode than its result.
+ghost use Rattle.std.specs.Prelude.{◌≡◌};
 ghost use Rattle.ufmt_core.specs.Layout.{layout, plain_text, pretty_text, setting};
-ghost use Rattle.ufmt_grammar.specs.declared.class.Class.TheVariants.{Debug};
-ghost use Rattle.ufmt_scan.specs.Texts.{Converts, ConvertsAs, ConvertsInto, ConvertsIntoAs, ConvertsTo, ConvertsToAs};
+ghost use Rattle.ufmt_grammar.specs.declared.class.Class.TheVariants.{Token};
+ghost use Rattle.ufmt_scan.specs.Texts.{Converts, ConvertsInto, ConvertsTo, other_mode};
 
 mod growing;
 pub(crate) mod text_sink;
@@ -16,145 +16,97 @@ use ufmt_core::layout::{Mode, Setting};
 use ufmt_core::{Cursor, Full, uWrite};
 use ufmt_grammar::class::Class;
 
-/// Writes the pretty text of the token documents with this plain text to the writer, and takes no
-/// memory of its own. Fails with `NotText` only if no token document has this text; any other error
-/// is the writer's. Part of the text may have been written.
-pub fn write_to_pretty<W: uWrite>(writer: &mut W, input: &[u8]) -> Result<(), ScanError<W::Error>>
-    ensures { ConvertsTo W.seen plain_text pretty_text input.now writer.old result writer.new }
-{
-    write::<W, true>(Class::Token, Mode::Plain, Mode::Pretty, writer, input)
-}
-
-/// Writes the plain text of the token documents with this pretty text to the writer. Fails as
-/// `write_to_pretty` does.
-pub fn write_to_plain<W: uWrite>(writer: &mut W, input: &[u8]) -> Result<(), ScanError<W::Error>>
-    ensures { ConvertsTo W.seen pretty_text plain_text input.now writer.old result writer.new }
-{
-    write::<W, false>(Class::Token, Mode::Pretty, Mode::Plain, writer, input)
-}
-
-// Reads a text in one mode, and writes it in another.
+/// Returns the text in the mode `to` of the documents of the class that have this text in the other mode.
+/// Undoes the conversion to the other mode. Fails with `NotText` only if no document of the class has
+/// this text; the other error is `OutOfMemory`.
 #[inline(always)]
-fn write<W: uWrite, const PRETTY: bool>(
+pub fn convert(alloc: Global, class: Class, to: Mode, text: &[u8]) -> Result<String, ReadError>
+    ensures { Converts class (layout (setting (other_mode to) 0)) (layout (setting to 0)) text.now
+        result }
+{
+    let mut converted = Growing::new(alloc);
+    write_converted(&mut converted, class, to, text)?;
+    Ok(converted.into_string())
+}
+
+/// Writes the converted text to the front of the buffer, and returns its length. Fails with `NotText`
+/// only if no document of the class has this text, and never with `Full` if one has it and the converted
+/// text fits. On `Ok`, the bytes after it are as before.
+#[inline(always)]
+pub fn convert_into(
+    buffer: &mut [u8],
     class: Class,
-    from: Mode,
-    mode: Mode,
+    to: Mode,
+    text: &[u8],
+) -> Result<usize, ScanError<Full>>
+    ensures { ConvertsInto class (layout (setting (other_mode to) 0)) (layout (setting to 0)) text.now
+        buffer.old result buffer.new }
+{
+    let mut cursor = Cursor::new(buffer);
+    write_converted(&mut cursor, class, to, text)?;
+    Ok(cursor.written().len())
+}
+
+/// Writes the converted text to the writer, and takes no memory of its own. Fails with `NotText` only if
+/// no document of the class has this text; any other error is the writer's. Part of the converted text
+/// may have been written.
+#[inline(always)]
+pub fn write_converted<W: uWrite>(
     writer: &mut W,
-    input: &[u8],
+    class: Class,
+    to: Mode,
+    text: &[u8],
 ) -> Result<(), ScanError<W::Error>>
-    ensures { ConvertsToAs W.seen class (layout (setting from 0)) (layout (setting mode 0)) input.now
+    ensures { ConvertsTo W.seen class (layout (setting (other_mode to) 0)) (layout (setting to 0)) text.now
         writer.old result writer.new }
 {
-    let setting = Setting { mode, depth: 0 };
+    match to {
+        Mode::Plain => write_in::<W, false>(writer, class, Mode::Plain, text),
+        Mode::Pretty => write_in::<W, true>(writer, class, Mode::Pretty, text),
+    }
+}
+
+// `PRETTY` says whether `to` is the pretty mode, so that it is a constant for the scanner's copy.
+#[inline(always)]
+fn write_in<W: uWrite, const PRETTY: bool>(
+    writer: &mut W,
+    class: Class,
+    to: Mode,
+    text: &[u8],
+) -> Result<(), ScanError<W::Error>>
+    ensures { ConvertsTo W.seen class (layout (setting (other_mode to) 0)) (layout (setting to 0)) text.now
+        writer.old result writer.new }
+{
+    let setting = Setting { mode: to, depth: 0 };
     scan(
         class,
-        from,
-        input,
+        other_mode(to),
+        text,
         &mut TextSink::<_, PRETTY> { writer, setting },
     )
 }
 
-/// Writes the pretty text of the token documents with this plain text to the front of the buffer,
-/// and returns its length. Fails with `NotText` only if no token document has this text, and never
-/// with `Full` if one has it and its pretty text fits. On `Ok`, the bytes after it are as before.
-pub fn to_pretty_into(buffer: &mut [u8], input: &[u8]) -> Result<usize, ScanError<Full>>
-    ensures { ConvertsInto plain_text pretty_text input.now buffer.old result buffer.new }
-{
-    let mut cursor = Cursor::new(buffer);
-    write_to_pretty(&mut cursor, input)?;
-    Ok(cursor.written().len())
-}
-
-/// Writes the plain text of the token documents with this pretty text to the front of the buffer,
-/// and returns its length. Fails as `to_pretty_into` does.
-pub fn to_plain_into(buffer: &mut [u8], input: &[u8]) -> Result<usize, ScanError<Full>>
-    ensures { ConvertsInto pretty_text plain_text input.now buffer.old result buffer.new }
-{
-    let mut cursor = Cursor::new(buffer);
-    write_to_plain(&mut cursor, input)?;
-    Ok(cursor.written().len())
-}
-
-/// Returns the pretty text of the token documents with this plain text. Undoes `to_plain`. Fails
-/// with `NotText` only if no token document has this text; the other error is `OutOfMemory`.
+/// Returns the pretty text of the token documents with this plain text, as `convert` does.
 pub fn to_pretty(alloc: Global, input: &[u8]) -> Result<String, ReadError>
-    ensures { Converts plain_text pretty_text input.now result }
+    ensures { Converts Token plain_text pretty_text input.now result }
 {
-    let mut text = Growing::new(alloc);
-    write_to_pretty(&mut text, input)?;
-    Ok(text.into_string())
+    convert(alloc, Class::Token, Mode::Pretty, input)
 }
 
-/// Returns the plain text of the token documents with this pretty text. Undoes `to_pretty`, and
-/// fails as `to_pretty` does.
+/// Returns the plain text of the token documents with this pretty text, as `convert` does.
 pub fn to_plain(alloc: Global, input: &[u8]) -> Result<String, ReadError>
-    ensures { Converts pretty_text plain_text input.now result }
+    ensures { Converts Token pretty_text plain_text input.now result }
 {
-    let mut text = Growing::new(alloc);
-    write_to_plain(&mut text, input)?;
-    Ok(text.into_string())
+    convert(alloc, Class::Token, Mode::Plain, input)
 }
 
-/// Writes the pretty text of the debug documents with this plain text to the writer, and takes no
-/// memory of its own. Fails with `NotText` only if no debug document has this text; any other error
-/// is the writer's. Part of the text may have been written.
-pub fn write_debug_to_pretty<W: uWrite>(
-    writer: &mut W,
-    input: &[u8],
-) -> Result<(), ScanError<W::Error>>
-    ensures { ConvertsToAs W.seen Debug plain_text pretty_text input.now writer.old result writer.new }
+/// Returns the mode of the other text: of pretty texts for `Plain`, and of plain ones for `Pretty`.
+#[inline(always)]
+pub fn other_mode(mode: Mode) -> Mode
+    ensures { result ≡ other_mode mode }
 {
-    write::<W, true>(Class::Debug, Mode::Plain, Mode::Pretty, writer, input)
-}
-
-/// Writes the plain text of the debug documents with this pretty text to the writer. Fails as
-/// `write_debug_to_pretty` does.
-pub fn write_debug_to_plain<W: uWrite>(
-    writer: &mut W,
-    input: &[u8],
-) -> Result<(), ScanError<W::Error>>
-    ensures { ConvertsToAs W.seen Debug pretty_text plain_text input.now writer.old result writer.new }
-{
-    write::<W, false>(Class::Debug, Mode::Pretty, Mode::Plain, writer, input)
-}
-
-/// Writes the pretty text of the debug documents with this plain text to the front of the buffer,
-/// and returns its length. Fails with `NotText` only if no debug document has this text, and never
-/// with `Full` if one has it and its pretty text fits. On `Ok`, the bytes after it are as before.
-pub fn debug_to_pretty_into(buffer: &mut [u8], input: &[u8]) -> Result<usize, ScanError<Full>>
-    ensures { ConvertsIntoAs Debug plain_text pretty_text input.now buffer.old result buffer.new }
-{
-    let mut cursor = Cursor::new(buffer);
-    write_debug_to_pretty(&mut cursor, input)?;
-    Ok(cursor.written().len())
-}
-
-/// Writes the plain text of the debug documents with this pretty text to the front of the buffer,
-/// and returns its length. Fails as `debug_to_pretty_into` does.
-pub fn debug_to_plain_into(buffer: &mut [u8], input: &[u8]) -> Result<usize, ScanError<Full>>
-    ensures { ConvertsIntoAs Debug pretty_text plain_text input.now buffer.old result buffer.new }
-{
-    let mut cursor = Cursor::new(buffer);
-    write_debug_to_plain(&mut cursor, input)?;
-    Ok(cursor.written().len())
-}
-
-/// Returns the pretty text of the debug documents with this plain text. Undoes `debug_to_plain`. Fails
-/// with `NotText` only if no debug document has this text; the other error is `OutOfMemory`.
-pub fn debug_to_pretty(alloc: Global, input: &[u8]) -> Result<String, ReadError>
-    ensures { ConvertsAs Debug plain_text pretty_text input.now result }
-{
-    let mut text = Growing::new(alloc);
-    write_debug_to_pretty(&mut text, input)?;
-    Ok(text.into_string())
-}
-
-/// Returns the plain text of the debug documents with this pretty text. Undoes `debug_to_pretty`, and
-/// fails as `debug_to_pretty` does.
-pub fn debug_to_plain(alloc: Global, input: &[u8]) -> Result<String, ReadError>
-    ensures { ConvertsAs Debug pretty_text plain_text input.now result }
-{
-    let mut text = Growing::new(alloc);
-    write_debug_to_plain(&mut text, input)?;
-    Ok(text.into_string())
+    match mode {
+        Mode::Plain => Mode::Pretty,
+        Mode::Pretty => Mode::Plain,
+    }
 }

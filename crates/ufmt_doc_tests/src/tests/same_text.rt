@@ -3,8 +3,10 @@ use super::same;
 use super::shape::Shape::{self, Leaf, Listed, MapOf, NonExhaustiveOf, SetOf, StructOf, TupleOf};
 use super::shape::{debug_made, made};
 use std::alloc::{AllocError, Global};
+use ufmt::layout::Mode;
 use ufmt_doc::doc::{DebugDoc, Doc, same_text};
-use ufmt_doc::plain_reader::{ReadError, read_debug_plain, read_plain};
+use ufmt_doc::plain_reader::{ReadError, read_plain};
+use ufmt_doc::read_debug;
 
 // What `same_text` returns, if both are token documents.
 fn same_text_of_tokens(a: &Doc, b: &Doc) -> Option<bool> {
@@ -270,9 +272,9 @@ const READ_AS_DEBUG: [&str; 21] = [
 
 // Whether the document of this text has the same text as only one of `READ_AS_DEBUG`, its own.
 fn has_only_its_own_debug_text(alloc: Global, text: &str) -> Result<bool, ReadError> {
-    let doc = read_debug_plain(alloc, text.as_bytes())?;
+    let doc = read_debug(alloc, Mode::Plain, text.as_bytes())?;
     for other in READ_AS_DEBUG {
-        let other_doc = read_debug_plain(alloc, other.as_bytes())?;
+        let other_doc = read_debug(alloc, Mode::Plain, other.as_bytes())?;
         if same_text_of_debug(&doc, &other_doc) != Some(text == other) {
             return Ok(false);
         }

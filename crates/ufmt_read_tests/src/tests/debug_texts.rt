@@ -2,13 +2,11 @@
 //! `tools/expected/show VALUE` prints them again.
 use super::{holds, same};
 use std::alloc::{AllocError, Global};
+use ufmt::class::Class;
 use ufmt::layout::Mode;
 use ufmt::{plain_text, pretty_text};
-use ufmt_doc::convert::{
-    debug_to_plain, debug_to_plain_into, debug_to_pretty, debug_to_pretty_into,
-    write_debug_to_plain, write_debug_to_pretty,
-};
-use ufmt_doc::{DebugDoc, ReadError, is_debug_text, is_text, read_debug_plain, read_debug_pretty};
+use ufmt_doc::convert::{convert, convert_into, other_mode, write_converted};
+use ufmt_doc::{DebugDoc, ReadError, is_text, read_debug};
 use ufmt_scan::scan::ScanError;
 
 // Whether the document was read, and has both texts. Without memory this is false.
@@ -144,33 +142,27 @@ fn texts_that_rustc_printed_are_read_and_converted(rt: HostRuntime) {
         ("[..]", "[\n    ..,\n]"),
     ];
     for (plain, pretty) in rows {
-        let read = read_debug_plain(alloc, plain.as_bytes());
-        holds(&rt, has_texts(alloc, read, plain, pretty), plain);
-        let read = read_debug_pretty(alloc, pretty.as_bytes());
-        holds(&rt, has_texts(alloc, read, plain, pretty), pretty);
-        let converted = debug_to_pretty(alloc, plain.as_bytes());
-        holds(&rt, is_converted(converted, pretty), plain);
-        let converted = debug_to_plain(alloc, pretty.as_bytes());
-        holds(&rt, is_converted(converted, plain), pretty);
-        holds(&rt, is_debug_text(Mode::Plain, plain.as_bytes()), plain);
-        holds(&rt, is_debug_text(Mode::Pretty, pretty.as_bytes()), pretty);
+        for (mode, text, other) in [(Mode::Plain, plain, pretty), (Mode::Pretty, pretty, plain)] {
+            let read = read_debug(alloc, mode, text.as_bytes());
+            holds(&rt, has_texts(alloc, read, plain, pretty), text);
+            let converted = convert(alloc, Class::Debug, other_mode(mode), text.as_bytes());
+            holds(&rt, is_converted(converted, other), text);
+            holds(&rt, is_text(Class::Debug, mode, text.as_bytes()), text);
+        }
     }
 }
 
 #[test]
 fn debug_texts_are_converted_without_memory(rt: HostRuntime) {
     let (plain, pretty) = ("(1.5, 0..5)", "(\n    1.5,\n    0..5,\n)");
-    let mut buffer = [0u8; 64];
-    let count = debug_to_pretty_into(&mut buffer, plain.as_bytes());
-    holds(&rt, is_at_front(&buffer, count, pretty), "to pretty");
-    let count = debug_to_plain_into(&mut buffer, pretty.as_bytes());
-    holds(&rt, is_at_front(&buffer, count, plain), "to plain");
-    let mut text = String::new(rt.alloc());
-    let outcome = write_debug_to_pretty(&mut text, plain.as_bytes());
-    holds(&rt, is_written(&text, outcome, pretty), "to a writer");
-    let mut text = String::new(rt.alloc());
-    let outcome = write_debug_to_plain(&mut text, pretty.as_bytes());
-    holds(&rt, is_written(&text, outcome, plain), "to a writer");
+    for (to, text, other) in [(Mode::Pretty, plain, pretty), (Mode::Plain, pretty, plain)] {
+        let mut buffer = [0u8; 64];
+        let count = convert_into(&mut buffer, Class::Debug, to, text.as_bytes());
+        holds(&rt, is_at_front(&buffer, count, other), text);
+        let mut written = String::new(rt.alloc());
+        let outcome = write_converted(&mut written, Class::Debug, to, text.as_bytes());
+        holds(&rt, is_written(&written, outcome, other), text);
+    }
 }
 
 #[test]
@@ -211,8 +203,14 @@ fn other_texts_are_no_debug_texts(rt: HostRuntime) {
         b"(1.5)",
     ];
     for text in rows {
-        same(&rt, is_debug_text(Mode::Plain, text), false, "no text");
-        let refused = debug_to_pretty(rt.alloc(), text) == Err(ReadError::NotText);
+        same(
+            &rt,
+            is_text(Class::Debug, Mode::Plain, text),
+            false,
+            "no text",
+        );
+        let converted = convert(rt.alloc(), Class::Debug, Mode::Pretty, text);
+        let refused = converted == Err(ReadError::NotText);
         holds(&rt, refused, "no text is converted");
     }
 }
@@ -221,10 +219,20 @@ fn other_texts_are_no_debug_texts(rt: HostRuntime) {
 #[test]
 fn many_colons_are_read(rt: HostRuntime) {
     let colons = [b':'; 1000];
-    same(&rt, is_debug_text(Mode::Plain, &colons), false, "colons");
+    same(
+        &rt,
+        is_text(Class::Debug, Mode::Plain, &colons),
+        false,
+        "colons",
+    );
     let mut leaf = [b':'; 1001];
     leaf[1000] = b'1';
-    same(&rt, is_debug_text(Mode::Plain, &leaf), true, "an address");
+    same(
+        &rt,
+        is_text(Class::Debug, Mode::Plain, &leaf),
+        true,
+        "an address",
+    );
 }
 
 // A struct without fields has its dots on its own line, and no comma follows dots.
@@ -246,12 +254,12 @@ fn other_dots_are_no_pretty_texts(rt: HostRuntime) {
     for text in rows {
         same(
             &rt,
-            is_debug_text(Mode::Pretty, text.as_bytes()),
+            is_text(Class::Debug, Mode::Pretty, text.as_bytes()),
             false,
             text,
         );
-        let refused = debug_to_plain(rt.alloc(), text.as_bytes()) == Err(ReadError::NotText);
-        holds(&rt, refused, text);
+        let converted = convert(rt.alloc(), Class::Debug, Mode::Plain, text.as_bytes());
+        holds(&rt, converted == Err(ReadError::NotText), text);
     }
 }
 
@@ -259,8 +267,18 @@ fn other_dots_are_no_pretty_texts(rt: HostRuntime) {
 #[test]
 fn dots_are_no_token_texts(rt: HostRuntime) {
     for text in ["S { .. }", "S { a: 1, .. }"] {
-        same(&rt, is_text(Mode::Plain, text.as_bytes()), false, text);
+        same(
+            &rt,
+            is_text(Class::Token, Mode::Plain, text.as_bytes()),
+            false,
+            text,
+        );
     }
     let pretty = "S {\n    a: 1,\n    ..\n}";
-    same(&rt, is_text(Mode::Pretty, pretty.as_bytes()), false, pretty);
+    same(
+        &rt,
+        is_text(Class::Token, Mode::Pretty, pretty.as_bytes()),
+        false,
+        pretty,
+    );
 }

@@ -6,18 +6,11 @@ use ufmt::class::Class;
 use ufmt::layout::Mode;
 use ufmt::plain_text;
 use ufmt_doc::laws::{normal_by_way_of_text, text_again, text_by_way_of_the_other};
-use ufmt_doc::{DebugDoc, ReadError, read_debug_plain, read_debug_pretty, read_field};
-
-fn read_debug(alloc: Global, mode: Mode, text: &str) -> Result<DebugDoc, ReadError> {
-    match mode {
-        Mode::Plain => read_debug_plain(alloc, text.as_bytes()),
-        Mode::Pretty => read_debug_pretty(alloc, text.as_bytes()),
-    }
-}
+use ufmt_doc::{DebugDoc, ReadError, read_debug, read_field};
 
 // Whether the document is a struct that ends in dots, how many fields it shows, and its plain text.
 fn shape(alloc: Global, mode: Mode, text: &str) -> Result<(bool, usize, String), ReadError> {
-    let doc = read_debug(alloc, mode, text)?;
+    let doc = read_debug(alloc, mode, text.as_bytes())?;
     let ends_in_dots = matches!(&doc, DebugDoc::StructOf(name, _) if name.ends_in_dots);
     let shown = doc.fields().unwrap_or(&[]).len();
     Ok((ends_in_dots, shown, plain_text(alloc, &doc)?))
@@ -78,7 +71,7 @@ fn structs_that_end_in_dots_are_read(rt: HostRuntime) {
 
 // Whether the text and its document come back, each by way of the other.
 fn comes_back(alloc: Global, mode: Mode, text: &str) -> Result<bool, ReadError> {
-    let doc = read_debug(alloc, mode, text)?;
+    let doc = read_debug(alloc, mode, text.as_bytes())?;
     let normal = normal_by_way_of_text(alloc, Class::Debug, mode, &doc)?;
     let of_normal = text_again(alloc, Class::Debug, mode, text.as_bytes())?;
     let converted = text_by_way_of_the_other(alloc, Class::Debug, mode, text.as_bytes())?;
@@ -118,7 +111,7 @@ fn token_readers_refuse_dots(rt: HostRuntime) {
 
 // What the field shows in a struct that ends in dots. The struct itself shows nothing.
 fn shown(alloc: Global, name: &str) -> Result<(Option<String>, bool), ReadError> {
-    let doc = read_debug_plain(alloc, br#"S { a: "x y", b: [1], a: 2, .. }"#)?;
+    let doc = read_debug(alloc, Mode::Plain, br#"S { a: "x y", b: [1], a: 2, .. }"#)?;
     let shows_nothing = doc.leaf_text(alloc)?.is_none() && doc.as_leaf().is_none();
     Ok((doc.field_text(alloc, name)?, shows_nothing))
 }

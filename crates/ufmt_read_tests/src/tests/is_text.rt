@@ -1,5 +1,6 @@
 //! Tests of `is_text` on a table, in both modes.
 use super::same;
+use ufmt::class::Class;
 use ufmt::layout::Mode;
 use ufmt_scan::is_text;
 
@@ -32,8 +33,23 @@ fn is_text_is_true_only_of_texts_of_its_mode(rt: HostRuntime) {
         ("é", false, false),
     ];
     for (text, is_plain, is_pretty) in rows {
-        same(&rt, is_text(Mode::Plain, text.as_bytes()), is_plain, text);
-        same(&rt, is_text(Mode::Pretty, text.as_bytes()), is_pretty, text);
+        same(
+            &rt,
+            is_text(Class::Token, Mode::Plain, text.as_bytes()),
+            is_plain,
+            text,
+        );
+        same(
+            &rt,
+            is_text(Class::Token, Mode::Pretty, text.as_bytes()),
+            is_pretty,
+            text,
+        );
     }
-    same(&rt, is_text(Mode::Plain, b"\"\xff\""), false, "no UTF-8");
+    same(
+        &rt,
+        is_text(Class::Token, Mode::Plain, b"\"\xff\""),
+        false,
+        "no UTF-8",
+    );
 }

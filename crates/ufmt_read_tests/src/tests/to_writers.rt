@@ -2,35 +2,24 @@
 use super::holds;
 use super::texts::{NODE_PLAIN, NODE_PRETTY};
 use std::alloc::{AllocError, Global};
+use ufmt::class::Class;
 use ufmt::layout::Mode;
 use ufmt::{Cursor, Full, uWrite};
-use ufmt_doc::convert::{to_plain_into, to_pretty_into, write_to_plain, write_to_pretty};
+use ufmt_doc::convert::{convert_into, write_converted};
 use ufmt_doc::scan::ScanError;
-
-// Converts a text of this mode, to the writer.
-fn converted_to<W: uWrite>(
-    mode: Mode,
-    writer: &mut W,
-    text: &[u8],
-) -> Result<(), ScanError<W::Error>> {
-    match mode {
-        Mode::Plain => write_to_pretty(writer, text),
-        Mode::Pretty => write_to_plain(writer, text),
-    }
-}
 
 // Whether the conversion to a buffer of this size is `Ok` if the whole fits, and else writes a
 // prefix and fails with `Full`.
 fn is_fitted(
     alloc: Global,
-    mode: Mode,
+    to: Mode,
     text: &[u8],
     other: &[u8],
     size: usize,
 ) -> Result<bool, AllocError> {
     let mut bytes = vec![in alloc; 0u8; size]?;
     let mut cursor = Cursor::new(bytes.as_mut_slice());
-    let is_right = match converted_to(mode, &mut cursor, text) {
+    let is_right = match write_converted(&mut cursor, Class::Token, to, text) {
         Ok(()) => size >= other.len() && cursor.written() == other,
         Err(ScanError::Sink(Full)) => size < other.len() && other.starts_with(cursor.written()),
         Err(ScanError::NotText) => false,
@@ -39,10 +28,10 @@ fn is_fitted(
 }
 
 // For how many sizes that holds, from no byte to one more than the result has.
-fn fitted(alloc: Global, mode: Mode, text: &str, other: &str) -> Result<usize, AllocError> {
+fn fitted(alloc: Global, to: Mode, text: &str, other: &str) -> Result<usize, AllocError> {
     let mut count = 0usize;
     for size in 0..=other.len().saturating_add(1) {
-        if is_fitted(alloc, mode, text.as_bytes(), other.as_bytes(), size)? {
+        if is_fitted(alloc, to, text.as_bytes(), other.as_bytes(), size)? {
             count = count.saturating_add(1);
         }
     }
@@ -55,22 +44,22 @@ fn conversions_fail_with_full_only_if_the_buffer_is_too_short(rt: HostRuntime) {
     let pretty =
         "{\n    a: [\n        \"b\",\n        (),\n    ],\n    N: {},\n    (\n        c,\n    ): {\n        d,\n        e,\n    },\n}";
     let rows = [
-        (Mode::Plain, plain, pretty),
-        (Mode::Pretty, pretty, plain),
-        (Mode::Plain, NODE_PLAIN, NODE_PRETTY),
-        (Mode::Pretty, NODE_PRETTY, NODE_PLAIN),
+        (Mode::Pretty, plain, pretty),
+        (Mode::Plain, pretty, plain),
+        (Mode::Pretty, NODE_PLAIN, NODE_PRETTY),
+        (Mode::Plain, NODE_PRETTY, NODE_PLAIN),
     ];
-    for (mode, text, other) in rows {
-        let sizes = fitted(rt.alloc(), mode, text, other);
+    for (to, text, other) in rows {
+        let sizes = fitted(rt.alloc(), to, text, other);
         holds(&rt, sizes == Ok(other.len().saturating_add(2)), text);
     }
 }
 
 // Whether the conversion to a buffer with room enough fails with `NotText`.
-fn is_no_text(mode: Mode, text: &[u8]) -> bool {
+fn is_no_text(to: Mode, text: &[u8]) -> bool {
     let mut bytes = [0u8; 64];
     let mut cursor = Cursor::new(&mut bytes);
-    match converted_to(mode, &mut cursor, text) {
+    match write_converted(&mut cursor, Class::Token, to, text) {
         Err(ScanError::NotText) => true,
         Ok(()) | Err(ScanError::Sink(_)) => false,
     }
@@ -79,21 +68,18 @@ fn is_no_text(mode: Mode, text: &[u8]) -> bool {
 #[test]
 fn inputs_that_are_no_text_fail_with_not_text(rt: HostRuntime) {
     for text in ["", "[a", "[a, b", "[a,b]", "S { a }", "{a: b, c}"] {
-        holds(&rt, is_no_text(Mode::Plain, text.as_bytes()), text);
+        holds(&rt, is_no_text(Mode::Pretty, text.as_bytes()), text);
     }
     for text in ["", "[a]", "[\n    a\n]", "[\n    a,\n] "] {
-        holds(&rt, is_no_text(Mode::Pretty, text.as_bytes()), text);
+        holds(&rt, is_no_text(Mode::Plain, text.as_bytes()), text);
     }
 }
 
 // Whether the conversion into a buffer with room enough succeeds only if this is a text, writes
 // `front`, and keeps the bytes after it.
-fn is_at_front(mode: Mode, text: &str, is_text: bool, front: &str) -> bool {
+fn is_at_front(to: Mode, text: &str, is_text: bool, front: &str) -> bool {
     let mut bytes = [b'#'; 64];
-    let outcome = match mode {
-        Mode::Plain => to_pretty_into(&mut bytes, text.as_bytes()),
-        Mode::Pretty => to_plain_into(&mut bytes, text.as_bytes()),
-    };
+    let outcome = convert_into(&mut bytes, Class::Token, to, text.as_bytes());
     let is_said = match outcome {
         Ok(count) => is_text && count == front.len(),
         Err(ScanError::NotText) => !is_text,
@@ -111,24 +97,24 @@ fn conversions_into_a_buffer_write_at_its_front(rt: HostRuntime) {
         "S {\n    a: [\n        1,\n        (),\n    ],\n}",
     );
     let rows = [
-        (Mode::Plain, plain, true, pretty),
-        (Mode::Pretty, pretty, true, plain),
-        (Mode::Plain, "[a, b", false, "[\n    a,\n    b"),
-        (Mode::Pretty, "[\n    a\n]", false, "[a"),
-        (Mode::Plain, ", a", false, ""),
+        (Mode::Pretty, plain, true, pretty),
+        (Mode::Plain, pretty, true, plain),
+        (Mode::Pretty, "[a, b", false, "[\n    a,\n    b"),
+        (Mode::Plain, "[\n    a\n]", false, "[a"),
+        (Mode::Pretty, ", a", false, ""),
     ];
-    for (mode, text, is_text, front) in rows {
-        holds(&rt, is_at_front(mode, text, is_text, front), text);
+    for (to, text, is_text, front) in rows {
+        holds(&rt, is_at_front(to, text, is_text, front), text);
     }
 }
 
 #[test]
 fn errors_are_compared_and_shown(rt: HostRuntime) {
     let mut bytes = [0u8; 4];
-    assert_eq!(rt; to_plain_into(&mut bytes, b"[\n    a,\n]"), Ok(3));
-    assert_eq!(rt;
-        to_pretty_into(&mut bytes, b"[a]"),
-        Err(ScanError::Sink(Full))
-    );
-    assert_eq!(rt; to_pretty_into(&mut bytes, b"]"), Err(ScanError::NotText));
+    let written = convert_into(&mut bytes, Class::Token, Mode::Plain, b"[\n    a,\n]");
+    assert_eq!(rt; written, Ok(3));
+    let full = convert_into(&mut bytes, Class::Token, Mode::Pretty, b"[a]");
+    assert_eq!(rt; full, Err(ScanError::Sink(Full)));
+    let refused = convert_into(&mut bytes, Class::Token, Mode::Pretty, b"]");
+    assert_eq!(rt; refused, Err(ScanError::NotText));
 }

@@ -2,7 +2,7 @@
 use std::alloc::Global;
 use ufmt::layout::Mode;
 use ufmt::{plain_text, pretty_text, uDebug};
-use ufmt_doc::convert::{to_plain, to_pretty};
+use ufmt_doc::convert::{other_mode, to_plain, to_pretty};
 use ufmt_doc::{Doc, ReadError, read_plain, read_pretty};
 
 #[derive(Clone, Copy, PartialEq, Debug)]
@@ -62,10 +62,7 @@ pub fn verdict_on(alloc: Global, mode: Mode, text: &[u8]) -> Verdict {
 
 // Whether the document has both texts, and the converted text converts back.
 fn verdict_on_taken(alloc: Global, mode: Mode, text: &[u8], doc: &Doc, other: &[u8]) -> Verdict {
-    let back = match mode {
-        Mode::Plain => Mode::Pretty,
-        Mode::Pretty => Mode::Plain,
-    };
+    let back = other_mode(mode);
     let has_texts = has_text(alloc, mode, doc, text) && has_text(alloc, back, doc, other);
     if has_texts && converts_to(alloc, back, other, text) {
         Verdict::Taken

@@ -1,5 +1,0 @@
-use Rattle.ufmt_scan.proofs.Conversions.{converts}
-use Rattle.ufmt_scan.proofs.convert.to_plain.Goals as goal
-
-pub returns : goal.returns
-returns c = converts c.in_ok-write_to_plain.ensures c.new-text.ensures c.into_string.ensures
