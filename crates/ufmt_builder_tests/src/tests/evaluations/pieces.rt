@@ -78,26 +78,49 @@ fn make_three(number: usize, turns: &mut Turns) {
     }
 }
 
+// What each form evaluates, in the order of the forms' numbers: by itself, also with a comma after it, and among three.
+const OF_ONE: [&str; 19] = [
+    "a,a",
+    "a,a",
+    "a,a",
+    "a,a",
+    "aO,aO",
+    "aS,aS",
+    "aS,aS",
+    "aS,aS",
+    "aOS,aOS",
+    "aC,aC",
+    "aOC,aOC",
+    "aCS,aCS",
+    "aOCS,aOCS",
+    "aMS,aMS",
+    "aO,aO",
+    "aO,aO",
+    "aW,aW",
+    "aWS,aWS",
+    "aWC,aWC",
+];
+
+const OF_THREE: [&str; 10] = [
+    "abcS", "abOcS", "abScOS", "abScMS", "aObSc", "aSbOSc", "aSbMSc", "aSbc", "aOSbcO", "aMSbcS",
+];
+
 #[test]
 fn pieces_evaluates_in_order(rt: HostRuntime) {
     let mut table = Table::new(rt.alloc());
-    let mut turns = Turns::new(rt.alloc());
-    for number in 0..19usize {
+    for (number, wanted) in OF_ONE.iter().enumerate() {
+        let mut turns = Turns::new(rt.alloc());
         make_one(number, &mut turns);
         turns.note(',');
         make_one_with_comma(number, &mut turns);
-        turns.note(' ');
+        table.put_made(Ok(turns.noted));
+        table.wants(wanted);
     }
-    table.put_made(Ok(turns.noted));
-    table.wants(
-        "a,a a,a a,a a,a aO,aO aS,aS aS,aS aS,aS aOS,aOS aC,aC aOC,aOC aCS,aCS aOCS,aOCS aMS,aMS aO,aO aO,aO aW,aW aWS,aWS aWC,aWC ",
-    );
-    let mut turns = Turns::new(rt.alloc());
-    for number in 0..10usize {
+    for (number, wanted) in OF_THREE.iter().enumerate() {
+        let mut turns = Turns::new(rt.alloc());
         make_three(number, &mut turns);
-        turns.note(' ');
+        table.put_made(Ok(turns.noted));
+        table.wants(wanted);
     }
-    table.put_made(Ok(turns.noted));
-    table.wants("abcS abOcS abScOS abScMS aObSc aSbOSc aSbMSc aSbc aOSbcO aMSbcS ");
     has_wanted_rows(&rt, &table);
 }
