@@ -1,13 +1,9 @@
-//! `uDisplayHex`: hexadecimal texts of integers, and the padding of texts in every radix.
+//! `uDisplayHex`: hexadecimal texts, and the padding of texts in every radix. The numbers that print so are below `radix`.
 ghost use Rattle.std.specs.Prelude.{◌≡◌, ◌<◌, ◌-◌, ◌+◌, ◌↔◌, ℕ, List, IsTrue, replicate, is_ok};
 ghost use Rattle.ufmt_core.specs.Formatter.{Prints};
 ghost use Rattle.ufmt.specs.declared.hex.HexOptions.{HexOptions};
 ghost use Rattle.ufmt.specs.Hex.{padded};
 ghost use Rattle.ufmt.specs.Radix.{padded_after, pads_first, prefix_in};
-
-mod core_impls;
-mod integers;
-mod nonzero;
 
 use crate::radix::Radix;
 use ufmt_core::{Formatter, uWrite};

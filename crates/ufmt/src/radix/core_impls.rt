@@ -1,5 +1,5 @@
-//! `uDisplayRadix` of references, `Wrapping` and `Saturating`.
-use crate::hex::HexOptions;
+//! `uDisplayRadix` and `uDisplayHex` of references, `Wrapping` and `Saturating`.
+use crate::hex::{HexOptions, uDisplayHex};
 use crate::radix::{Radix, uDisplayRadix};
 use std::num::{Saturating, Wrapping};
 use ufmt_core::{Formatter, uWrite};
@@ -19,6 +19,19 @@ impl<T: uDisplayRadix> uDisplayRadix for &T {
 }
 
 /// Prints what the reference refers to.
+impl<T: uDisplayHex> uDisplayHex for &T {
+    ghost hex_text = { λ x. T.hex_text x.now };
+
+    fn fmt_hex<W: uWrite>(
+        &self,
+        f: &mut Formatter<W>,
+        options: HexOptions,
+    ) -> Result<(), W::Error> {
+        (**self).fmt_hex(f, options)
+    }
+}
+
+/// Prints what the reference refers to.
 impl<T: uDisplayRadix> uDisplayRadix for &mut T {
     ghost radix_text = { λ x. T.radix_text x.now };
 
@@ -29,6 +42,19 @@ impl<T: uDisplayRadix> uDisplayRadix for &mut T {
         options: HexOptions,
     ) -> Result<(), W::Error> {
         (**self).fmt_radix(f, radix, options)
+    }
+}
+
+/// Prints what the reference refers to.
+impl<T: uDisplayHex> uDisplayHex for &mut T {
+    ghost hex_text = { λ x. T.hex_text x.now };
+
+    fn fmt_hex<W: uWrite>(
+        &self,
+        f: &mut Formatter<W>,
+        options: HexOptions,
+    ) -> Result<(), W::Error> {
+        (**self).fmt_hex(f, options)
     }
 }
 
@@ -47,6 +73,19 @@ impl<T: uDisplayRadix> uDisplayRadix for Wrapping<T> {
 }
 
 /// Prints the number.
+impl<T: uDisplayHex> uDisplayHex for Wrapping<T> {
+    ghost hex_text = { λ x. T.hex_text x.0 };
+
+    fn fmt_hex<W: uWrite>(
+        &self,
+        f: &mut Formatter<W>,
+        options: HexOptions,
+    ) -> Result<(), W::Error> {
+        self.0.fmt_hex(f, options)
+    }
+}
+
+/// Prints the number.
 impl<T: uDisplayRadix> uDisplayRadix for Saturating<T> {
     ghost radix_text = { λ x. T.radix_text x.0 };
 
@@ -57,5 +96,18 @@ impl<T: uDisplayRadix> uDisplayRadix for Saturating<T> {
         options: HexOptions,
     ) -> Result<(), W::Error> {
         self.0.fmt_radix(f, radix, options)
+    }
+}
+
+/// Prints the number.
+impl<T: uDisplayHex> uDisplayHex for Saturating<T> {
+    ghost hex_text = { λ x. T.hex_text x.0 };
+
+    fn fmt_hex<W: uWrite>(
+        &self,
+        f: &mut Formatter<W>,
+        options: HexOptions,
+    ) -> Result<(), W::Error> {
+        self.0.fmt_hex(f, options)
     }
 }
