@@ -16,6 +16,10 @@ impl<T: uDisplayRadix> uDisplayRadix for &T {
     ) -> Result<(), W::Error> {
         (**self).fmt_radix(f, radix, options)
     }
+
+    fn pads_radix(&self) -> bool {
+        (**self).pads_radix()
+    }
 }
 
 /// Prints what the reference refers to.
@@ -28,6 +32,10 @@ impl<T: uDisplayHex> uDisplayHex for &T {
         options: HexOptions,
     ) -> Result<(), W::Error> {
         (**self).fmt_hex(f, options)
+    }
+
+    fn pads_hex(&self) -> bool {
+        (**self).pads_hex()
     }
 }
 
@@ -43,6 +51,10 @@ impl<T: uDisplayRadix> uDisplayRadix for &mut T {
     ) -> Result<(), W::Error> {
         (**self).fmt_radix(f, radix, options)
     }
+
+    fn pads_radix(&self) -> bool {
+        (**self).pads_radix()
+    }
 }
 
 /// Prints what the reference refers to.
@@ -55,6 +67,10 @@ impl<T: uDisplayHex> uDisplayHex for &mut T {
         options: HexOptions,
     ) -> Result<(), W::Error> {
         (**self).fmt_hex(f, options)
+    }
+
+    fn pads_hex(&self) -> bool {
+        (**self).pads_hex()
     }
 }
 
@@ -70,6 +86,10 @@ impl<T: uDisplayRadix> uDisplayRadix for Wrapping<T> {
     ) -> Result<(), W::Error> {
         self.0.fmt_radix(f, radix, options)
     }
+
+    fn pads_radix(&self) -> bool {
+        self.0.pads_radix()
+    }
 }
 
 /// Prints the number.
@@ -82,6 +102,10 @@ impl<T: uDisplayHex> uDisplayHex for Wrapping<T> {
         options: HexOptions,
     ) -> Result<(), W::Error> {
         self.0.fmt_hex(f, options)
+    }
+
+    fn pads_hex(&self) -> bool {
+        self.0.pads_hex()
     }
 }
 
@@ -97,6 +121,10 @@ impl<T: uDisplayRadix> uDisplayRadix for Saturating<T> {
     ) -> Result<(), W::Error> {
         self.0.fmt_radix(f, radix, options)
     }
+
+    fn pads_radix(&self) -> bool {
+        self.0.pads_radix()
+    }
 }
 
 /// Prints the number.
@@ -109,5 +137,9 @@ impl<T: uDisplayHex> uDisplayHex for Saturating<T> {
         options: HexOptions,
     ) -> Result<(), W::Error> {
         self.0.fmt_hex(f, options)
+    }
+
+    fn pads_hex(&self) -> bool {
+        self.0.pads_hex()
     }
 }

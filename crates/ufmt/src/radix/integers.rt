@@ -1,3 +1,5 @@
+#![tactic(auto, using(crate::proofs::PaddedWidths::pads_in_hexadecimal, crate::proofs::PaddedWidths::pads_in_radix))]
+
 //! Texts of the integers in a radix, and in hexadecimal. A signed number prints as the unsigned number with its bits.
 ghost use Rattle.std.specs.Prelude.{◌^◌, ◌<◌, ◌≡◌, is_ok};
 ghost use Rattle.std.specs.Int.{w8, w16, w32, w64, w128, cast_unsigned};
@@ -74,6 +76,10 @@ impl uDisplayRadix for u8 {
     ) -> Result<(), W::Error> {
         print_radix(u64::from(*self), &mut [0; 8], f, radix, options)
     }
+
+    fn pads_radix(&self) -> bool {
+        true
+    }
 }
 
 impl uDisplayHex for u8 {
@@ -85,6 +91,10 @@ impl uDisplayHex for u8 {
         options: HexOptions,
     ) -> Result<(), W::Error> {
         print_hex(u64::from(*self), &mut [0; 2], f, options)
+    }
+
+    fn pads_hex(&self) -> bool {
+        true
     }
 }
 
@@ -99,6 +109,10 @@ impl uDisplayRadix for u16 {
     ) -> Result<(), W::Error> {
         print_radix(u64::from(*self), &mut [0; 16], f, radix, options)
     }
+
+    fn pads_radix(&self) -> bool {
+        true
+    }
 }
 
 impl uDisplayHex for u16 {
@@ -110,6 +124,10 @@ impl uDisplayHex for u16 {
         options: HexOptions,
     ) -> Result<(), W::Error> {
         print_hex(u64::from(*self), &mut [0; 4], f, options)
+    }
+
+    fn pads_hex(&self) -> bool {
+        true
     }
 }
 
@@ -124,6 +142,10 @@ impl uDisplayRadix for u32 {
     ) -> Result<(), W::Error> {
         print_radix(u64::from(*self), &mut [0; 32], f, radix, options)
     }
+
+    fn pads_radix(&self) -> bool {
+        true
+    }
 }
 
 impl uDisplayHex for u32 {
@@ -135,6 +157,10 @@ impl uDisplayHex for u32 {
         options: HexOptions,
     ) -> Result<(), W::Error> {
         print_hex(u64::from(*self), &mut [0; 8], f, options)
+    }
+
+    fn pads_hex(&self) -> bool {
+        true
     }
 }
 
@@ -149,6 +175,10 @@ impl uDisplayRadix for u64 {
     ) -> Result<(), W::Error> {
         print_radix(*self, &mut [0; 64], f, radix, options)
     }
+
+    fn pads_radix(&self) -> bool {
+        true
+    }
 }
 
 impl uDisplayHex for u64 {
@@ -160,6 +190,10 @@ impl uDisplayHex for u64 {
         options: HexOptions,
     ) -> Result<(), W::Error> {
         print_hex(*self, &mut [0; 16], f, options)
+    }
+
+    fn pads_hex(&self) -> bool {
+        true
     }
 }
 
@@ -174,6 +208,10 @@ impl uDisplayRadix for u128 {
     ) -> Result<(), W::Error> {
         print_radix(*self, &mut [0; 128], f, radix, options)
     }
+
+    fn pads_radix(&self) -> bool {
+        true
+    }
 }
 
 impl uDisplayHex for u128 {
@@ -185,6 +223,10 @@ impl uDisplayHex for u128 {
         options: HexOptions,
     ) -> Result<(), W::Error> {
         print_hex(*self, &mut [0; 32], f, options)
+    }
+
+    fn pads_hex(&self) -> bool {
+        true
     }
 }
 
@@ -199,6 +241,10 @@ impl uDisplayRadix for usize {
     ) -> Result<(), W::Error> {
         print_radix(*self as u64, &mut [0; 64], f, radix, options)
     }
+
+    fn pads_radix(&self) -> bool {
+        true
+    }
 }
 
 impl uDisplayHex for usize {
@@ -210,6 +256,10 @@ impl uDisplayHex for usize {
         options: HexOptions,
     ) -> Result<(), W::Error> {
         print_hex(*self as u64, &mut [0; 16], f, options)
+    }
+
+    fn pads_hex(&self) -> bool {
+        true
     }
 }
 
@@ -224,6 +274,10 @@ impl uDisplayRadix for i8 {
     ) -> Result<(), W::Error> {
         self.cast_unsigned().fmt_radix(f, radix, options)
     }
+
+    fn pads_radix(&self) -> bool {
+        self.cast_unsigned().pads_radix()
+    }
 }
 
 impl uDisplayHex for i8 {
@@ -235,6 +289,10 @@ impl uDisplayHex for i8 {
         options: HexOptions,
     ) -> Result<(), W::Error> {
         self.cast_unsigned().fmt_hex(f, options)
+    }
+
+    fn pads_hex(&self) -> bool {
+        self.cast_unsigned().pads_hex()
     }
 }
 
@@ -249,6 +307,10 @@ impl uDisplayRadix for i16 {
     ) -> Result<(), W::Error> {
         self.cast_unsigned().fmt_radix(f, radix, options)
     }
+
+    fn pads_radix(&self) -> bool {
+        self.cast_unsigned().pads_radix()
+    }
 }
 
 impl uDisplayHex for i16 {
@@ -260,6 +322,10 @@ impl uDisplayHex for i16 {
         options: HexOptions,
     ) -> Result<(), W::Error> {
         self.cast_unsigned().fmt_hex(f, options)
+    }
+
+    fn pads_hex(&self) -> bool {
+        self.cast_unsigned().pads_hex()
     }
 }
 
@@ -274,6 +340,10 @@ impl uDisplayRadix for i32 {
     ) -> Result<(), W::Error> {
         self.cast_unsigned().fmt_radix(f, radix, options)
     }
+
+    fn pads_radix(&self) -> bool {
+        self.cast_unsigned().pads_radix()
+    }
 }
 
 impl uDisplayHex for i32 {
@@ -285,6 +355,10 @@ impl uDisplayHex for i32 {
         options: HexOptions,
     ) -> Result<(), W::Error> {
         self.cast_unsigned().fmt_hex(f, options)
+    }
+
+    fn pads_hex(&self) -> bool {
+        self.cast_unsigned().pads_hex()
     }
 }
 
@@ -299,6 +373,10 @@ impl uDisplayRadix for i64 {
     ) -> Result<(), W::Error> {
         self.cast_unsigned().fmt_radix(f, radix, options)
     }
+
+    fn pads_radix(&self) -> bool {
+        self.cast_unsigned().pads_radix()
+    }
 }
 
 impl uDisplayHex for i64 {
@@ -310,6 +388,10 @@ impl uDisplayHex for i64 {
         options: HexOptions,
     ) -> Result<(), W::Error> {
         self.cast_unsigned().fmt_hex(f, options)
+    }
+
+    fn pads_hex(&self) -> bool {
+        self.cast_unsigned().pads_hex()
     }
 }
 
@@ -324,6 +406,10 @@ impl uDisplayRadix for i128 {
     ) -> Result<(), W::Error> {
         self.cast_unsigned().fmt_radix(f, radix, options)
     }
+
+    fn pads_radix(&self) -> bool {
+        self.cast_unsigned().pads_radix()
+    }
 }
 
 impl uDisplayHex for i128 {
@@ -335,6 +421,10 @@ impl uDisplayHex for i128 {
         options: HexOptions,
     ) -> Result<(), W::Error> {
         self.cast_unsigned().fmt_hex(f, options)
+    }
+
+    fn pads_hex(&self) -> bool {
+        self.cast_unsigned().pads_hex()
     }
 }
 
@@ -349,6 +439,10 @@ impl uDisplayRadix for isize {
     ) -> Result<(), W::Error> {
         self.cast_unsigned().fmt_radix(f, radix, options)
     }
+
+    fn pads_radix(&self) -> bool {
+        self.cast_unsigned().pads_radix()
+    }
 }
 
 impl uDisplayHex for isize {
@@ -360,5 +454,9 @@ impl uDisplayHex for isize {
         options: HexOptions,
     ) -> Result<(), W::Error> {
         self.cast_unsigned().fmt_hex(f, options)
+    }
+
+    fn pads_hex(&self) -> bool {
+        self.cast_unsigned().pads_hex()
     }
 }

@@ -20,6 +20,10 @@ impl uDisplayRadix for NonZeroU8 {
     ) -> Result<(), W::Error> {
         self.get().fmt_radix(f, radix, options)
     }
+
+    fn pads_radix(&self) -> bool {
+        self.get().pads_radix()
+    }
 }
 
 impl uDisplayHex for NonZeroU8 {
@@ -31,6 +35,10 @@ impl uDisplayHex for NonZeroU8 {
         options: HexOptions,
     ) -> Result<(), W::Error> {
         self.get().fmt_hex(f, options)
+    }
+
+    fn pads_hex(&self) -> bool {
+        self.get().pads_hex()
     }
 }
 
@@ -45,6 +53,10 @@ impl uDisplayRadix for NonZeroU16 {
     ) -> Result<(), W::Error> {
         self.get().fmt_radix(f, radix, options)
     }
+
+    fn pads_radix(&self) -> bool {
+        self.get().pads_radix()
+    }
 }
 
 impl uDisplayHex for NonZeroU16 {
@@ -56,6 +68,10 @@ impl uDisplayHex for NonZeroU16 {
         options: HexOptions,
     ) -> Result<(), W::Error> {
         self.get().fmt_hex(f, options)
+    }
+
+    fn pads_hex(&self) -> bool {
+        self.get().pads_hex()
     }
 }
 
@@ -70,6 +86,10 @@ impl uDisplayRadix for NonZeroU32 {
     ) -> Result<(), W::Error> {
         self.get().fmt_radix(f, radix, options)
     }
+
+    fn pads_radix(&self) -> bool {
+        self.get().pads_radix()
+    }
 }
 
 impl uDisplayHex for NonZeroU32 {
@@ -81,6 +101,10 @@ impl uDisplayHex for NonZeroU32 {
         options: HexOptions,
     ) -> Result<(), W::Error> {
         self.get().fmt_hex(f, options)
+    }
+
+    fn pads_hex(&self) -> bool {
+        self.get().pads_hex()
     }
 }
 
@@ -95,6 +119,10 @@ impl uDisplayRadix for NonZeroU64 {
     ) -> Result<(), W::Error> {
         self.get().fmt_radix(f, radix, options)
     }
+
+    fn pads_radix(&self) -> bool {
+        self.get().pads_radix()
+    }
 }
 
 impl uDisplayHex for NonZeroU64 {
@@ -106,6 +134,10 @@ impl uDisplayHex for NonZeroU64 {
         options: HexOptions,
     ) -> Result<(), W::Error> {
         self.get().fmt_hex(f, options)
+    }
+
+    fn pads_hex(&self) -> bool {
+        self.get().pads_hex()
     }
 }
 
@@ -120,6 +152,10 @@ impl uDisplayRadix for NonZeroU128 {
     ) -> Result<(), W::Error> {
         self.get().fmt_radix(f, radix, options)
     }
+
+    fn pads_radix(&self) -> bool {
+        self.get().pads_radix()
+    }
 }
 
 impl uDisplayHex for NonZeroU128 {
@@ -131,6 +167,10 @@ impl uDisplayHex for NonZeroU128 {
         options: HexOptions,
     ) -> Result<(), W::Error> {
         self.get().fmt_hex(f, options)
+    }
+
+    fn pads_hex(&self) -> bool {
+        self.get().pads_hex()
     }
 }
 
@@ -145,6 +185,10 @@ impl uDisplayRadix for NonZeroUsize {
     ) -> Result<(), W::Error> {
         self.get().fmt_radix(f, radix, options)
     }
+
+    fn pads_radix(&self) -> bool {
+        self.get().pads_radix()
+    }
 }
 
 impl uDisplayHex for NonZeroUsize {
@@ -156,6 +200,10 @@ impl uDisplayHex for NonZeroUsize {
         options: HexOptions,
     ) -> Result<(), W::Error> {
         self.get().fmt_hex(f, options)
+    }
+
+    fn pads_hex(&self) -> bool {
+        self.get().pads_hex()
     }
 }
 
@@ -170,6 +218,10 @@ impl uDisplayRadix for NonZeroI8 {
     ) -> Result<(), W::Error> {
         self.get().fmt_radix(f, radix, options)
     }
+
+    fn pads_radix(&self) -> bool {
+        self.get().pads_radix()
+    }
 }
 
 impl uDisplayHex for NonZeroI8 {
@@ -181,6 +233,10 @@ impl uDisplayHex for NonZeroI8 {
         options: HexOptions,
     ) -> Result<(), W::Error> {
         self.get().fmt_hex(f, options)
+    }
+
+    fn pads_hex(&self) -> bool {
+        self.get().pads_hex()
     }
 }
 
@@ -195,6 +251,10 @@ impl uDisplayRadix for NonZeroI16 {
     ) -> Result<(), W::Error> {
         self.get().fmt_radix(f, radix, options)
     }
+
+    fn pads_radix(&self) -> bool {
+        self.get().pads_radix()
+    }
 }
 
 impl uDisplayHex for NonZeroI16 {
@@ -206,6 +266,10 @@ impl uDisplayHex for NonZeroI16 {
         options: HexOptions,
     ) -> Result<(), W::Error> {
         self.get().fmt_hex(f, options)
+    }
+
+    fn pads_hex(&self) -> bool {
+        self.get().pads_hex()
     }
 }
 
@@ -220,6 +284,10 @@ impl uDisplayRadix for NonZeroI32 {
     ) -> Result<(), W::Error> {
         self.get().fmt_radix(f, radix, options)
     }
+
+    fn pads_radix(&self) -> bool {
+        self.get().pads_radix()
+    }
 }
 
 impl uDisplayHex for NonZeroI32 {
@@ -231,6 +299,10 @@ impl uDisplayHex for NonZeroI32 {
         options: HexOptions,
     ) -> Result<(), W::Error> {
         self.get().fmt_hex(f, options)
+    }
+
+    fn pads_hex(&self) -> bool {
+        self.get().pads_hex()
     }
 }
 
@@ -245,6 +317,10 @@ impl uDisplayRadix for NonZeroI64 {
     ) -> Result<(), W::Error> {
         self.get().fmt_radix(f, radix, options)
     }
+
+    fn pads_radix(&self) -> bool {
+        self.get().pads_radix()
+    }
 }
 
 impl uDisplayHex for NonZeroI64 {
@@ -256,6 +332,10 @@ impl uDisplayHex for NonZeroI64 {
         options: HexOptions,
     ) -> Result<(), W::Error> {
         self.get().fmt_hex(f, options)
+    }
+
+    fn pads_hex(&self) -> bool {
+        self.get().pads_hex()
     }
 }
 
@@ -270,6 +350,10 @@ impl uDisplayRadix for NonZeroI128 {
     ) -> Result<(), W::Error> {
         self.get().fmt_radix(f, radix, options)
     }
+
+    fn pads_radix(&self) -> bool {
+        self.get().pads_radix()
+    }
 }
 
 impl uDisplayHex for NonZeroI128 {
@@ -281,6 +365,10 @@ impl uDisplayHex for NonZeroI128 {
         options: HexOptions,
     ) -> Result<(), W::Error> {
         self.get().fmt_hex(f, options)
+    }
+
+    fn pads_hex(&self) -> bool {
+        self.get().pads_hex()
     }
 }
 
@@ -295,6 +383,10 @@ impl uDisplayRadix for NonZeroIsize {
     ) -> Result<(), W::Error> {
         self.get().fmt_radix(f, radix, options)
     }
+
+    fn pads_radix(&self) -> bool {
+        self.get().pads_radix()
+    }
 }
 
 impl uDisplayHex for NonZeroIsize {
@@ -306,5 +398,9 @@ impl uDisplayHex for NonZeroIsize {
         options: HexOptions,
     ) -> Result<(), W::Error> {
         self.get().fmt_hex(f, options)
+    }
+
+    fn pads_hex(&self) -> bool {
+        self.get().pads_hex()
     }
 }

@@ -1,10 +1,13 @@
-//! Tests of widths that no buffer holds: a call ends where its buffer does, or as soon as its text is known to be as wide
-//! as a column.
-use super::rows::{Table, has_rows};
+//! Tests of widths that no buffer holds: a call ends where its buffer does.
+use super::rows::{Table, has_rows, same};
+use std::num::{
+    NonZeroI8, NonZeroI16, NonZeroI32, NonZeroI64, NonZeroI128, NonZeroIsize, NonZeroU8,
+    NonZeroU16, NonZeroU32, NonZeroU64, NonZeroU128, NonZeroUsize, Saturating, Wrapping,
+};
 use ufmt::pieces::{Display, InColumn};
 use ufmt::{
     Align, Column, Decimal, HexDump, HexOptions, Line, hex_dump_into, line_cut_into, line_into,
-    pieces,
+    pieces, uDisplayHex, uDisplayRadix, uDisplayZeros,
 };
 
 const ZEROS: HexOptions = HexOptions {
@@ -76,7 +79,7 @@ fn put_padded(table: &mut Table, width: usize) {
     );
 }
 
-// Lines with such a text in a narrow column.
+// Lines with such a text in a column, and with a column of this width in it.
 fn put_in_a_column(table: &mut Table, width: usize, within: Column) {
     let zeros = HexOptions {
         pad_length: width,
@@ -145,6 +148,44 @@ Ok(5) 6162
 
 const WIDTHS: [usize; 2] = [1 << 63, usize::MAX];
 
+// A column around a text that is as wide as it, or wider, has no fills.
+const VALUES_FIRST: &str = "\
+Err(Full) 0x0000000000;
+Err(Full)             ;
+Err(Full) -00000000000;
+Err(Full) 0x0000000000;
+Err(Full) x***********;
+Err(Full) 0x0000000000;
+Err(Full)             ;
+Err(Full) -00000000000;
+Err(Full) 0x0000000000;
+Err(Full) ************;
+Err(Full) 0x0000000000;
+Err(Full)             ;
+Err(Full) -00000000000;
+Err(Full) 0x0000000000;
+Err(Full) ************;
+";
+
+// Around a narrower text it has fills, at the left after the text.
+const FILLS_FIRST: &str = "\
+Err(Full) 0x0000000000;
+Err(Full)             ;
+Err(Full) -00000000000;
+Err(Full) 0x0000000000;
+Err(Full) x***********;
+Err(Full) ************;
+Err(Full) ************;
+Err(Full) ************;
+Err(Full) ************;
+Err(Full) ************;
+Err(Full) ************;
+Err(Full) ************;
+Err(Full) ************;
+Err(Full) ************;
+Err(Full) ************;
+";
+
 #[test]
 fn a_width_that_no_buffer_holds_fails_with_full(rt: HostRuntime) {
     for width in WIDTHS {
@@ -171,6 +212,87 @@ fn a_width_that_no_buffer_holds_fails_with_full(rt: HostRuntime) {
             },
         );
         has_rows(&rt, &table, PADDED);
+    }
+}
+
+// Whether a column counts this number without its padding, in each of the three ways to pad it.
+fn pads<N: uDisplayHex + uDisplayRadix + uDisplayZeros>(number: &N) -> [bool; 3] {
+    [number.pads_hex(), number.pads_radix(), number.pads_zeros()]
+}
+
+fn some_pads<N: uDisplayHex + uDisplayRadix + uDisplayZeros>(number: &Option<N>) -> [bool; 3] {
+    match number {
+        Some(number) => pads(number),
+        None => [false; 3],
+    }
+}
+
+#[test]
+fn every_number_is_counted_without_its_padding(rt: HostRuntime) {
+    let numbers = [
+        pads(&1u8),
+        pads(&1u16),
+        pads(&1u32),
+        pads(&1u64),
+        pads(&1u128),
+        pads(&1usize),
+        pads(&1i8),
+        pads(&1i16),
+        pads(&1i32),
+        pads(&1i64),
+        pads(&1i128),
+        pads(&1isize),
+        pads(&&1u8),
+        pads(&&mut 1u8),
+        pads(&Wrapping(1i16)),
+        pads(&Saturating(1u32)),
+    ];
+    let nonzero = [
+        some_pads(&NonZeroU8::new(1)),
+        some_pads(&NonZeroU16::new(1)),
+        some_pads(&NonZeroU32::new(1)),
+        some_pads(&NonZeroU64::new(1)),
+        some_pads(&NonZeroU128::new(1)),
+        some_pads(&NonZeroUsize::new(1)),
+        some_pads(&NonZeroI8::new(1)),
+        some_pads(&NonZeroI16::new(1)),
+        some_pads(&NonZeroI32::new(1)),
+        some_pads(&NonZeroI64::new(1)),
+        some_pads(&NonZeroI128::new(1)),
+        some_pads(&NonZeroIsize::new(1)),
+    ];
+    let price = Decimal {
+        value: -125,
+        places: 1,
+    };
+    same(
+        &rt,
+        (numbers, nonzero, price.pads_zeros()),
+        ([[true; 3]; 16], [[true; 3]; 12], true),
+        "numbers that pad",
+    );
+}
+
+#[test]
+fn a_huge_column_around_a_huge_number_ends_with_its_buffer(rt: HostRuntime) {
+    for width in WIDTHS {
+        for padded in WIDTHS {
+            let mut table = Table::new(rt.alloc());
+            for align in [Align::Left, Align::Center, Align::Right] {
+                let within = Column {
+                    width,
+                    align,
+                    fill: '*',
+                };
+                put_in_a_column(&mut table, padded, within);
+            }
+            let wanted = if width > padded {
+                FILLS_FIRST
+            } else {
+                VALUES_FIRST
+            };
+            has_rows(&rt, &table, wanted);
+        }
     }
 }
 
