@@ -28,7 +28,7 @@ pub IsAscii-shown : (row : List ℕ) → IsAscii (map shown_byte row)
 IsAscii-shown [] = IsAscii-nil
 IsAscii-shown (byte ∷ row) = IsAscii-cons (shown_byte byte) (map shown_byte row) (shown-ascii byte) (IsAscii-shown row)
 
-IsAscii-two : (a b : ℕ) → a < 128 → b < 128 → IsAscii (a ∷ b ∷ [])
+pub IsAscii-two : (a b : ℕ) → a < 128 → b < 128 → IsAscii (a ∷ b ∷ [])
 IsAscii-two a b low_a low_b = IsAscii-cons a (b ∷ []) low_a (IsAscii-cons b [] low_b IsAscii-nil)
 
 IsAscii-byte_digits : (byte : ℕ) → byte < 256 → IsAscii (byte_digits byte)

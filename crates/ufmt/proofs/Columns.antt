@@ -1,5 +1,5 @@
 -- How many characters a text has, and the parts of a text in a column, in the order in which they are written.
-use Rattle.std.proofs.Common.{◌≡◌, ◌⊎◌, inl, inr, nat_lt, ℕ, zero, suc, ◌+◌, ◌-◌, ◌*◌, ◌/◌, ◌%◌, ◌<◌, ◌≤◌, true, false, Bool, List, [], ◌∷◌, ◌++◌, length, take, get_or, replicate, encode_utf8, refl, sym, ap, ◌∙◌, append-nil, append_assoc, zero-add, arith, if◌then◌else◌}
+use Rattle.std.proofs.Common.{◌≡◌, ◌⊎◌, inl, inr, nat_lt, ℕ, zero, suc, ◌+◌, ◌-◌, ◌*◌, ◌/◌, ◌%◌, ◌<◌, ◌≤◌, min, true, false, Bool, List, [], ◌∷◌, ◌++◌, length, take, get_or, replicate, encode_utf8, refl, sym, ap, ◌∙◌, append-nil, append_assoc, zero-add, arith, if◌then◌else◌}
 use borrow.Author.Tests.{ltb-true}
 use lib.Utf8.{encode, next}
 use Rattle.std.proofs.lemmas.Bool.Decides.{nat_tests}
@@ -14,10 +14,10 @@ use Rattle.ufmt_core.specs.Formatter.{Prints, setting_of, writer_of}
 use Rattle.ufmt_core.specs.declared.layout.Setting.{Setting}
 use Rattle.ufmt_core.specs.Writes.{Seen}
 use Rattle.ufmt_core.specs.declared.formatter.Formatter.{Formatter}
-use Rattle.ufmt.specs.Column.{ColumnsAreFilled, fills, fills_before, missing}
+use Rattle.ufmt.specs.Column.{ColumnsAreFilled, fills, fills_before, in_column, missing}
 use Rattle.ufmt.proofs.PiecesInARow.{Prints-nothing}
 use Rattle.ufmt.specs.Pieces.{Piece, column, pieces_text}
-use Rattle.ufmt.specs.Private.Counting.{counter_seen}
+use Rattle.ufmt.specs.Private.Counting.{counter_seen, left_after}
 use Rattle.ufmt.specs.declared.column.Align.{Align}
 use Rattle.ufmt.specs.declared.column.Align.TheVariants.{Left, Center, Right}
 use Rattle.ufmt.specs.declared.column.Column.{Column}
@@ -68,7 +68,7 @@ pub fills-spaces : (c : Column) (n : ℕ) → c.fill ≡ space → fills c n ≡
 fills-spaces c n is = ap (λ fill. repeat n (encode_utf8 fill)) is ∙ ap (repeat n) (encode_ascii space (omega arith)) ∙ repeat-byte n space
 
 -- a first byte begins a character, and the bytes after it don't
-begins : (b : ℕ) → (b < 128) ⊎ (192 ≤ b) → is_char_start b ≡ true
+pub begins : (b : ℕ) → (b < 128) ⊎ (192 ≤ b) → is_char_start b ≡ true
 begins b (inl low) = grind (arith, nat_tests)
 begins b (inr high) = grind (arith, nat_tests)
 
@@ -109,6 +109,12 @@ columns_are_filled column text =
       char_count-fills column (count - before),
       before_within column.align count,
     )
+
+-- what a text in a column is short of a width: no more than the text, and than the column
+pub missing-in_column : (c : Column) (text : List ℕ) (width : ℕ)
+    → min (width - char_count text) (width - c.width) ≡ width - char_count (in_column c text ++ [])
+missing-in_column c text width =
+    omega (arith, columns_are_filled c text, char_count-append (in_column c text) [], char_count-nil)
 
 -- 64 spaces more
 pub spaces-more : (m : ℕ) → replicate (64 * (m + 1)) space ≡ replicate (64 * m) space ++ replicate 64 space
@@ -186,16 +192,26 @@ module _ {W : Type 0} {seen : Seen W} {f : Formatter W} (c : Column) (ps : List 
       let before : count ≡ missing c (pieces_text (setting_of f) ps) = is ∙ ap (λ (s : Setting). missing c (pieces_text s ps)) b.same_setting in
       Prints-column c ps count before (Prints-same (none_first c count left) (Prints-nothing f)) b (Prints-same (all_last c count left) d)
 
--- a counter of the column's width failed, so the text has the width
-pub none_missing : (c : Column) (ps : List Piece) (s : Setting) {old new : Formatter CharacterCounter} {begun : CharacterCounter}
-    → writer_of old ≡ begun → begun.width ≡ c.width → begun.written.bytes ≡ [] → setting_of old ≡ s
-    → Prints counter_seen old (pieces_text (setting_of old) ps) false new → 0 ≡ missing c (pieces_text s ps)
-none_missing c ps s {old} {new} {begun} over width nothing same p =
+-- what a counter is short of its width, its text is
+pub missing_counted : (text : List ℕ) (width : ℕ) (ok : Bool) {old new : Formatter CharacterCounter} {begun : CharacterCounter}
+    → writer_of old ≡ begun → begun.width ≡ width → begun.written.bytes ≡ [] → Prints counter_seen old text ok new
+    → left_after ok (writer_of new) ≡ width - char_count text
+missing_counted text width true {old} {new} {begun} over wide nothing p =
+    let kept : (writer_of new).width ≡ (writer_of old).width = cc (p.wrote.same_identity) in
+    let begins : (writer_of old).width ≡ width = ap (λ (w : CharacterCounter). w.width) over ∙ wide in
+    let empty : (writer_of old).written.bytes ≡ [] = ap (λ (w : CharacterCounter). w.written.bytes) over ∙ nothing in
+    omega (
+      arith,
+      ap char_count (p.wrote.appended tt),
+      ap char_count empty,
+      char_count-nil,
+      char_count-append (writer_of old).written.bytes text,
+    )
+missing_counted text width false {old} {new} {begun} over wide nothing p =
     let part = p.wrote.appended tt in
     let kept : (writer_of new).width ≡ (writer_of old).width = cc (p.wrote.same_identity) in
-    let begins : (writer_of old).width ≡ c.width = ap (λ (w : CharacterCounter). w.width) over ∙ width in
+    let begins : (writer_of old).width ≡ width = ap (λ (w : CharacterCounter). w.width) over ∙ wide in
     let empty : (writer_of old).written.bytes ≡ [] = ap (λ (w : CharacterCounter). w.written.bytes) over ∙ nothing in
-    let text : pieces_text s ps ≡ part.0 ++ part.1.remainder = ap (λ (at : Setting). pieces_text at ps) (sym same) ∙ part.1.joined in
     omega (
       arith,
       p.wrote.has_failed refl,
@@ -203,6 +219,6 @@ none_missing c ps s {old} {new} {begun} over width nothing same p =
       ap char_count empty,
       char_count-nil,
       char_count-append (writer_of old).written.bytes part.0,
-      ap char_count text,
+      ap char_count part.1.joined,
       char_count-append part.0 part.1.remainder,
     )

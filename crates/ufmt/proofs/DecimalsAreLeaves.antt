@@ -7,7 +7,7 @@ use Rattle.std.proofs.lemmas.List.Elements.{All-head, All-tail}
 use Rattle.std.proofs.lemmas.Str.{IsUtf8-from_ascii, is_utf8-from_IsUtf8}
 use Rattle.std.proofs.lemmas.Str.Ascii.{IsAscii-cons, IsAscii-nil}
 use Rattle.ufmt_core.specs.Decimal.{decimal_byte, sign_of}
-use Rattle.ufmt.specs.FixedPoint.{fixed, point_and}
+use Rattle.ufmt.specs.FixedPoint.{fixed, fixed_digits, point_and}
 use Rattle.ufmt_grammar.specs.Leaves.{EndsLeaf, IsDebugLeaf, IsDebugText, outside}
 use Rattle.ufmt_grammar.proofs.ClassTokens.{IsPlainByte, word_byte_is_plain}
 use Rattle.ufmt.proofs.FixedPoint.{fixed-denotes}
@@ -61,6 +61,12 @@ signed_is_text (pos n) (digit ∷ before) after some below =
     plain_is_text (decimal_byte digit) (map decimal_byte before ++ point_and after) (fixed_is_plain (digit ∷ before) after below)
 signed_is_text (negsuc n) before after some below =
     plain_is_text 45 (map decimal_byte before ++ point_and after) (minus_is_plain, fixed_is_plain before after below)
+
+-- the digits of a fixed-point number are ASCII, and so is its point
+pub IsAscii-fixed_digits : (places n : ℕ) → IsAscii (fixed_digits places n)
+IsAscii-fixed_digits places n =
+    let denotes = fixed-denotes places (pos n) in
+    subst IsAscii (sym denotes.bytes) (plain_is_ascii _ (fixed_is_plain denotes.before denotes.after denotes.below_ten))
 
 pub fixed_is_leaf : (places : ℕ) (z : ℤ) → IsDebugLeaf (fixed places z)
 fixed_is_leaf places z =

@@ -8,6 +8,7 @@ pub mod FittingParts
 pub mod FixedPoint
 pub mod LeftToWrite
 pub mod Lines
+pub mod PaddedWidths
 pub mod Padding
 pub mod PiecesInARow
 pub mod RadixTexts

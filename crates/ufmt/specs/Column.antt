@@ -27,6 +27,10 @@ in_column column text =
     let before = fills_before column.align count in
     fills column before ++ (text ++ fills column (count - before))
 
+-- padded to any width, a text has so many characters, or as many as without padding if these are more
+abbrev pub PadsToWidth : (ℕ → List ℕ) → Type 0
+PadsToWidth text = (width : ℕ) → char_count (text width) ≡ max width (char_count (text 0))
+
 -- a text in a column has as many characters as the column is wide, or its own number if that is more
 abbrev pub ColumnsAreFilled : Type 0
 ColumnsAreFilled = (column : Column) (text : List ℕ) → char_count (in_column column text) ≡ max column.width (char_count text)

@@ -1,8 +1,9 @@
 -- Texts of whole numbers in a base up to sixteen, and how options pad a text.
-use Rattle.std.specs.Prelude.{◌≡◌, ◌⊎◌, max, All, ℕ, ℤ, ◌+◌, ◌-◌, Bool, true, false, ◌==◌, nat_lt, if◌then◌else◌, List, [], ◌++◌, map, length, replicate, codes}
+use Rattle.std.specs.Prelude.{◌≡◌, ◌⊎◌, max, All, ℕ, ℤ, ◌+◌, ◌-◌, ◌<◌, Bool, true, false, ◌==◌, nat_lt, if◌then◌else◌, List, [], ◌++◌, map, length, replicate, codes}
 use Rattle.std.specs.Int.{Width, cast_unsigned}
 use Rattle.ufmt_core.specs.Bytes.{lower_a, space, upper_a, zero_digit}
 use Rattle.ufmt_core.specs.Decimal.{DenotesInBase, numeral}
+use Rattle.ufmt.specs.Column.{PadsToWidth}
 use Rattle.ufmt.specs.declared.hex.HexOptions.{HexOptions}
 use Rattle.ufmt.specs.declared.radix.Radix.{Radix}
 use Rattle.ufmt.specs.declared.radix.Radix.TheVariants.{Binary, Octal, Hexadecimal}
@@ -72,6 +73,10 @@ padded_after prefix options payload =
     if pads_first options
     then padding_of options prefix payload ++ (prefix ++ payload)
     else prefix ++ (padding_of options prefix payload ++ payload)
+
+-- with options that have any pad length, and an ASCII pad byte, a text pads to that length
+abbrev pub PadsToLength : (HexOptions → List ℕ) → Type 0
+PadsToLength text = (options : HexOptions) → options.pad_char < 128 → PadsToWidth (λ length. text (record options { pad_length = length }))
 
 -- the padded text of a number in a radix
 abbrev pub padded_in : Radix → HexOptions → ℕ → List ℕ

@@ -1,8 +1,9 @@
 //! Columns: texts padded to a width that counts characters.
 ghost use Rattle.std.specs.Prelude.{◌≡◌, ◌<◌, is_ok, replicate};
-ghost use Rattle.ufmt_core.specs.Formatter.{Prints};
+ghost use Rattle.ufmt_core.specs.Formatter.{Prints, writer_of};
 ghost use Rattle.ufmt_core.specs.Bytes.{space};
 ghost use Rattle.ufmt.specs.Column.{fills, fills_before};
+ghost use Rattle.ufmt.specs.Private.Counting.{left_after};
 
 mod counter;
 
@@ -89,5 +90,18 @@ fn write_spaces<W: uWrite>(f: &mut Formatter<W>, count: usize) -> Result<(), W::
     match count % 64 {
         0 => Ok(()),
         left => f.write_str(spaces(left)),
+    }
+}
+
+// How many characters a text is short of the width of the counter that it was printed to.
+pub(crate) fn missing_after(
+    printed: Result<(), WidthReached>,
+    counting: Formatter<CharacterCounter>,
+) -> usize
+    ensures { result ≡ left_after (is_ok printed) (writer_of counting) }
+{
+    match printed {
+        Ok(()) => counting.into_inner().missing(),
+        Err(WidthReached) => 0,
     }
 }

@@ -47,6 +47,11 @@ impl uDisplayZeros for Decimal {
     fn fmt_zeros<W: uWrite>(&self, f: &mut Formatter<W>, width: usize) -> Result<(), W::Error> {
         self.write(f, width)
     }
+
+    #[tactic(auto, using(crate::proofs::PaddedWidths::pads_fixed))]
+    fn pads_zeros(&self) -> bool {
+        true
+    }
 }
 
 impl Decimal {

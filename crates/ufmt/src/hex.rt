@@ -1,13 +1,9 @@
-//! `uDisplayHex`: hexadecimal texts of integers, and the padding of texts in every radix.
+//! `uDisplayHex`: hexadecimal texts, and the padding of texts in every radix. The numbers that print so are below `radix`.
 ghost use Rattle.std.specs.Prelude.{◌≡◌, ◌<◌, ◌-◌, ◌+◌, ◌↔◌, ℕ, List, IsTrue, replicate, is_ok};
 ghost use Rattle.ufmt_core.specs.Formatter.{Prints};
 ghost use Rattle.ufmt.specs.declared.hex.HexOptions.{HexOptions};
 ghost use Rattle.ufmt.specs.Hex.{padded};
-ghost use Rattle.ufmt.specs.Radix.{padded_after, pads_first, prefix_in};
-
-mod core_impls;
-mod integers;
-mod nonzero;
+ghost use Rattle.ufmt.specs.Radix.{PadsToLength, padded_after, pads_first, prefix_in};
 
 use crate::radix::Radix;
 use ufmt_core::{Formatter, uWrite};
@@ -24,6 +20,14 @@ pub trait uDisplayHex {
         W: uWrite,
         requires { options.pad_char < 128 }
         ensures { Prints W.seen f.old (hex_text self.now options) (is_ok result) f.new };
+
+    /// Returns whether padding makes each text of the value exactly `pad_length` characters long, where it is shorter: then a column
+    /// counts it without padding. `false` says nothing.
+    fn pads_hex(&self) -> bool
+        ensures { IsTrue result → PadsToLength (hex_text self.now) }
+    {
+        false
+    }
 }
 
 /// The letters, the prefix and the padding of a text in hexadecimal, binary or octal digits.
@@ -45,6 +49,16 @@ impl HexOptions {
         ensures { IsTrue result ↔ (self.now.pad_char < 128) }
     {
         self.pad_char < 128
+    }
+
+    // The same options without padding.
+    pub(crate) fn unpadded(self) -> HexOptions
+        ensures { result ≡ record self { pad_length = 0 } }
+    {
+        HexOptions {
+            pad_length: 0,
+            ..self
+        }
     }
 
     /// Writes `payload` with its prefix and padding. On `Err` a prefix of that was written.

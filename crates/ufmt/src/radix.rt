@@ -1,9 +1,9 @@
 //! `uDisplayRadix`: texts of integers in binary, octal and hexadecimal digits.
-ghost use Rattle.std.specs.Prelude.{◌≡◌, ◌<◌, ℕ, List, is_ok};
+ghost use Rattle.std.specs.Prelude.{◌≡◌, ◌<◌, ℕ, List, IsTrue, is_ok};
 ghost use Rattle.ufmt_core.specs.Formatter.{Prints};
 ghost use Rattle.ufmt.specs.declared.hex.HexOptions.{HexOptions};
 ghost use Rattle.ufmt.specs.declared.radix.Radix.{Radix};
-ghost use Rattle.ufmt.specs.Radix.{radix_prefix};
+ghost use Rattle.ufmt.specs.Radix.{PadsToLength, radix_prefix};
 
 mod core_impls;
 pub(crate) mod digits;
@@ -55,4 +55,12 @@ pub trait uDisplayRadix {
         W: uWrite,
         requires { options.pad_char < 128 }
         ensures { Prints W.seen f.old (radix_text self.now radix options) (is_ok result) f.new };
+
+    /// Returns whether padding makes each text of the value exactly `pad_length` characters long, where it is shorter: then a column
+    /// counts it without padding. `false` says nothing.
+    fn pads_radix(&self) -> bool
+        ensures { IsTrue result → (radix : Radix) → PadsToLength (radix_text self.now radix) }
+    {
+        false
+    }
 }

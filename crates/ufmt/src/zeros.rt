@@ -1,7 +1,8 @@
 //! `uDisplayZeros`: decimal texts with zeros between the sign and the digits.
-ghost use Rattle.std.specs.Prelude.{◌≡◌, ◌^◌, ◌<◌, ℕ, List, is_ok, pos};
+ghost use Rattle.std.specs.Prelude.{◌≡◌, ◌^◌, ◌<◌, ℕ, List, IsTrue, is_ok, pos};
 ghost use Rattle.ufmt_core.specs.Decimal.{decimal};
 ghost use Rattle.ufmt_core.specs.Formatter.{Prints};
+ghost use Rattle.ufmt.specs.Column.{PadsToWidth};
 ghost use Rattle.ufmt.specs.Zeros.{minus_if, zero_filled};
 
 mod core_impls;
@@ -23,6 +24,14 @@ pub trait uDisplayZeros {
     where
         W: uWrite,
         ensures { Prints W.seen f.old (zeros_text self.now width) (is_ok result) f.new };
+
+    /// Returns whether padding makes the number's text exactly `width` characters long, where it is shorter: then a column
+    /// counts it without padding. `false` says nothing.
+    fn pads_zeros(&self) -> bool
+        ensures { IsTrue result → PadsToWidth (zeros_text self.now) }
+    {
+        false
+    }
 }
 
 /// Writes a sign if asked, zeros, and the digits of `n`, which are made in `buffer`.

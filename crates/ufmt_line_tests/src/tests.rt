@@ -1,5 +1,6 @@
 //! Tests of what no clause says of lines, of their pieces, and of the buffers and writers that they go to: the texts, which
 //! rustc prints too, where pieces end, what a failing writer leaves, and that each call can succeed.
+mod asserts;
 mod columns;
 mod cursors;
 mod cuts;

@@ -2,6 +2,7 @@
 //! pieces end, what a failing writer leaves, and that each call can succeed.
 //! `tools/expected/show VALUE` prints again what core::fmt prints.
 mod allocators;
+mod asserts;
 mod blocks;
 mod collections;
 mod decimals;

@@ -1,15 +1,7 @@
-//! A table of rows. They are in one text, which one assert compares.
+//! A table of rows, and of what is wanted of each. Both are one text, which one assert compares.
 use std::alloc::{AllocError, Global};
 use std::collections::{BTreeMap, BTreeSet};
-use std::fmt::Debug;
-use std::process::Abort;
 use ufmt::Full;
-
-// Checking an assert takes as long as checking twenty calls, so asserts are calls of these two.
-// No other function is generic over the handle: checking that takes as long again.
-pub fn same<T: PartialEq + Debug + Drop>(rt: &impl Abort, given: T, wanted: T, case: &str) {
-    assert_eq!(rt; given, wanted, "{case}");
-}
 
 /// Adds a row of each of these nonzero numbers by a method of the table, and after an arrow what is wanted of it.
 #[macro_export]
@@ -21,21 +13,6 @@ macro_rules! put_nonzero {
         }
         $table.wants($wanted);)*
     };
-}
-
-/// Asserts that the table has these rows.
-pub fn has_rows(rt: &impl Abort, table: &Table, wanted: &str) {
-    let given = table.text().unwrap_or("no memory for a row");
-    let rows = given.split(";\n").zip(wanted.split(";\n"));
-    for (number, (given, wanted)) in rows.enumerate() {
-        assert_eq!(rt; (number, given), (number, wanted));
-    }
-    assert_eq!(rt; given, wanted);
-}
-
-/// Asserts that each row of the table is what is wanted of it.
-pub fn has_wanted_rows(rt: &impl Abort, table: &Table) {
-    has_rows(rt, table, table.wanted.as_str());
 }
 
 /// Rows, one after another, with a semicolon and a line feed after each.
@@ -68,6 +45,11 @@ impl Table {
         } else {
             None
         }
+    }
+
+    /// Returns what is wanted of the rows.
+    pub fn wanted(&self) -> &str {
+        self.wanted.as_str()
     }
 
     /// Says what is wanted of the row that was added last. It stands beside the row's value, so that a failure names it.

@@ -91,7 +91,7 @@ IN_BODIES = [
     (NO_MEMORY, "ufmt_core/src/quoted.rt", "escape_char", "match u8::try_from(character): Err(_)=>None"),
     (NO_MEMORY, "ufmt/src/column/counter.rt", "CharacterCounter::count_piece", "self.written.and(s.as_bytes())"),
     (NO_MEMORY, "ufmt/src/column/counter.rt", "CharacterCounter::count_piece", "Err(WidthReached)"),
-    (NO_MEMORY, "ufmt/src/pieces/column.rt", "InColumn<M>::missing", "match self.mark.print_value(value, &mut counting): Err(WidthReached)=>0"),
+    (NO_MEMORY, "ufmt/src/column.rt", "missing_after", "match printed: Err(WidthReached)=>0"),
     (NO_MEMORY, "ufmt_core/src/cursor.rt", "copy_ends", "*target.first_chunk_mut::<N>().unwrap()"),
     (NO_MEMORY, "ufmt_core/src/cursor.rt", "copy_ends", "*bytes.first_chunk::<N>().unwrap()"),
     (NO_MEMORY, "ufmt_core/src/cursor.rt", "copy_whole", "*target.first_chunk_mut::<N>().unwrap()"),

@@ -1,5 +1,5 @@
 -- A writer that counts the characters of its text, up to a width.
-use Rattle.std.specs.Prelude.{◌≡◌, ℕ, ◌<◌, ◌≤◌, List, [], ◌∷◌, ◌++◌, length, Bool, false, IsTrue, ⊤}
+use Rattle.std.specs.Prelude.{◌≡◌, ℕ, ◌<◌, ◌≤◌, ◌-◌, List, [], ◌∷◌, ◌++◌, length, Bool, true, false, IsTrue, ⊤}
 use Rattle.std.specs.Fmt.{char_count}
 use Rattle.ufmt_core.specs.Writes.{Seen}
 use Rattle.ufmt.specs.declared.column.counter.CharacterCounter.{CharacterCounter}
@@ -14,6 +14,11 @@ counter_seen = record {
   identity = λ c. c.width ∷ [];
   whole_buffer = λ c. [];
 }
+
+-- how many characters are missing after a print to a counter: none if it failed
+abbrev pub left_after : Bool → CharacterCounter → ℕ
+left_after true c = c.width - char_count c.written.bytes
+left_after false c = 0
 
 -- the whole piece is counted, and a call fails exactly if it passed some byte and the text then has the width
 pub record Counts (old : CharacterCounter) (piece : List ℕ) (ok : Bool) (new : CharacterCounter) : Type 0 where

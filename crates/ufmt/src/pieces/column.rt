@@ -6,11 +6,11 @@ ghost use Rattle.ufmt.specs.Pieces.{column, pieces_text};
 ghost use Rattle.ufmt.specs.declared.column.Align.TheVariants.{Left};
 
 use super::Mark;
-use crate::column::{Align, CharacterCounter, Column, WidthReached};
+use crate::column::{Align, Column};
 use ufmt_core::{Formatter, uWrite};
 
-/// By another mark, in a column. What that mark writes is counted, up to the width, and written: at the
-/// left before it is counted, else after it.
+/// By another mark, in a column. What that mark writes is counted, up to the width and without its own
+/// padding, and written: at the left before it is counted, else after it.
 #[derive(Clone, Copy, Drop)]
 pub struct InColumn<M> {
     pub mark: M,
@@ -29,6 +29,12 @@ impl<T, M: Mark<T>> Mark<T> for InColumn<M> {
         self.column.write_fills(f, before)?;
         self.mark.print_value(value, f)?;
         self.column.write_fills(f, missing - before)
+    }
+
+    // What is in a column has its width, or more: the fills needn't be counted.
+    fn missing_characters<W: uWrite>(&self, value: &T, f: &Formatter<W>, width: usize) -> usize {
+        let missing = self.mark.missing_characters(value, f, width);
+        missing.min(width.saturating_sub(self.column.width))
     }
 }
 
@@ -58,10 +64,6 @@ impl<M> InColumn<M> {
         if self.column.width == 0 {
             return 0;
         }
-        let mut counting = f.with_writer(CharacterCounter::new(self.column.width));
-        match self.mark.print_value(value, &mut counting) {
-            Ok(()) => counting.into_inner().missing(),
-            Err(WidthReached) => 0,
-        }
+        self.mark.missing_characters(value, f, self.column.width)
     }
 }

@@ -1,9 +1,11 @@
 //! Marks: how a value is written into a line.
-ghost use Rattle.std.specs.Prelude.{[], ◌∷◌, ◌<◌, List, is_ok};
+ghost use Rattle.std.specs.Prelude.{◌≡◌, [], ◌∷◌, ◌<◌, ◌-◌, List, is_ok};
+ghost use Rattle.std.specs.Fmt.{char_count};
 ghost use Rattle.ufmt_core.specs.Formatter.{Prints, setting_of};
 ghost use Rattle.ufmt.specs.Pieces.{Piece, hex, pieces_text, pretty, shown, text};
 
 use super::Line;
+use crate::column::{CharacterCounter, missing_after};
 use crate::display::uDisplay;
 use crate::hex::{HexOptions, uDisplayHex};
 use crate::print::fmt_pretty;
@@ -20,6 +22,17 @@ pub trait Mark<T> {
     fn print_value<W: uWrite>(&self, value: &T, f: &mut Formatter<W>) -> Result<(), W::Error>
         ensures { Prints W.seen f.old
             (pieces_text (setting_of f.old) (pieces self.now value.now)) (is_ok result) f.new };
+
+    /// Returns how many characters the value's pieces have less than this width, where this formatter
+    /// would write them. By default it prints them to count them, up to the width.
+    fn missing_characters<W: uWrite>(&self, value: &T, f: &Formatter<W>, width: usize) -> usize
+        ensures { result ≡ width -
+            char_count (pieces_text (setting_of f.now) (pieces self.now value.now)) }
+    {
+        let mut counting = f.with_writer(CharacterCounter::new(width));
+        let printed = self.print_value(value, &mut counting);
+        missing_after(printed, counting)
+    }
 }
 
 /// By `uDebug`, in the formatter's mode.
@@ -76,6 +89,17 @@ impl<T: uDisplayHex> Mark<T> for Hex {
     fn print_value<W: uWrite>(&self, value: &T, f: &mut Formatter<W>) -> Result<(), W::Error> {
         value.fmt_hex(f, self.options)
     }
+
+    fn missing_characters<W: uWrite>(&self, value: &T, f: &Formatter<W>, width: usize) -> usize {
+        let mut counting = f.with_writer(CharacterCounter::new(width));
+        if value.pads_hex() {
+            let printed = value.fmt_hex(&mut counting, self.options.unpadded());
+            let missing = missing_after(printed, counting);
+            return missing.min(width.saturating_sub(self.options.pad_length));
+        }
+        let printed = value.fmt_hex(&mut counting, self.options);
+        missing_after(printed, counting)
+    }
 }
 
 /// In the digits of a radix, with these options. The pad byte is ASCII.
@@ -93,6 +117,17 @@ impl<T: uDisplayRadix> Mark<T> for InRadix {
     fn print_value<W: uWrite>(&self, value: &T, f: &mut Formatter<W>) -> Result<(), W::Error> {
         value.fmt_radix(f, self.radix, self.options)
     }
+
+    fn missing_characters<W: uWrite>(&self, value: &T, f: &Formatter<W>, width: usize) -> usize {
+        let mut counting = f.with_writer(CharacterCounter::new(width));
+        if value.pads_radix() {
+            let printed = value.fmt_radix(&mut counting, self.radix, self.options.unpadded());
+            let missing = missing_after(printed, counting);
+            return missing.min(width.saturating_sub(self.options.pad_length));
+        }
+        let printed = value.fmt_radix(&mut counting, self.radix, self.options);
+        missing_after(printed, counting)
+    }
 }
 
 /// In decimal digits, with zeros after the sign up to this width in bytes.
@@ -107,6 +142,17 @@ impl<T: uDisplayZeros> Mark<T> for Zeros {
     #[inline(always)]
     fn print_value<W: uWrite>(&self, value: &T, f: &mut Formatter<W>) -> Result<(), W::Error> {
         value.fmt_zeros(f, self.width)
+    }
+
+    fn missing_characters<W: uWrite>(&self, value: &T, f: &Formatter<W>, width: usize) -> usize {
+        let mut counting = f.with_writer(CharacterCounter::new(width));
+        if value.pads_zeros() {
+            let printed = value.fmt_zeros(&mut counting, 0);
+            let missing = missing_after(printed, counting);
+            return missing.min(width.saturating_sub(self.width));
+        }
+        let printed = value.fmt_zeros(&mut counting, self.width);
+        missing_after(printed, counting)
     }
 }
 

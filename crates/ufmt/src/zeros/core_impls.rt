@@ -10,6 +10,10 @@ impl<T: uDisplayZeros> uDisplayZeros for &T {
     fn fmt_zeros<W: uWrite>(&self, f: &mut Formatter<W>, width: usize) -> Result<(), W::Error> {
         (**self).fmt_zeros(f, width)
     }
+
+    fn pads_zeros(&self) -> bool {
+        (**self).pads_zeros()
+    }
 }
 
 /// Prints what the reference refers to.
@@ -18,6 +22,10 @@ impl<T: uDisplayZeros> uDisplayZeros for &mut T {
 
     fn fmt_zeros<W: uWrite>(&self, f: &mut Formatter<W>, width: usize) -> Result<(), W::Error> {
         (**self).fmt_zeros(f, width)
+    }
+
+    fn pads_zeros(&self) -> bool {
+        (**self).pads_zeros()
     }
 }
 
@@ -28,6 +36,10 @@ impl<T: uDisplayZeros> uDisplayZeros for Wrapping<T> {
     fn fmt_zeros<W: uWrite>(&self, f: &mut Formatter<W>, width: usize) -> Result<(), W::Error> {
         self.0.fmt_zeros(f, width)
     }
+
+    fn pads_zeros(&self) -> bool {
+        self.0.pads_zeros()
+    }
 }
 
 /// Prints the number.
@@ -36,5 +48,9 @@ impl<T: uDisplayZeros> uDisplayZeros for Saturating<T> {
 
     fn fmt_zeros<W: uWrite>(&self, f: &mut Formatter<W>, width: usize) -> Result<(), W::Error> {
         self.0.fmt_zeros(f, width)
+    }
+
+    fn pads_zeros(&self) -> bool {
+        self.0.pads_zeros()
     }
 }

@@ -1,3 +1,5 @@
+#![tactic(auto, using(crate::proofs::PaddedWidths::pads_unsigned, crate::proofs::PaddedWidths::pads_with_zeros))]
+
 //! `uDisplayZeros` of the integers. Those of up to 64 bits print by one code.
 ghost use Rattle.std.specs.Prelude.{pos};
 ghost use Rattle.ufmt.specs.Zeros.{zero_padded};
@@ -11,6 +13,10 @@ impl uDisplayZeros for u8 {
     fn fmt_zeros<W: uWrite>(&self, f: &mut Formatter<W>, width: usize) -> Result<(), W::Error> {
         u64::from(*self).fmt_zeros(f, width)
     }
+
+    fn pads_zeros(&self) -> bool {
+        true
+    }
 }
 
 impl uDisplayZeros for u16 {
@@ -18,6 +24,10 @@ impl uDisplayZeros for u16 {
 
     fn fmt_zeros<W: uWrite>(&self, f: &mut Formatter<W>, width: usize) -> Result<(), W::Error> {
         u64::from(*self).fmt_zeros(f, width)
+    }
+
+    fn pads_zeros(&self) -> bool {
+        true
     }
 }
 
@@ -27,6 +37,10 @@ impl uDisplayZeros for u32 {
     fn fmt_zeros<W: uWrite>(&self, f: &mut Formatter<W>, width: usize) -> Result<(), W::Error> {
         u64::from(*self).fmt_zeros(f, width)
     }
+
+    fn pads_zeros(&self) -> bool {
+        true
+    }
 }
 
 impl uDisplayZeros for u64 {
@@ -34,6 +48,10 @@ impl uDisplayZeros for u64 {
 
     fn fmt_zeros<W: uWrite>(&self, f: &mut Formatter<W>, width: usize) -> Result<(), W::Error> {
         write_zeros(false, *self, &mut [0; 20], f, width)
+    }
+
+    fn pads_zeros(&self) -> bool {
+        true
     }
 }
 
@@ -43,6 +61,10 @@ impl uDisplayZeros for u128 {
     fn fmt_zeros<W: uWrite>(&self, f: &mut Formatter<W>, width: usize) -> Result<(), W::Error> {
         write_zeros(false, *self, &mut [0; 39], f, width)
     }
+
+    fn pads_zeros(&self) -> bool {
+        true
+    }
 }
 
 impl uDisplayZeros for usize {
@@ -50,6 +72,10 @@ impl uDisplayZeros for usize {
 
     fn fmt_zeros<W: uWrite>(&self, f: &mut Formatter<W>, width: usize) -> Result<(), W::Error> {
         (*self as u64).fmt_zeros(f, width)
+    }
+
+    fn pads_zeros(&self) -> bool {
+        true
     }
 }
 
@@ -59,6 +85,10 @@ impl uDisplayZeros for i8 {
     fn fmt_zeros<W: uWrite>(&self, f: &mut Formatter<W>, width: usize) -> Result<(), W::Error> {
         i64::from(*self).fmt_zeros(f, width)
     }
+
+    fn pads_zeros(&self) -> bool {
+        true
+    }
 }
 
 impl uDisplayZeros for i16 {
@@ -67,6 +97,10 @@ impl uDisplayZeros for i16 {
     fn fmt_zeros<W: uWrite>(&self, f: &mut Formatter<W>, width: usize) -> Result<(), W::Error> {
         i64::from(*self).fmt_zeros(f, width)
     }
+
+    fn pads_zeros(&self) -> bool {
+        true
+    }
 }
 
 impl uDisplayZeros for i32 {
@@ -74,6 +108,10 @@ impl uDisplayZeros for i32 {
 
     fn fmt_zeros<W: uWrite>(&self, f: &mut Formatter<W>, width: usize) -> Result<(), W::Error> {
         i64::from(*self).fmt_zeros(f, width)
+    }
+
+    fn pads_zeros(&self) -> bool {
+        true
     }
 }
 
@@ -84,6 +122,10 @@ impl uDisplayZeros for i64 {
     fn fmt_zeros<W: uWrite>(&self, f: &mut Formatter<W>, width: usize) -> Result<(), W::Error> {
         write_zeros(*self < 0, self.unsigned_abs(), &mut [0; 20], f, width)
     }
+
+    fn pads_zeros(&self) -> bool {
+        true
+    }
 }
 
 impl uDisplayZeros for i128 {
@@ -93,6 +135,10 @@ impl uDisplayZeros for i128 {
     fn fmt_zeros<W: uWrite>(&self, f: &mut Formatter<W>, width: usize) -> Result<(), W::Error> {
         write_zeros(*self < 0, self.unsigned_abs(), &mut [0; 39], f, width)
     }
+
+    fn pads_zeros(&self) -> bool {
+        true
+    }
 }
 
 impl uDisplayZeros for isize {
@@ -100,5 +146,9 @@ impl uDisplayZeros for isize {
 
     fn fmt_zeros<W: uWrite>(&self, f: &mut Formatter<W>, width: usize) -> Result<(), W::Error> {
         (*self as i64).fmt_zeros(f, width)
+    }
+
+    fn pads_zeros(&self) -> bool {
+        true
     }
 }

@@ -14,6 +14,10 @@ impl uDisplayZeros for NonZeroU8 {
     fn fmt_zeros<W: uWrite>(&self, f: &mut Formatter<W>, width: usize) -> Result<(), W::Error> {
         self.get().fmt_zeros(f, width)
     }
+
+    fn pads_zeros(&self) -> bool {
+        self.get().pads_zeros()
+    }
 }
 
 impl uDisplayZeros for NonZeroU16 {
@@ -21,6 +25,10 @@ impl uDisplayZeros for NonZeroU16 {
 
     fn fmt_zeros<W: uWrite>(&self, f: &mut Formatter<W>, width: usize) -> Result<(), W::Error> {
         self.get().fmt_zeros(f, width)
+    }
+
+    fn pads_zeros(&self) -> bool {
+        self.get().pads_zeros()
     }
 }
 
@@ -30,6 +38,10 @@ impl uDisplayZeros for NonZeroU32 {
     fn fmt_zeros<W: uWrite>(&self, f: &mut Formatter<W>, width: usize) -> Result<(), W::Error> {
         self.get().fmt_zeros(f, width)
     }
+
+    fn pads_zeros(&self) -> bool {
+        self.get().pads_zeros()
+    }
 }
 
 impl uDisplayZeros for NonZeroU64 {
@@ -37,6 +49,10 @@ impl uDisplayZeros for NonZeroU64 {
 
     fn fmt_zeros<W: uWrite>(&self, f: &mut Formatter<W>, width: usize) -> Result<(), W::Error> {
         self.get().fmt_zeros(f, width)
+    }
+
+    fn pads_zeros(&self) -> bool {
+        self.get().pads_zeros()
     }
 }
 
@@ -46,6 +62,10 @@ impl uDisplayZeros for NonZeroU128 {
     fn fmt_zeros<W: uWrite>(&self, f: &mut Formatter<W>, width: usize) -> Result<(), W::Error> {
         self.get().fmt_zeros(f, width)
     }
+
+    fn pads_zeros(&self) -> bool {
+        self.get().pads_zeros()
+    }
 }
 
 impl uDisplayZeros for NonZeroUsize {
@@ -53,6 +73,10 @@ impl uDisplayZeros for NonZeroUsize {
 
     fn fmt_zeros<W: uWrite>(&self, f: &mut Formatter<W>, width: usize) -> Result<(), W::Error> {
         self.get().fmt_zeros(f, width)
+    }
+
+    fn pads_zeros(&self) -> bool {
+        self.get().pads_zeros()
     }
 }
 
@@ -62,6 +86,10 @@ impl uDisplayZeros for NonZeroI8 {
     fn fmt_zeros<W: uWrite>(&self, f: &mut Formatter<W>, width: usize) -> Result<(), W::Error> {
         self.get().fmt_zeros(f, width)
     }
+
+    fn pads_zeros(&self) -> bool {
+        self.get().pads_zeros()
+    }
 }
 
 impl uDisplayZeros for NonZeroI16 {
@@ -69,6 +97,10 @@ impl uDisplayZeros for NonZeroI16 {
 
     fn fmt_zeros<W: uWrite>(&self, f: &mut Formatter<W>, width: usize) -> Result<(), W::Error> {
         self.get().fmt_zeros(f, width)
+    }
+
+    fn pads_zeros(&self) -> bool {
+        self.get().pads_zeros()
     }
 }
 
@@ -78,6 +110,10 @@ impl uDisplayZeros for NonZeroI32 {
     fn fmt_zeros<W: uWrite>(&self, f: &mut Formatter<W>, width: usize) -> Result<(), W::Error> {
         self.get().fmt_zeros(f, width)
     }
+
+    fn pads_zeros(&self) -> bool {
+        self.get().pads_zeros()
+    }
 }
 
 impl uDisplayZeros for NonZeroI64 {
@@ -85,6 +121,10 @@ impl uDisplayZeros for NonZeroI64 {
 
     fn fmt_zeros<W: uWrite>(&self, f: &mut Formatter<W>, width: usize) -> Result<(), W::Error> {
         self.get().fmt_zeros(f, width)
+    }
+
+    fn pads_zeros(&self) -> bool {
+        self.get().pads_zeros()
     }
 }
 
@@ -94,6 +134,10 @@ impl uDisplayZeros for NonZeroI128 {
     fn fmt_zeros<W: uWrite>(&self, f: &mut Formatter<W>, width: usize) -> Result<(), W::Error> {
         self.get().fmt_zeros(f, width)
     }
+
+    fn pads_zeros(&self) -> bool {
+        self.get().pads_zeros()
+    }
 }
 
 impl uDisplayZeros for NonZeroIsize {
@@ -101,5 +145,9 @@ impl uDisplayZeros for NonZeroIsize {
 
     fn fmt_zeros<W: uWrite>(&self, f: &mut Formatter<W>, width: usize) -> Result<(), W::Error> {
         self.get().fmt_zeros(f, width)
+    }
+
+    fn pads_zeros(&self) -> bool {
+        self.get().pads_zeros()
     }
 }

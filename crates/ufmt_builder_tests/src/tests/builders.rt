@@ -1,8 +1,9 @@
 //! Tests of structs and tuples that builders write, with each way to write a field.
+use super::asserts::has_wanted_rows;
 use std::collections::BTreeMap;
 use ufmt::{Formatter, uDebug, uWrite};
 use ufmt_test_rows::printed::Printed;
-use ufmt_test_rows::rows::{Table, has_wanted_rows, map};
+use ufmt_test_rows::rows::{Table, map};
 
 /// What builders write.
 #[derive(Drop)]

@@ -1,8 +1,8 @@
 //! Tests that `end_entry`, `begin_value` and `end_field` set the depth back, if what was written
 //! before them left the formatter deeper.
+use super::asserts::same;
 use std::alloc::{AllocError, Global};
 use ufmt::Formatter;
-use ufmt_test_rows::rows::same;
 
 // Opens a list and drops its builder, which leaves the formatter a level deeper.
 fn leave_deeper(f: &mut Formatter<String>) -> Result<(), AllocError> {

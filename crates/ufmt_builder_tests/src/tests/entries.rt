@@ -2,9 +2,9 @@
 ghost use Rattle.std.specs.Prelude.{◌-◌};
 ghost use Rattle.std.specs.Iterator.{at_most};
 
+use super::asserts::same;
 use super::writers::FailOnce;
 use ufmt::{Cursor, Formatter, Full, uWrite};
-use ufmt_test_rows::rows::same;
 
 /// The numbers 1 to 9, with how many of them were taken.
 #[derive(Drop)]

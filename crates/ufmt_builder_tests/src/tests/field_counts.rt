@@ -2,8 +2,9 @@
 //! a chain. The fields of a block differ in name and value, so a swap shows. Blocks that end in dots have
 //! each number of fields. The results are in an
 //! array, because a `?` takes the check twice as long.
+use super::asserts::same;
 use ufmt::{Formatter, fields, uWrite};
-use ufmt_test_rows::rows::{are_ok, same};
+use ufmt_test_rows::rows::are_ok;
 
 // The results of `fields!` on these blocks.
 macro_rules! each_block {

@@ -1,6 +1,7 @@
 //! Tests of `fields!` on values that it takes apart, with field names that it may use itself.
+use super::asserts::same;
 use ufmt::{Formatter, fields, uDebug, uWrite};
-use ufmt_test_rows::rows::{are_ok, same};
+use ufmt_test_rows::rows::are_ok;
 
 #[derive(Drop)]
 struct Unit;

@@ -1,10 +1,11 @@
 //! Tests of the formatter's own calls: `write_str`, `write_char` and `pretty`.
 ghost use Rattle.std.specs.Prelude.{[], ⊤};
 
+use super::asserts::same;
 use std::alloc::AllocError;
 use ufmt::{Cursor, Formatter, Full, uWrite};
 use ufmt_test_rows::printed::{Printed, print_to};
-use ufmt_test_rows::rows::{are_ok, same};
+use ufmt_test_rows::rows::are_ok;
 use ufmt_test_rows::writers::Recorded;
 
 #[test]

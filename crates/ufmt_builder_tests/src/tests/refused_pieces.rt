@@ -1,7 +1,7 @@
 //! Tests of each builder and its formatter after a failed call, for each piece of each call.
+use super::asserts::same;
 use super::builder_calls::Block;
 use super::stopped_calls::wrong_piece;
-use ufmt_test_rows::rows::same;
 
 const PLAIN_LIST: &str = "\
 opening [|;

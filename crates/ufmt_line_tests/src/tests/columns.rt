@@ -1,16 +1,20 @@
 //! Tests of columns. Spaces come in pieces of up to 64, other fills one in a piece.
+ghost use Rattle.std.specs.Prelude.{codes};
 ghost use Rattle.ufmt.specs.Document.{leaf};
+ghost use Rattle.ufmt.specs.Hex.{padded};
 
+use super::asserts::{has_rows, has_wanted_rows, same};
 use std::alloc::{AllocError, Global};
 use std::cell::Cell;
 use std::test::Fail;
-use ufmt::pieces::{Display, InColumn};
+use ufmt::pieces::{Debug, Display, InColumn};
 use ufmt::{
-    Align, Column, Formatter, Line, laws, line_into, pieces, uDebug, uWrite, uwrite, write_line,
+    Align, Column, Decimal, Formatter, HexOptions, Line, laws, line_into, pieces, uDebug,
+    uDisplayHex, uWrite, uwrite, write_line,
 };
 use ufmt_print_examples::{Counter, write_row};
 use ufmt_test_rows::printed::{PREFIXED, Printed};
-use ufmt_test_rows::rows::{Table, has_rows, has_wanted_rows, same};
+use ufmt_test_rows::rows::Table;
 
 fn column(align: Align, fill: char, width: usize) -> Column {
     Column { width, align, fill }
@@ -252,6 +256,90 @@ n=|   |5|, |0x|0|0|ff|!
     has_wanted_rows(&rt, &table);
 }
 
+/// A number that writes its own digits, and leaves the padding to its options.
+#[derive(Drop)]
+struct Ff;
+
+impl uDisplayHex for Ff {
+    ghost hex_text = { λ _ options. padded options (codes "ff") };
+
+    fn fmt_hex<W: uWrite>(
+        &self,
+        f: &mut Formatter<W>,
+        options: HexOptions,
+    ) -> Result<(), W::Error> {
+        options.with_stuff(f, "ff")
+    }
+}
+
+// Numbers padded to each length from 4 to 8, with zeros and with spaces, in a column of six characters.
+fn of_each_length(alloc: Global, align: Align) -> Result<String, AllocError> {
+    let (six, mut row) = (column(align, '*', 6), String::new(alloc));
+    for pad_length in 4..9usize {
+        let zeros = HexOptions {
+            pad_length,
+            ..PREFIXED
+        };
+        let spaces = HexOptions {
+            pad_char: b' ',
+            ..zeros
+        };
+        let price = Decimal {
+            value: -125,
+            places: 1,
+        };
+        write_line(
+            &mut row,
+            &pieces!(
+                hex 255u32 with zeros in six, text "|", hex Ff with zeros in six, text "|",
+                bin 5u8 with spaces in six, text "|", zeros (-7i8) to pad_length in six, text "|",
+                zeros price to pad_length in six, text ";\n"
+            ),
+        )?;
+    }
+    Ok(row)
+}
+
+// `tools/expected/show --as '{:*<6}' 'format!("{:#04x}", 255)'` prints such a one again.
+const OF_EACH_LENGTH: [(Align, &str); 3] = [
+    (
+        Align::Left,
+        "0xff**|0xff**|0b101*|-007**|-12.5*;
+0x0ff*|0x0ff*|0b101*|-0007*|-12.5*;
+0x00ff|0x00ff| 0b101|-00007|-012.5;
+0x000ff|0x000ff|  0b101|-000007|-0012.5;
+0x0000ff|0x0000ff|   0b101|-0000007|-00012.5;
+",
+    ),
+    (
+        Align::Center,
+        "*0xff*|*0xff*|0b101*|*-007*|-12.5*;
+0x0ff*|0x0ff*|0b101*|-0007*|-12.5*;
+0x00ff|0x00ff| 0b101|-00007|-012.5;
+0x000ff|0x000ff|  0b101|-000007|-0012.5;
+0x0000ff|0x0000ff|   0b101|-0000007|-00012.5;
+",
+    ),
+    (
+        Align::Right,
+        "**0xff|**0xff|*0b101|**-007|*-12.5;
+*0x0ff|*0x0ff|*0b101|*-0007|*-12.5;
+0x00ff|0x00ff| 0b101|-00007|-012.5;
+0x000ff|0x000ff|  0b101|-000007|-0012.5;
+0x0000ff|0x0000ff|   0b101|-0000007|-00012.5;
+",
+    ),
+];
+
+#[test]
+fn a_padded_number_has_fills_up_to_the_width(rt: HostRuntime) -> Result<(), Fail> {
+    for (align, wanted) in OF_EACH_LENGTH {
+        let row = of_each_length(rt.alloc(), align)?;
+        same(&rt, row.as_str(), wanted, "padded numbers in a column");
+    }
+    Ok(())
+}
+
 // A text that counts the calls of its `fmt`.
 #[derive(Drop)]
 struct Counting<'a> {
@@ -301,6 +389,25 @@ fn a_value_is_printed_twice_and_once_where_no_width_is_asked_for(rt: HostRuntime
         ],
         "calls of `fmt`",
     );
+}
+
+#[test]
+fn a_value_in_a_column_in_a_column_is_printed_three_times(rt: HostRuntime) {
+    let calls = Cell::new(0);
+    let counting = Counting {
+        text: "a",
+        calls: &calls,
+    };
+    let inner = InColumn {
+        mark: Debug,
+        column: right(3),
+    };
+    let outer = InColumn {
+        mark: inner,
+        column: right(9),
+    };
+    let fits = line_into(&mut [0; 16], &pieces!(each [counting] by outer between "")).is_ok();
+    same(&rt, [(calls.get(), fits)], [(3, true)], "calls of `fmt`");
 }
 
 #[test]

@@ -1,6 +1,7 @@
 //! Tests of `Cursor`, of `write_to_buffer`, and of a formatter that continues after a failed entry.
+use super::asserts::{has_wanted_rows, same};
 use ufmt::{Cursor, Formatter, Full, laws, uWrite, write_debug};
-use ufmt_test_rows::rows::{Table, has_wanted_rows, same};
+use ufmt_test_rows::rows::Table;
 
 trait CursorRows {
     // Adds a row of what a call on the cursor returned, and of what then remains and is written.

@@ -4,13 +4,14 @@
 ghost use Rattle.std.specs.Prelude.{codes};
 ghost use Rattle.ufmt.specs.Document.{leaf};
 
+use super::asserts::{has_wanted_rows, same};
 use std::cell::Cell;
 use ufmt::{
     Cut, Formatter, Full, HexOptions, Truncating, debug_cut_into, display_cut_into, line_cut_into,
     pieces, pretty_cut_into, uDebug, uDisplay, uWrite, write_debug,
 };
 use ufmt_print_examples::{Pair, log_cut};
-use ufmt_test_rows::rows::{Table, has_wanted_rows, repeated, same};
+use ufmt_test_rows::rows::{Table, repeated};
 
 trait CutRows {
     // Adds a row of a cut, and of the buffer after it.

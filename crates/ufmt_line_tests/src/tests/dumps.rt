@@ -2,13 +2,14 @@
 //! those. `tools/expected/dumps` prints them again.
 ghost use Rattle.std.specs.Prelude.{[], ⊤};
 
+use super::asserts::{has_wanted_rows, same};
 use std::alloc::{AllocError, Global};
 use std::test::Fail;
 use ufmt::{Formatter, HexDump, hex_dump_into, laws, uWrite, write_hex_dump};
 use ufmt_print_examples::show_packet;
 use ufmt_test_rows::piece_rows::pieces_of;
 use ufmt_test_rows::printed::Printed;
-use ufmt_test_rows::rows::{Table, has_wanted_rows, same};
+use ufmt_test_rows::rows::Table;
 
 /// Bytes with a dump of them. Its pieces don't depend on the mode.
 #[derive(Drop)]

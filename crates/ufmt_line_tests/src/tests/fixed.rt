@@ -1,7 +1,8 @@
 //! Tests of a user's own writer, which keeps its bytes in a fixed array.
+use super::asserts::has_wanted_rows;
 use ufmt::{Full, uWrite, write_debug};
 use ufmt_print_examples::Fixed;
-use ufmt_test_rows::rows::{Table, has_wanted_rows};
+use ufmt_test_rows::rows::Table;
 
 trait FixedRows {
     // Adds a row of what a call returned, and of what is written then.

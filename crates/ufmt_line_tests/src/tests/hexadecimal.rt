@@ -1,5 +1,6 @@
 //! Tests of `fmt_hex` and `with_stuff`. Their pieces are the prefix, each byte of padding, and the
 //! digits or the payload.
+use super::asserts::{has_wanted_rows, same};
 use std::num::{
     NonZeroI8, NonZeroI16, NonZeroI32, NonZeroI64, NonZeroI128, NonZeroIsize, NonZeroU8,
     NonZeroU16, NonZeroU32, NonZeroU64, NonZeroU128, NonZeroUsize, Saturating, Wrapping,
@@ -7,7 +8,7 @@ use std::num::{
 use ufmt::{Cursor, HexOptions, uDisplayHex};
 use ufmt_test_rows::printed::{Hexadecimal, Payload, print_to};
 use ufmt_test_rows::put_nonzero;
-use ufmt_test_rows::rows::{Table, has_wanted_rows, same};
+use ufmt_test_rows::rows::Table;
 
 fn lower_case(ox_prefix: bool, pad_char: u8, pad_length: usize) -> HexOptions {
     HexOptions {

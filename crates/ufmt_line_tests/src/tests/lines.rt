@@ -1,9 +1,10 @@
 //! Tests of `pieces!`, `write_line` and `line_into`.
+use super::asserts::{has_wanted_rows, same};
 use std::alloc::{AllocError, Global};
 use ufmt::{Formatter, Full, Line, line_into, pieces, uWrite, write_line};
 use ufmt_print_examples::{Measurement, dump_packet, list_measurements};
 use ufmt_test_rows::printed::{PREFIXED, Printed, print_to};
-use ufmt_test_rows::rows::{Table, are_ok, has_wanted_rows, same};
+use ufmt_test_rows::rows::{Table, are_ok};
 
 // The pieces of a line with each mark, with a bar between each two.
 const PIECES: &str = "a=|7| |(|1|,|)|[|\n|    |2|,\n|]|0x|0|0|ff|1|-|2|.";

@@ -10,9 +10,10 @@ ghost use Rattle.ufmt.specs.ValueDocuments.{integer, number, str};
 ghost use Rattle.ufmt.specs.Zeros.{zero_padded};
 ghost use Rattle.ufmt_print_examples.specs.Logger.{measurement_document};
 
+use super::asserts::has_wanted_rows;
 use ufmt::{Align, Column, Full, HexOptions, line_into, pieces};
 use ufmt_print_examples::Measurement;
-use ufmt_test_rows::rows::{Table, has_wanted_rows};
+use ufmt_test_rows::rows::Table;
 
 const HEX: HexOptions = HexOptions {
     upper_case: false,

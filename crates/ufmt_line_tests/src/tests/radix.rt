@@ -1,4 +1,5 @@
 //! Tests of `fmt_radix` and of the marks `bin` and `oct`. Their pieces are as those of `fmt_hex`.
+use super::asserts::has_wanted_rows;
 use std::num::{
     NonZeroI8, NonZeroI16, NonZeroI32, NonZeroI64, NonZeroI128, NonZeroIsize, NonZeroU8,
     NonZeroU16, NonZeroU32, NonZeroU64, NonZeroU128, NonZeroUsize, Saturating, Wrapping,
@@ -6,7 +7,7 @@ use std::num::{
 use ufmt::{Formatter, HexOptions, Radix, pieces, uDisplayRadix, uWrite, uwrite};
 use ufmt_test_rows::printed::{Digits, Printed};
 use ufmt_test_rows::put_nonzero;
-use ufmt_test_rows::rows::{Table, has_wanted_rows};
+use ufmt_test_rows::rows::Table;
 
 // Whether there is a prefix, the pad byte, and the pad length.
 const OPTIONS: [(bool, u8, usize); 6] = [

@@ -1,7 +1,7 @@
 //! Tests of `uwrite!` and `uwriteln!` where `Result`, `Ok` and `Err` are names of other things.
+use super::asserts::same;
 use ufmt::{Cursor, Formatter, uwriteln};
 use ufmt_test_rows::forwarded;
-use ufmt_test_rows::rows::same;
 
 mod names {
     use ufmt::{Cursor, Formatter, Full, uwrite, uwriteln};

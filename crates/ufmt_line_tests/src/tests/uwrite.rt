@@ -1,7 +1,8 @@
 //! Tests of what `uwrite!` and `uwriteln!` pass to the writer, and of what they evaluate.
+use super::asserts::{has_wanted_rows, same};
 use ufmt::{Cursor, Formatter, Full, laws, uWrite, uwrite, uwriteln};
 use ufmt_test_rows::printed::{PREFIXED, Printed};
-use ufmt_test_rows::rows::{Table, are_ok, has_wanted_rows, same};
+use ufmt_test_rows::rows::{Table, are_ok};
 
 /// Pieces by each macro, and by the laws of both.
 #[derive(Clone, Copy)]

@@ -1,11 +1,15 @@
-//! Tests of widths that no buffer holds: a call ends where its buffer does, or as soon as its text is known to be as wide
-//! as a column.
+//! Tests of widths that no buffer holds: a call ends where its buffer does.
+use super::asserts::{has_wanted_rows, same};
+use std::num::{
+    NonZeroI8, NonZeroI16, NonZeroI32, NonZeroI64, NonZeroI128, NonZeroIsize, NonZeroU8,
+    NonZeroU16, NonZeroU32, NonZeroU64, NonZeroU128, NonZeroUsize, Saturating, Wrapping,
+};
 use ufmt::pieces::{Display, InColumn};
 use ufmt::{
     Align, Column, Decimal, HexDump, HexOptions, Line, hex_dump_into, line_cut_into, line_into,
-    pieces,
+    pieces, uDisplayHex, uDisplayRadix, uDisplayZeros,
 };
-use ufmt_test_rows::rows::{Table, has_wanted_rows};
+use ufmt_test_rows::rows::Table;
 
 const ZEROS: HexOptions = HexOptions {
     upper_case: false,
@@ -85,8 +89,26 @@ fn put_padded(table: &mut Table, width: usize) {
     );
 }
 
-// Lines with such a text in a narrow column. `nested` is wanted of a column of this width in that one.
-fn put_in_a_column(table: &mut Table, width: usize, within: Column, nested: &str) {
+// What is wanted of the lines with a number in a column that has no fills before it.
+const VALUES: [&str; 4] = [
+    "Err(Full) 0x0000000000",
+    "Err(Full)             ",
+    "Err(Full) -00000000000",
+    "Err(Full) 0x0000000000",
+];
+
+const FILLS: &str = "Err(Full) ************";
+const TEXT_AND_FILLS: &str = "Err(Full) x***********";
+
+// Lines with such a text in a column, and with a column of this width in it, around `x`. `wanted` is of the first, and `nested`
+// of the second.
+fn put_in_a_column(
+    table: &mut Table,
+    width: usize,
+    within: Column,
+    wanted: [&str; 4],
+    nested: &str,
+) {
     let zeros = HexOptions {
         pad_length: width,
         ..ZEROS
@@ -104,10 +126,10 @@ fn put_in_a_column(table: &mut Table, width: usize, within: Column, nested: &str
         column: within,
     };
     put_lines!(table;
-        (hex 7u8 with zeros in within) => "Err(Full) 0x0000000000"
-        (bin 5i64 with spaces in within) => "Err(Full)             "
-        (zeros (-7i8) to width in within) => "Err(Full) -00000000000"
-        (each hex [1u8, 2] with zeros in within between ",") => "Err(Full) 0x0000000000"
+        (hex 7u8 with zeros in within) => (wanted[0])
+        (bin 5i64 with spaces in within) => (wanted[1])
+        (zeros (-7i8) to width in within) => (wanted[2])
+        (each hex [1u8, 2] with zeros in within between ",") => (wanted[3])
         (each ["x"] by narrow between "") => nested
     );
 }
@@ -120,9 +142,9 @@ fn a_width_that_no_buffer_holds_fails_with_full(rt: HostRuntime) {
         let mut table = Table::new(rt.alloc());
         put_padded(&mut table, width);
         for (align, nested) in [
-            (Align::Left, "Err(Full) x***********"),
-            (Align::Center, "Err(Full) ************"),
-            (Align::Right, "Err(Full) ************"),
+            (Align::Left, TEXT_AND_FILLS),
+            (Align::Center, FILLS),
+            (Align::Right, FILLS),
         ] {
             put_in_a_column(
                 &mut table,
@@ -132,6 +154,7 @@ fn a_width_that_no_buffer_holds_fails_with_full(rt: HostRuntime) {
                     align,
                     fill: '*',
                 },
+                VALUES,
                 nested,
             );
         }
@@ -143,9 +166,97 @@ fn a_width_that_no_buffer_holds_fails_with_full(rt: HostRuntime) {
                 align: Align::Left,
                 fill: '*',
             },
-            "Err(Full) x***********",
+            VALUES,
+            TEXT_AND_FILLS,
         );
         has_wanted_rows(&rt, &table);
+    }
+}
+
+// Whether a column counts this number without its padding, in each of the three ways to pad it.
+fn pads<N: uDisplayHex + uDisplayRadix + uDisplayZeros>(number: &N) -> [bool; 3] {
+    [number.pads_hex(), number.pads_radix(), number.pads_zeros()]
+}
+
+fn some_pads<N: uDisplayHex + uDisplayRadix + uDisplayZeros>(number: &Option<N>) -> [bool; 3] {
+    match number {
+        Some(number) => pads(number),
+        None => [false; 3],
+    }
+}
+
+#[test]
+fn every_number_is_counted_without_its_padding(rt: HostRuntime) {
+    let numbers = [
+        pads(&1u8),
+        pads(&1u16),
+        pads(&1u32),
+        pads(&1u64),
+        pads(&1u128),
+        pads(&1usize),
+        pads(&1i8),
+        pads(&1i16),
+        pads(&1i32),
+        pads(&1i64),
+        pads(&1i128),
+        pads(&1isize),
+        pads(&&1u8),
+        pads(&&mut 1u8),
+        pads(&Wrapping(1i16)),
+        pads(&Saturating(1u32)),
+    ];
+    let nonzero = [
+        some_pads(&NonZeroU8::new(1)),
+        some_pads(&NonZeroU16::new(1)),
+        some_pads(&NonZeroU32::new(1)),
+        some_pads(&NonZeroU64::new(1)),
+        some_pads(&NonZeroU128::new(1)),
+        some_pads(&NonZeroUsize::new(1)),
+        some_pads(&NonZeroI8::new(1)),
+        some_pads(&NonZeroI16::new(1)),
+        some_pads(&NonZeroI32::new(1)),
+        some_pads(&NonZeroI64::new(1)),
+        some_pads(&NonZeroI128::new(1)),
+        some_pads(&NonZeroIsize::new(1)),
+    ];
+    let price = Decimal {
+        value: -125,
+        places: 1,
+    };
+    same(
+        &rt,
+        (numbers, nonzero, price.pads_zeros()),
+        ([[true; 3]; 16], [[true; 3]; 12], true),
+        "numbers that pad",
+    );
+}
+
+// What is wanted of a number in a column of this width, and of a column in it. A column around a text that is as wide as it, or wider,
+// has no fills; around a narrower one it has, at the left after it.
+fn wanted_within(width: usize, align: Align, padded: usize) -> ([&'static str; 4], &'static str) {
+    match align {
+        Align::Left => (VALUES, TEXT_AND_FILLS),
+        Align::Center | Align::Right if width > padded => ([FILLS; 4], FILLS),
+        Align::Center | Align::Right => (VALUES, FILLS),
+    }
+}
+
+#[test]
+fn a_huge_column_around_a_huge_number_ends_with_its_buffer(rt: HostRuntime) {
+    for width in WIDTHS {
+        for padded in WIDTHS {
+            let mut table = Table::new(rt.alloc());
+            for align in [Align::Left, Align::Center, Align::Right] {
+                let within = Column {
+                    width,
+                    align,
+                    fill: '*',
+                };
+                let (wanted, nested) = wanted_within(width, align, padded);
+                put_in_a_column(&mut table, padded, within, wanted, nested);
+            }
+            has_wanted_rows(&rt, &table);
+        }
     }
 }
 

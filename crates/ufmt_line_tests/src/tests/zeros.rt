@@ -1,4 +1,5 @@
 //! Tests of `fmt_zeros` and of the mark `zeros`. Their pieces are the sign, each zero, and the digits.
+use super::asserts::has_wanted_rows;
 use std::num::{
     NonZeroI8, NonZeroI16, NonZeroI32, NonZeroI64, NonZeroI128, NonZeroIsize, NonZeroU8,
     NonZeroU16, NonZeroU32, NonZeroU64, NonZeroU128, NonZeroUsize, Saturating, Wrapping,
@@ -7,7 +8,7 @@ use ufmt::pieces::Line;
 use ufmt::{Align, Column, Formatter, HexOptions, laws, pieces, uDisplayZeros, uWrite, uwrite};
 use ufmt_test_rows::printed::{Printed, ZeroPadded};
 use ufmt_test_rows::put_nonzero;
-use ufmt_test_rows::rows::{Table, has_wanted_rows};
+use ufmt_test_rows::rows::Table;
 
 trait ZeroRows {
     // Adds a row of the number's texts at each of these widths, a bar after each.

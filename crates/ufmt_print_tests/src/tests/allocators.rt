@@ -1,8 +1,9 @@
 //! Tests of values over an allocator that isn't `Global`, and of a `String` over one as a writer.
+use super::asserts::{has_wanted_rows, same};
 use std::alloc::{AllocError, Allocator};
 use std::collections::{BTreeMap, BTreeSet};
 use ufmt::{Formatter, write_debug, write_display};
-use ufmt_test_rows::rows::{Table, are_ok, has_wanted_rows, same};
+use ufmt_test_rows::rows::{Table, are_ok};
 
 fn set_of_3<A: Allocator + Clone>(alloc: A) -> Result<BTreeSet<u8, A>, AllocError> {
     let mut set = BTreeSet::new(alloc);

@@ -1,8 +1,9 @@
 //! Tests of the pieces of blocks in both modes, with a bar after each piece.
+use super::asserts::has_wanted_rows;
 use std::alloc::{AllocError, Global};
 use std::collections::{BTreeMap, BTreeSet};
 use ufmt_print_examples::{Braces, InPrettyMode, Pair, Parens, Session, Tuple, X};
-use ufmt_test_rows::rows::{Table, has_wanted_rows, list, map, set};
+use ufmt_test_rows::rows::{Table, list, map, set};
 
 fn list_of_a_set(alloc: Global) -> Result<Vec<BTreeSet<u64>>, AllocError> {
     let mut list = Vec::new(alloc);

@@ -1,8 +1,9 @@
 //! Tests of the texts of std's collections. They are those of core::fmt, and those of ufmt 0.2.0
 //! except where a comment says so. `tools/expected/show VALUE` prints them again.
+use super::asserts::{has_wanted_rows, same};
 use std::alloc::{AllocError, Global};
 use std::collections::{BTreeMap, BTreeSet};
-use ufmt_test_rows::rows::{Table, has_wanted_rows, list, map, repeated, same, set};
+use ufmt_test_rows::rows::{Table, list, map, repeated, set};
 
 // ufmt 0.2.0 has arrays of at most 32.
 #[test]

@@ -1,8 +1,9 @@
 //! Tests of `Decimal`, and of the lines of `ufmt_print_examples` with numbers as firmware prints them.
+use super::asserts::has_wanted_rows;
 use ufmt::{Decimal, Formatter, uDisplay, uDisplayZeros};
 use ufmt_print_examples::{Time, write_status, write_time};
 use ufmt_test_rows::printed::{Displayed, ZeroPadded};
-use ufmt_test_rows::rows::{Table, has_wanted_rows};
+use ufmt_test_rows::rows::Table;
 
 trait DecimalRows {
     // Adds a row of the number's text by `uDisplay`, and with zeros to widths 8 and 25, a bar after each.

@@ -1,7 +1,8 @@
 //! Tests of values that are one piece in both modes, and of quoted texts, whose escapes are pieces.
+use super::asserts::{has_wanted_rows, same};
 use std::alloc::{AllocError, Global};
 use ufmt_test_rows::printed::Displayed;
-use ufmt_test_rows::rows::{Table, has_wanted_rows, repeated, same};
+use ufmt_test_rows::rows::{Table, repeated};
 
 // Each escape is a piece, and so is each stretch between escapes.
 #[test]

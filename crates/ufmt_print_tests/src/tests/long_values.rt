@@ -1,7 +1,8 @@
 //! Tests of tuples and lists with hundreds of entries.
+use super::asserts::same;
 use std::alloc::{AllocError, Global};
 use ufmt::{Formatter, fmt_pretty, uWrite};
-use ufmt_test_rows::rows::{map, repeated, same};
+use ufmt_test_rows::rows::{map, repeated};
 
 // Writes an unnamed tuple of `count` zeros. Returns whether it was open before each call.
 fn write_zeros<W: uWrite>(f: &mut Formatter<W>, count: u16) -> Result<bool, W::Error> {

@@ -1,5 +1,6 @@
 //! Tests of numbers: each is one piece by both traits and in both modes, and its decimal text is
 //! right.
+use super::asserts::{has_wanted_rows, same};
 use std::alloc::{AllocError, Global};
 use std::fmt::Display;
 use std::num::{
@@ -8,7 +9,7 @@ use std::num::{
 };
 use ufmt::{Formatter, uDebug, uDisplay};
 use ufmt_test_rows::put_nonzero;
-use ufmt_test_rows::rows::{Table, has_wanted_rows, same};
+use ufmt_test_rows::rows::Table;
 
 #[test]
 fn numbers_print_as_one_piece(rt: HostRuntime) {

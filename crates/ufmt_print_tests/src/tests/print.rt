@@ -1,8 +1,9 @@
 //! Tests of calls that print a whole value: on a formatter, to a writer, and into a buffer.
+use super::asserts::{has_wanted_rows, same};
 use ufmt::{
     Formatter, debug_into, display_into, pretty_into, write_debug, write_display, write_pretty,
 };
-use ufmt_test_rows::rows::{Table, are_ok, has_wanted_rows, same};
+use ufmt_test_rows::rows::{Table, are_ok};
 
 #[test]
 fn whole_values_print_in_one_call(rt: HostRuntime) {

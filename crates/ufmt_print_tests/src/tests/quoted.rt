@@ -1,8 +1,9 @@
 //! Tests of quoted texts and characters: each escape, and ASCII as core::fmt prints it.
 //! `tools/expected/show VALUE` prints one again.
+use super::asserts::{has_wanted_rows, same};
 use std::alloc::{AllocError, Global};
 use ufmt_print_examples::Message;
-use ufmt_test_rows::rows::{Table, has_wanted_rows, joined_if_different, map, same};
+use ufmt_test_rows::rows::{Table, joined_if_different, map};
 use ufmt_test_rows::text_rows::texts_of;
 
 // The texts of a `&str`, and those of the same `String` if they differ.

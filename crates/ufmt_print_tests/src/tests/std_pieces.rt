@@ -1,5 +1,6 @@
 //! Tests of the pieces of std's shared values, queues, hashed collections, ranges and small types, by each trait that
 //! they have.
+use super::asserts::has_wanted_rows;
 use super::std_types::{hashed_set, linked_list};
 use std::alloc::{AllocError, Global};
 use std::borrow::{Cow, CowStr};
@@ -13,7 +14,7 @@ use std::rc::{Rc, RcStr};
 use std::sync::{Arc, ArcStr};
 use ufmt::cells::{CellValue, RefCellValue};
 use ufmt_test_rows::printed::Displayed;
-use ufmt_test_rows::rows::{Table, has_wanted_rows};
+use ufmt_test_rows::rows::Table;
 
 fn queue(alloc: Global) -> Result<VecDeque<u8>, AllocError> {
     let mut queue = VecDeque::new(alloc);

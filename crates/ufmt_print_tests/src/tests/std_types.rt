@@ -1,5 +1,6 @@
 //! Tests of the texts of std's shared values, queues, hashed collections, ranges and small types. They are those of
 //! core::fmt, but for the order of a hashed collection of several items. `tools/expected/show VALUE` prints them again.
+use super::asserts::{has_wanted_rows, same};
 use std::alloc::{AllocError, Global};
 use std::borrow::{Cow, CowSlice, CowStr};
 use std::boxed::{BoxedSlice, BoxedStr};
@@ -12,7 +13,7 @@ use std::rc::{Rc, RcSlice, RcStr, Weak};
 use std::sync::{Arc, ArcSlice, ArcStr};
 use ufmt::cells::{CellValue, RefCellValue};
 use ufmt::plain_text;
-use ufmt_test_rows::rows::{Table, has_wanted_rows, list, same};
+use ufmt_test_rows::rows::{Table, list};
 
 fn shared_list(alloc: Global) -> Result<Vec<Rc<u8>>, AllocError> {
     let mut list = Vec::new(alloc);

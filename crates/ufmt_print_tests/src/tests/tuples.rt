@@ -1,6 +1,7 @@
 //! Tests of tuples with three to twelve fields. They print as by core::fmt. `blocks` has shorter
 //! ones. `tools/expected/show VALUE` prints them again.
-use ufmt_test_rows::rows::{Table, has_wanted_rows};
+use super::asserts::has_wanted_rows;
+use ufmt_test_rows::rows::Table;
 
 #[test]
 fn tuples_print(rt: HostRuntime) {

@@ -1,5 +1,6 @@
 //! Tests of a user's own types. `blocks` has pairs, tuples, and structs without fields.
 //! `tools/expected/show '{ #[derive(Debug)] struct A { x: i32 } A { x: 1 } }'` prints such texts by core::fmt.
+use super::asserts::{has_rows, has_wanted_rows};
 use std::alloc::{AllocError, Global};
 use std::borrow::CowStr;
 use std::collections::{BTreeMap, VecDeque};
@@ -10,7 +11,7 @@ use ufmt_print_examples::{
     Scores, Session, Temperature, Tree, Tuple, Users, Window, X, Y, log, print,
 };
 use ufmt_test_rows::forwarded;
-use ufmt_test_rows::rows::{Table, has_rows, has_wanted_rows, list};
+use ufmt_test_rows::rows::{Table, list};
 
 fn node(alloc: Global) -> Result<Node, AllocError> {
     let last = Node {

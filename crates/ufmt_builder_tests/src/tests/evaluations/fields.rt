@@ -1,8 +1,9 @@
 //! Tests of what `fields!` evaluates.
+use super::super::asserts::has_wanted_rows;
 use super::Turns;
 use std::alloc::{AllocError, Global};
 use ufmt::{Formatter, fields};
-use ufmt_test_rows::rows::{Table, has_wanted_rows};
+use ufmt_test_rows::rows::Table;
 
 #[derive(Drop)]
 struct Unit;

@@ -1,8 +1,9 @@
 //! Tests of what `pieces!` evaluates: all of its values, before a piece can be written.
+use super::super::asserts::has_wanted_rows;
 use super::Turns;
 use ufmt::pieces;
 use ufmt::pieces::Line;
-use ufmt_test_rows::rows::{Table, has_wanted_rows};
+use ufmt_test_rows::rows::Table;
 
 // The line is made, and not written.
 fn take<L: Line>(_line: &L) {}

@@ -1,9 +1,10 @@
 //! Tests of what `uwrite!` and `uwriteln!` evaluate.
+use super::super::asserts::has_rows;
 use super::Turns;
 use crate::tests::writers::FailOnce;
 use std::alloc::{AllocError, Global};
 use ufmt::{Formatter, Full, uwrite, uwriteln};
-use ufmt_test_rows::rows::{Table, has_rows};
+use ufmt_test_rows::rows::Table;
 
 // Each kind of piece by itself.
 macro_rules! one_piece {
