@@ -1,123 +1,29 @@
 //! Conversions of plain texts to pretty ones and back.
-ghost use Rattle.std.specs.Prelude.{ℕ, List};
-ghost use Rattle.ufmt.specs.Document.{Document};
-ghost use Rattle.ufmt.specs.Layout.{plain_text, pretty_text};
-ghost use Rattle.ufmt_grammar.specs.declared.class.Class.{Class};
+ghost use Rattle.ufmt.specs.Layout.{layout, plain_text, pretty_text, setting};
 ghost use Rattle.ufmt_grammar.specs.declared.class.Class.TheVariants.{Debug, Token};
 ghost use Rattle.ufmt_c.specs.Conversions.{ConvertsText};
-ghost use Rattle.ufmt_scan.specs.Places.{ReadsUpTo};
-ghost use Rattle.ufmt_scan.specs.Texts.{ConvertsToAs};
+ghost use Rattle.ufmt_scan.specs.Texts.{other_mode};
 
 use crate::code::NO_TEXT;
 use crate::filler::Filler;
 use ufmt::class::Class;
 use ufmt::layout::Mode;
-use ufmt::uWrite;
-use ufmt_scan::convert::{
-    write_debug_to_plain, write_debug_to_pretty, write_to_plain, write_to_pretty,
-};
+use ufmt_scan::convert::{other_mode, write_converted};
 use ufmt_scan::scan::ScanError;
 use ufmt_scan::valid_up_to;
 
-// A conversion: of texts of which class, from which text of a document to which.
-trait Conversion {
-    ghost class: { Class };
-
-    ghost from: { Document → List ℕ };
-
-    ghost to: { Document → List ℕ };
-
-    fn write<W: uWrite>(writer: &mut W, input: &[u8]) -> Result<(), ScanError<W::Error>>
-        ensures { ConvertsToAs W.seen class from to input.now writer.old result writer.new };
-
-    // How many bytes at the front of an input that is no text were read.
-    fn place(input: &[u8]) -> usize
-        ensures { ReadsUpTo class from input.now result };
-}
-
-struct ToPretty;
-
-impl Conversion for ToPretty {
-    ghost class = { Token };
-
-    ghost from = { plain_text };
-
-    ghost to = { pretty_text };
-
-    fn write<W: uWrite>(writer: &mut W, input: &[u8]) -> Result<(), ScanError<W::Error>> {
-        write_to_pretty(writer, input)
-    }
-
-    fn place(input: &[u8]) -> usize {
-        valid_up_to(Class::Token, Mode::Plain, input)
-    }
-}
-
-struct ToPlain;
-
-impl Conversion for ToPlain {
-    ghost class = { Token };
-
-    ghost from = { pretty_text };
-
-    ghost to = { plain_text };
-
-    fn write<W: uWrite>(writer: &mut W, input: &[u8]) -> Result<(), ScanError<W::Error>> {
-        write_to_plain(writer, input)
-    }
-
-    fn place(input: &[u8]) -> usize {
-        valid_up_to(Class::Token, Mode::Pretty, input)
-    }
-}
-
-struct DebugToPretty;
-
-impl Conversion for DebugToPretty {
-    ghost class = { Debug };
-
-    ghost from = { plain_text };
-
-    ghost to = { pretty_text };
-
-    fn write<W: uWrite>(writer: &mut W, input: &[u8]) -> Result<(), ScanError<W::Error>> {
-        write_debug_to_pretty(writer, input)
-    }
-
-    fn place(input: &[u8]) -> usize {
-        valid_up_to(Class::Debug, Mode::Plain, input)
-    }
-}
-
-struct DebugToPlain;
-
-impl Conversion for DebugToPlain {
-    ghost class = { Debug };
-
-    ghost from = { pretty_text };
-
-    ghost to = { plain_text };
-
-    fn write<W: uWrite>(writer: &mut W, input: &[u8]) -> Result<(), ScanError<W::Error>> {
-        write_debug_to_plain(writer, input)
-    }
-
-    fn place(input: &[u8]) -> usize {
-        valid_up_to(Class::Debug, Mode::Pretty, input)
-    }
-}
-
-// Writes the other text of the input, or returns `NO_TEXT`. Then `detail` becomes where the input stops
-// being a text, which takes a scan of its own.
-fn convert<C: Conversion>(buffer: &mut [u8], input: &[u8], detail: &mut usize) -> isize
-    ensures { ConvertsText C.class C.from C.to input.now buffer.old result buffer.new
-        detail.new }
+// Writes the text of the input in the mode `to`, or returns `NO_TEXT`. Then `detail` becomes where the input
+// stops being a text, which takes a scan of its own.
+#[inline(always)]
+fn convert(class: Class, to: Mode, buffer: &mut [u8], input: &[u8], detail: &mut usize) -> isize
+    ensures { ConvertsText class (layout (setting (other_mode to) 0)) (layout (setting to 0)) input.now
+        buffer.old result buffer.new detail.new }
 {
     let mut filler = Filler::new(buffer);
-    match C::write(&mut filler, input) {
+    match write_converted(&mut filler, class, to, input) {
         Ok(()) => filler.report(detail),
         Err(ScanError::NotText) => {
-            *detail = C::place(input);
+            *detail = valid_up_to(class, other_mode(to), input);
             NO_TEXT
         }
         Err(ScanError::Sink(never)) => match never {},
@@ -132,7 +38,7 @@ pub extern "C" fn ufmt_to_pretty(buffer: &mut [u8], input: &[u8], detail: &mut u
     ensures { ConvertsText Token plain_text pretty_text input.now buffer.old result
         buffer.new detail.new }
 {
-    convert::<ToPretty>(buffer, input, detail)
+    convert(Class::Token, Mode::Pretty, buffer, input, detail)
 }
 
 /// Writes the plain text of the token documents with this pretty text. Fails as `ufmt_to_pretty` does.
@@ -141,7 +47,7 @@ pub extern "C" fn ufmt_to_plain(buffer: &mut [u8], input: &[u8], detail: &mut us
     ensures { ConvertsText Token pretty_text plain_text input.now buffer.old result
         buffer.new detail.new }
 {
-    convert::<ToPlain>(buffer, input, detail)
+    convert(Class::Token, Mode::Plain, buffer, input, detail)
 }
 
 /// Writes the pretty text of the debug documents with this plain text. Returns `NO_TEXT` only if no debug
@@ -152,7 +58,7 @@ pub extern "C" fn ufmt_debug_to_pretty(buffer: &mut [u8], input: &[u8], detail: 
     ensures { ConvertsText Debug plain_text pretty_text input.now buffer.old result
         buffer.new detail.new }
 {
-    convert::<DebugToPretty>(buffer, input, detail)
+    convert(Class::Debug, Mode::Pretty, buffer, input, detail)
 }
 
 /// Writes the plain text of the debug documents with this pretty text. Fails as `ufmt_debug_to_pretty` does.
@@ -161,5 +67,5 @@ pub extern "C" fn ufmt_debug_to_plain(buffer: &mut [u8], input: &[u8], detail: &
     ensures { ConvertsText Debug pretty_text plain_text input.now buffer.old result
         buffer.new detail.new }
 {
-    convert::<DebugToPlain>(buffer, input, detail)
+    convert(Class::Debug, Mode::Plain, buffer, input, detail)
 }

@@ -9,7 +9,8 @@ use Rattle.ufmt.specs.Layout.{layout, setting}
 use Rattle.ufmt.specs.Leaves.{Place, outside, between, after_backslash, place_after, EndsLeaf, is_control, is_debug_byte, is_opening, is_quote, leads_on}
 use Rattle.ufmt_core.specs.declared.layout.Mode.{Mode}
 use Rattle.ufmt_lines.specs.Private.Brackets.{Closing, unread, pending, opened, none, ArePlain, HasBackslash, IsPending, IsQuotedPending, NoneBefore, SameFrom, IsLastOpening, IsOpeningQuote, NotFrom, OpensAt, at_closing, at_opening, at_plain, closing, ends_closed, gaps, gaps_between, is_closing, is_plain}
-use Rattle.ufmt_lines.specs.Readable.{converted, other_mode}
+use Rattle.ufmt_scan.specs.Texts.{other_mode}
+use Rattle.ufmt_lines.specs.Readable.{converted}
 use Rattle.ufmt_lines.specs.declared.run.brackets.Found.{Found}
 use Rattle.ufmt_lines.specs.declared.run.brackets.Found.TheVariants.{At, Nowhere, Unclear}
 use Rattle.ufmt_lines.specs.declared.run.brackets.TheConstants.{PLAIN_BYTES}

@@ -11,7 +11,8 @@ use Rattle.ufmt.specs.Token.{IsDebugDocument}
 use Rattle.ufmt_core.specs.declared.layout.Mode.{Mode}
 use Rattle.ufmt_core.specs.declared.layout.Mode.TheVariants.{Plain, Pretty}
 use Rattle.ufmt_lines.specs.OutputLaws.{LongestTextIsConverted, MayFollow, NoTextBegins, OthersStay}
-use Rattle.ufmt_lines.specs.Readable.{output_of, converted, converted_here, may_begin_after, other_mode, tail_converted}
+use Rattle.ufmt_scan.specs.Texts.{other_mode}
+use Rattle.ufmt_lines.specs.Readable.{output_of, converted, converted_here, may_begin_after, tail_converted}
 use Rattle.ufmt_lines.proofs.Tails.{not_converted, tail_found, tail_skips}
 
 -- whether a text may begin after the bytes, if it may before them or not

@@ -11,30 +11,30 @@ use Rattle.ufmt_grammar.specs.declared.class.Class.TheVariants.{Debug}
 use Rattle.ufmt.specs.Reading.{read_text}
 use Rattle.ufmt.specs.Token.{IsDebugDocument, normal}
 use Rattle.ufmt_core.specs.declared.layout.Mode.{Mode}
-use Rattle.ufmt_lines.specs.Readable.{output_of, converted, converted_here, may_begin_after, other_mode, tail_converted}
+use Rattle.ufmt_lines.specs.Readable.{output_of, converted, converted_here, may_begin_after, tail_converted}
 use Rattle.ufmt_lines.specs.Private.GroupOutput.{output_bytes, output_seen}
 use Rattle.ufmt_lines.specs.declared.run.output.GroupOutput.{GroupOutput}
-use Rattle.ufmt_scan.specs.Texts.{ConvertsToAs, IsConvertedAs, IsNormalFormAs, NoDocumentPrintsAs}
+use Rattle.ufmt_scan.specs.Texts.{ConvertsTo, IsConverted, IsNormalForm, NoDocumentPrints, other_mode}
 use Rattle.ufmt_scan.specs.declared.scan.event.ScanError.TheVariants.{NotText}
 
 -- the normal form is read from the text
 form_is_read : (mode : Mode) (text : List ℕ) (d : Document) → IsDebugDocument d → layout (setting mode 0) d ≡ text → read_text Debug mode text ≡ Some (normal d)
 form_is_read mode text d token is = ap (read_text Debug mode) (sym is) ∙ reads_each_text Debug mode d token
 
-nothing_is_read : (mode : Mode) (text : List ℕ) (o : Option Document) → read_text Debug mode text ≡ o → NoDocumentPrintsAs Debug (layout (setting mode 0)) text → o ≡ None
+nothing_is_read : (mode : Mode) (text : List ℕ) (o : Option Document) → read_text Debug mode text ≡ o → NoDocumentPrints Debug (layout (setting mode 0)) text → o ≡ None
 nothing_is_read mode text None is none = refl
 nothing_is_read mode text (Some d) is none = let form = reads_only_texts Debug mode text d is in absurd (none d form.0 form.2)
 
 -- what is a text in the other mode can be converted, and nothing else
-pub convertible : (mode : Mode) (text : List ℕ) (is_text : Bool) → (is_text ≡ true → (d : Document) × IsNormalFormAs Debug (layout (setting (other_mode mode) 0)) text d)
-    → (is_text ≡ false → NoDocumentPrintsAs Debug (layout (setting (other_mode mode) 0)) text) → is_text ≡ is_some (converted mode text)
+pub convertible : (mode : Mode) (text : List ℕ) (is_text : Bool) → (is_text ≡ true → (d : Document) × IsNormalForm Debug (layout (setting (other_mode mode) 0)) text d)
+    → (is_text ≡ false → NoDocumentPrints Debug (layout (setting (other_mode mode) 0)) text) → is_text ≡ is_some (converted mode text)
 unfolding converted
 convertible mode text true some none =
     let form = some refl in sym (ap (λ o. is_some (option_map (layout (setting mode 0)) o)) (form_is_read (other_mode mode) text form.0 form.1.0 form.1.2))
 convertible mode text false some none = sym (ap (λ o. is_some (option_map (layout (setting mode 0)) o)) (nothing_is_read (other_mode mode) text _ refl (none refl)))
 
 converted_from : (mode : Mode) (text : List ℕ) (o : Option Document) (other : List ℕ) → read_text Debug (other_mode mode) text ≡ o → option_map (layout (setting mode 0)) o ≡ Some other
-    → IsConvertedAs Debug (layout (setting (other_mode mode) 0)) (layout (setting mode 0)) text other
+    → IsConverted Debug (layout (setting (other_mode mode) 0)) (layout (setting mode 0)) text other
 converted_from mode text None other is h = absurd (cc)
 converted_from mode text (Some d) other is h =
     let form = reads_only_texts Debug (other_mode mode) text d is in
@@ -49,7 +49,7 @@ converted_from mode text (Some d) other is h =
 
 -- what `converted` is, by conversions
 pub is_converted : (mode : Mode) (text other : List ℕ) → converted mode text ≡ Some other
-    → IsConvertedAs Debug (layout (setting (other_mode mode) 0)) (layout (setting mode 0)) text other
+    → IsConverted Debug (layout (setting (other_mode mode) 0)) (layout (setting mode 0)) text other
 unfolding converted
 is_converted mode text other h = converted_from mode text _ other refl h
 
@@ -111,19 +111,19 @@ tail_none mode line start here past before =
 
 -- what `write_to` did with an output, if there is a text to convert
 module _ (mode : Mode) (text : List ℕ) (is_text : is_some (converted mode text) ≡ true) (old new : GroupOutput) where
-  pub output_grows : {E : Type 0} {done : ⊤} → ConvertsToAs {E = E} output_seen Debug (layout (setting (other_mode mode) 0)) (layout (setting mode 0)) text old (Ok done) new
+  pub output_grows : {E : Type 0} {done : ⊤} → ConvertsTo {E = E} output_seen Debug (layout (setting (other_mode mode) 0)) (layout (setting mode 0)) text old (Ok done) new
       → (other : List ℕ) × (converted mode text ≡ Some other) × (output_bytes new ≡ output_bytes old ++ other)
   output_grows h =
       let found = is_some_converted mode text is_text in
       (found.0, found.1, (h.writes found.0 (is_converted mode text found.0 found.1)).appended tt)
 
-  pub always_text : {E : Type 0} → ConvertsToAs {E = E} output_seen Debug (layout (setting (other_mode mode) 0)) (layout (setting mode 0)) text old (Err NotText) new → ⊥
+  pub always_text : {E : Type 0} → ConvertsTo {E = E} output_seen Debug (layout (setting (other_mode mode) 0)) (layout (setting mode 0)) text old (Err NotText) new → ⊥
   always_text h =
       let found = is_some_converted mode text is_text in
       let is = is_converted mode text found.0 found.1 in
       h.not_text refl is.some.0 is.some.1 is.some.2
 
 -- no debug document, no text in the other mode
-pub not_converted : (mode : Mode) (text : List ℕ) → NoDocumentPrintsAs Debug (layout (setting (other_mode mode) 0)) text → converted mode text ≡ None
+pub not_converted : (mode : Mode) (text : List ℕ) → NoDocumentPrints Debug (layout (setting (other_mode mode) 0)) text → converted mode text ≡ None
 unfolding converted
 not_converted mode text none = ap (option_map (layout (setting mode 0))) (nothing_is_read (other_mode mode) text _ refl none)

@@ -2,6 +2,7 @@
 use Rattle.std.specs.Prelude.{◌≡◌, ◌≢◌, ℕ, ◌-◌, ◌==◌, ◌||◌, ◌&&◌, Bool, true, false, List, [], ◌∷◌, ◌++◌, length, slice_get, Option, Some, None}
 use Rattle.std.specs.List.{All}
 use Rattle.ufmt.specs.Bytes.{line_feed, space}
+use Rattle.ufmt.specs.Leaves.{is_opening}
 use Rattle.ufmt.specs.Lines.{lines_of}
 use Rattle.ufmt_core.specs.declared.layout.Mode.{Mode}
 use Rattle.ufmt_core.specs.declared.layout.Mode.TheVariants.{Plain, Pretty}
@@ -9,10 +10,6 @@ use Rattle.ufmt_core.specs.declared.layout.Mode.TheVariants.{Plain, Pretty}
 -- no byte is a line feed
 abbrev pub IsInLine : List ℕ → Type 0
 IsInLine text = All (λ byte. byte ≢ line_feed) text
-
--- `(`, `[` or `{`
-abbrev pub is_opening : ℕ → Bool
-is_opening byte = (byte == 40) || (byte == 91) || (byte == 123)
 
 -- whether there is a byte that passes the test
 abbrev pub passes : (ℕ → Bool) → Option ℕ → Bool

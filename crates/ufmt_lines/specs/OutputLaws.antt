@@ -8,8 +8,8 @@ use Rattle.ufmt.specs.Token.{IsDebugDocument}
 use Rattle.ufmt_core.specs.declared.layout.Mode.{Mode}
 use Rattle.ufmt_core.specs.declared.layout.Mode.TheVariants.{Pretty}
 use Rattle.ufmt_lines.specs.Groups.{IsInGroup, IsInLine, groups_of}
-use Rattle.ufmt_lines.specs.Readable.{output_of, may_begin_after, other_mode}
-use Rattle.ufmt_scan.specs.Texts.{NoDocumentPrintsAs}
+use Rattle.ufmt_lines.specs.Readable.{output_of, may_begin_after}
+use Rattle.ufmt_scan.specs.Texts.{NoDocumentPrints, other_mode}
 
 -- a text may follow these bytes: there are none, or they end with a space or a line feed
 abbrev pub MayFollow : List ℕ → Type 0
@@ -17,7 +17,7 @@ MayFollow before = (before ≡ []) ⊎ ((front : List ℕ) × (byte : ℕ) × (b
 
 -- no tail that begins in these bytes, and goes to the end of the rest, is a text of this mode
 abbrev pub NoTextBegins : Mode → List ℕ → List ℕ → Type 0
-NoTextBegins mode before rest = (front back : List ℕ) → before ≡ front ++ back → 0 < length back → MayFollow front → NoDocumentPrintsAs Debug (layout (setting mode 0)) (back ++ rest)
+NoTextBegins mode before rest = (front back : List ℕ) → before ≡ front ++ back → 0 < length back → MayFollow front → NoDocumentPrints Debug (layout (setting mode 0)) (back ++ rest)
 
 -- the longest tail that is a text of the other mode is converted, and the bytes before it stay
 abbrev pub LongestTextIsConverted : Type 0

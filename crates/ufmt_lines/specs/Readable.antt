@@ -5,12 +5,7 @@ use Rattle.ufmt.specs.Layout.{layout, setting}
 use Rattle.ufmt_grammar.specs.declared.class.Class.TheVariants.{Debug}
 use Rattle.ufmt.specs.Reading.{read_text}
 use Rattle.ufmt_core.specs.declared.layout.Mode.{Mode}
-use Rattle.ufmt_core.specs.declared.layout.Mode.TheVariants.{Plain, Pretty}
-
--- the mode that texts are converted from, by the mode that they are converted to
-abbrev pub other_mode : Mode → Mode
-other_mode Plain = Pretty
-other_mode Pretty = Plain
+use Rattle.ufmt_scan.specs.Texts.{other_mode}
 
 -- in this mode, the text of the debug documents that have the given text in the other mode, if there are any
 unfoldable pub converted : Mode → List ℕ → Option (List ℕ)

@@ -5,10 +5,11 @@ ghost use Rattle.ufmt.specs.Bytes.{line_feed};
 ghost use Rattle.ufmt_io.specs.Watched.{device_of, has_failed};
 ghost use Rattle.ufmt_io.specs.Whole.{AppendsPrefix};
 ghost use Rattle.ufmt_lines.specs.Output.{WritesFront, outputs_of};
-ghost use Rattle.ufmt_lines.specs.Groups.{IsInGroup, IsInLine, continues_after, is_indented, is_opening, opens};
+ghost use Rattle.ufmt_lines.specs.Groups.{IsInGroup, IsInLine, continues_after, is_indented, opens};
 ghost use Rattle.ufmt_lines.specs.Private.LineLen.{is_line_feed, line_len};
 ghost use Rattle.ufmt_lines.specs.Readable.{output_of};
 
+use super::brackets::is_opening;
 use super::output::GroupOutput;
 use std::alloc::Global;
 use std::io::Write;
@@ -157,12 +158,6 @@ fn opens(line: &[u8]) -> bool
         Some(byte) => is_opening(*byte),
         None => false,
     }
-}
-
-fn is_opening(byte: u8) -> bool
-    ensures { result ≡ is_opening byte }
-{
-    byte == b'(' || byte == b'[' || byte == b'{'
 }
 
 // Whether the line begins with a space.

@@ -1,21 +1,19 @@
 //! The output for a line or a group of lines: the bytes before its longest debug text, and that text
 //! in the other mode.
 ghost use Rattle.std.specs.Prelude.{◌≡◌, ◌⊎◌, ◌<◌, ◌≤◌, ◌+◌, ◌-◌, ◌++◌, [], ◌∷◌, List, ℕ, true, IfSome, IsNone, OnOk, Some, drop, is_some, length, slice_index, take, zero};
-ghost use Rattle.ufmt.specs.Layout.{layout, setting};
 ghost use Rattle.ufmt.specs.Leaves.{is_opening, outside};
-ghost use Rattle.ufmt_grammar.specs.declared.class.Class.TheVariants.{Debug};
-ghost use Rattle.ufmt_scan.specs.Texts.{ConvertsToAs};
 ghost use Rattle.ufmt_lines.specs.Private.Blocks.{AreLeft, IsFirstFrom};
 ghost use Rattle.ufmt_lines.specs.Private.Brackets.{ArePlain, HasNoGap, NoneBefore, SameFrom, closing, ends_closed, gaps_between, may_begin_at, pending};
-ghost use Rattle.ufmt_lines.specs.Readable.{output_of, converted, converted_here, may_begin_after, other_mode};
+ghost use Rattle.ufmt_lines.specs.Readable.{output_of, converted, converted_here, may_begin_after};
 
 use super::blocks::OpenBlocks;
 use super::brackets::{Found, is_plain, last_opening, plain_start};
 use std::alloc::{AllocError, Global};
+use ufmt::class::Class;
 use ufmt::layout::Mode;
 use ufmt::uWrite;
-use ufmt_scan::convert::{write_debug_to_plain, write_debug_to_pretty};
-use ufmt_scan::is_debug_text;
+use ufmt_scan::convert::{other_mode, write_converted};
+use ufmt_scan::is_text;
 use ufmt_scan::scan::ScanError;
 
 /// The output for a group of lines, in memory. It is used again for the next group.
@@ -76,7 +74,7 @@ impl GroupOutput {
         ensures { OnOk result ((other : List ℕ) × (converted mode text.now ≡ Some other)
             × (output_bytes self.new ≡ output_bytes self.old ++ other)) }
     {
-        match write_to(mode, self, text) {
+        match write_converted(self, Class::Debug, mode, text) {
             Ok(()) => Ok(()),
             Err(ScanError::Sink(error)) => Err(error),
             Err(ScanError::NotText) => unreachable!(),
@@ -94,17 +92,6 @@ impl uWrite for GroupOutput {
 
     fn write_str(&mut self, s: &str) -> Result<(), AllocError> {
         self.bytes.extend_from_slice(s.as_bytes())
-    }
-}
-
-// Writes a text of the other mode in this one.
-fn write_to<W: uWrite>(mode: Mode, writer: &mut W, text: &[u8]) -> Result<(), ScanError<W::Error>>
-    ensures { ConvertsToAs W.seen Debug (layout (setting (other_mode mode) 0))
-        (layout (setting mode 0)) text.now writer.old result writer.new }
-{
-    match mode {
-        Mode::Pretty => write_debug_to_pretty(writer, text),
-        Mode::Plain => write_debug_to_plain(writer, text),
     }
 }
 
@@ -307,15 +294,5 @@ fn may_begin_after(byte: u8) -> bool
 fn is_convertible(mode: Mode, text: &[u8]) -> bool
     ensures { result ≡ is_some (converted mode text.now) }
 {
-    is_debug_text(other_mode(mode), text)
-}
-
-// The mode that texts are converted from.
-fn other_mode(mode: Mode) -> Mode
-    ensures { result ≡ other_mode mode }
-{
-    match mode {
-        Mode::Pretty => Mode::Plain,
-        Mode::Plain => Mode::Pretty,
-    }
+    is_text(Class::Debug, other_mode(mode), text)
 }
