@@ -5,6 +5,7 @@ use crate::requests::Request;
 use std::alloc::{AllocError, Global};
 use std::collections::{BTreeMap, BTreeSet};
 use ufmt::layout::Mode;
+use ufmt::pieces::{Display, InColumn};
 use ufmt::{Decimal, hex_dump_into, line_cut_into, line_into, pieces};
 use ufmt_doc::doc::{DebugName, Doc, same_text};
 use ufmt_doc::field_text::read_field;
@@ -128,6 +129,43 @@ impl Costs {
             self,
             "hex in a column",
             line_into(&mut buffer, &by_hex).ok()
+        );
+        let by_oct = pieces!(oct number with hex in column);
+        count!(
+            self,
+            "oct in a column",
+            line_into(&mut buffer, &by_oct).ok()
+        );
+        self.on_columns_in_columns(request, text)
+    }
+
+    // A column around a text that is as wide as the column.
+    fn on_columns_in_columns(
+        &mut self,
+        request: &Request<'_>,
+        text: &str,
+    ) -> Result<(), AllocError> {
+        let Request { column, .. } = *request;
+        let (width, texts, mut buffer) = (column.width, [text], [0u8; SMALL]);
+        let by_zeros = pieces!(zeros 7u64 to width in column);
+        count!(
+            self,
+            "zeros in a column",
+            line_into(&mut buffer, &by_zeros).ok()
+        );
+        let inner = InColumn {
+            mark: Display,
+            column,
+        };
+        let outer = InColumn {
+            mark: inner,
+            column,
+        };
+        let by_outer = pieces!(each texts by outer between "");
+        count!(
+            self,
+            "column in a column",
+            line_into(&mut buffer, &by_outer).ok()
         );
         Ok(())
     }

@@ -3,9 +3,10 @@ from typing import NamedTuple
 
 from lib.model.features import DEBUG_DOC, DOC, Features, indentation
 
-# Calls by the options of a request, on a buffer that is too small. They take no memory, and steps by the buffer, the
-# payload and the width that a column counts up to, whatever the options are.
-REQUESTED = ("hex", "bin", "oct", "zeros", "decimal", "column", "cut column", "hex in a column", "dump")
+# Calls by the options of a request, on a buffer that is too small. They take no memory, and steps by the buffer and the
+# payload, whatever the options are.
+REQUESTED = ("hex", "bin", "oct", "zeros", "decimal", "column", "cut column", "hex in a column", "oct in a column",
+             "zeros in a column", "column in a column", "dump")
 # Steps that a call takes today: to start; for a byte of a word and of a leaf in quotes; for an escape and a character
 # past ASCII; for a leaf without quotes or a name, a leaf in quotation marks, and one in apostrophes; for a block with
 # entries and one without; for another byte of the call's text, and of that in the other mode; for a byte of

@@ -131,9 +131,8 @@ def steps_fault(call, case, steps):
 
 
 def request_sample(request):
-    """A request, and what is known of its calls: the length of the buffer, of the payload, and of a column that may be
-    counted to its end."""
-    length = SMALL + len(request.payload) + (request.width if request.width < 2**32 else 0)
+    """A request, and what is known of its calls: the length of the buffer and of the payload."""
+    length = SMALL + len(request.payload)
     return Sample("the request %s" % (tuple(request),), request.data(), {"request": bounds.Case(Features(), length, 0)})
 
 

@@ -328,8 +328,8 @@ LONG, HUGE = 100, (2**63, 2**64 - 1)
 
 
 def huge():
-    """Requests with one huge option each, and with some that don't meet in a call. No column of a huge width is around a
-    number of a huge one: a column counts the characters of what it is around, up to its width, before it writes."""
+    """Requests with one huge option each, with some that don't meet in a call, and with columns of each width around
+    numbers that are padded to each."""
     some = Request(width=LONG, pad_length=LONG, per_row=LONG, payload=b"abc")
     for number in (LONG, *HUGE):
         for align in (0, 1, 2):
@@ -338,8 +338,9 @@ def huge():
         for pad in (32, 48, 127):
             for prefix in (0, 1):
                 yield some._replace(pad_length=number, pad=pad, prefix=prefix)
-        for width in (65, 1000):
-            yield some._replace(pad_length=number, width=width, align=2)
+        for width in (65, 1000, LONG, *HUGE):
+            for align in (0, 1, 2):
+                yield some._replace(pad_length=number, width=width, align=align)
         for group in (0, 1, LONG, *HUGE):
             for offset in (0, 0xFFFFFFFF, 2**32):
                 yield some._replace(per_row=number, group=group, offset=offset)
