@@ -8,6 +8,7 @@ use Rattle.ufmt.specs.Bytes.{line_feed}
 use Rattle.ufmt.specs.Decimal.{decimal}
 use Rattle.ufmt.specs.Document.{Document, documents, leaf, list_of}
 use Rattle.ufmt.specs.Layout.{plain_text, pretty_text}
+use Rattle.ufmt_grammar.specs.declared.class.Class.TheVariants.{Token}
 use Rattle.ufmt_doc.specs.Texts.{IsConverted, NoDocumentPrints}
 use Rattle.ufmt_io.specs.Whole.{AppendsPrefix}
 
@@ -33,8 +34,8 @@ without_line_feed input =
 -- the output for a command on an input
 abbrev pub IsOutput : Command → List ℕ → List ℕ → Type 0
 IsOutput Lengths input output = output ≡ plain_list (line_lengths input)
-IsOutput Pretty input output = IsConverted plain_text pretty_text (without_line_feed input) output
-IsOutput Plain input output = IsConverted pretty_text plain_text (without_line_feed input) output
+IsOutput Pretty input output = IsConverted Token plain_text pretty_text (without_line_feed input) output
+IsOutput Plain input output = IsConverted Token pretty_text plain_text (without_line_feed input) output
 
 -- the bytes that are written for a command on an input: its output and a line feed
 abbrev pub IsOutputLine : Command → List ℕ → List ℕ → Type 0
@@ -51,4 +52,4 @@ WritesOutputPrefix command input old new = IfSome input (λ bytes. (line : List 
 
 -- if the bytes of the input are known: without a final line feed they are no token document's text
 abbrev pub NoDocumentPrintsInput : (Document → List ℕ) → Option (List ℕ) → Type 0
-NoDocumentPrintsInput text_of input = IfSome input (λ bytes. NoDocumentPrints text_of (without_line_feed bytes))
+NoDocumentPrintsInput text_of input = IfSome input (λ bytes. NoDocumentPrints Token text_of (without_line_feed bytes))

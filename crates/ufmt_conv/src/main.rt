@@ -17,9 +17,7 @@ use ufmt_io::{USAGE_STATUS, arguments, report};
 /// Texts of values, and conversions of texts.
 pub mod convert {
     pub use ufmt::{plain_text, pretty_text};
-    pub use ufmt_doc::convert::{
-        to_plain, to_plain_into, to_pretty, to_pretty_into, write_to_plain, write_to_pretty,
-    };
+    pub use ufmt_doc::convert::{convert, convert_into, to_plain, to_pretty, write_converted};
 }
 
 fn main(rt: HostRuntime) -> ExitCode {

@@ -5,15 +5,14 @@ use crate::report::report;
 use crate::samples::{DEBUG, NODE_PLAIN, NODE_PRETTY, Sample};
 use std::alloc::{AllocError, Global};
 use std::io;
+use ufmt::class::Class;
+use ufmt::layout::Mode;
 use ufmt::{
     Formatter, HexOptions, pieces, plain_text, pretty_text, uWrite, uwriteln, write_debug,
     write_display, write_line, write_pretty,
 };
-use ufmt_doc::convert::{
-    debug_to_plain, debug_to_pretty, to_plain, to_pretty, write_debug_to_plain,
-    write_debug_to_pretty, write_to_plain, write_to_pretty,
-};
-use ufmt_doc::{Doc, ReadError, read_debug_plain, read_debug_pretty, read_plain, read_pretty};
+use ufmt_doc::convert::{convert, to_plain, to_pretty, write_converted};
+use ufmt_doc::{Doc, ReadError, read_debug, read_plain, read_pretty};
 
 // A conversion that returns a `String` reserves a kilobyte at once. No sample's text is longer.
 const OF_A_STRING: u64 = 1;
@@ -36,43 +35,36 @@ pub fn report_conversions(rt: &HostRuntime, sample: &Sample) -> io::Result<()> {
     report_pretty(rt, sample, ("to_pretty", OF_A_STRING), outcome)?;
     let outcome = to_plain(alloc, pretty);
     report_plain(rt, sample, ("to_plain", OF_A_STRING), outcome)?;
-    let outcome = pretty_in_a_text(alloc, plain);
-    let line = ("write_to_pretty, into a text,", sample.of_pretty);
-    report_pretty(rt, sample, line, outcome)?;
-    let outcome = plain_in_a_text(alloc, pretty);
-    let line = ("write_to_plain, into a text,", sample.of_plain);
-    report_plain(rt, sample, line, outcome)
+    report_written_texts(rt, sample, Class::Token)
 }
 
 /// Reads and converts the texts of a debug document.
 pub fn report_debug_texts(rt: &HostRuntime) -> io::Result<()> {
     let (alloc, sample) = (rt.alloc(), &DEBUG);
     let (plain, pretty) = (sample.plain.as_bytes(), sample.pretty.as_bytes());
-    let outcome = Outcome::of_value(read_debug_plain(alloc, plain), Some(sample.plain));
-    report(
-        rt,
-        "read_debug_plain",
-        sample.name,
-        sample.of_document,
-        outcome,
-    )?;
-    let outcome = Outcome::of_value(read_debug_pretty(alloc, pretty), Some(sample.plain));
-    report(
-        rt,
-        "read_debug_pretty",
-        sample.name,
-        sample.of_document,
-        outcome,
-    )?;
-    let outcome = debug_to_pretty(alloc, plain);
-    report_pretty(rt, sample, ("debug_to_pretty", OF_A_STRING), outcome)?;
-    let outcome = debug_to_plain(alloc, pretty);
-    report_plain(rt, sample, ("debug_to_plain", OF_A_STRING), outcome)?;
-    let outcome = debug_pretty_in_a_text(alloc, plain);
-    let line = ("write_debug_to_pretty, into a text,", sample.of_pretty);
+    for (call, mode, text) in [
+        ("read_debug, plain,", Mode::Plain, plain),
+        ("read_debug, pretty,", Mode::Pretty, pretty),
+    ] {
+        let outcome = Outcome::of_value(read_debug(alloc, mode, text), Some(sample.plain));
+        report(rt, call, sample.name, sample.of_document, outcome)?;
+    }
+    let outcome = convert(alloc, Class::Debug, Mode::Pretty, plain);
+    report_pretty(rt, sample, ("convert, to pretty,", OF_A_STRING), outcome)?;
+    let outcome = convert(alloc, Class::Debug, Mode::Plain, pretty);
+    report_plain(rt, sample, ("convert, to plain,", OF_A_STRING), outcome)?;
+    report_written_texts(rt, sample, Class::Debug)
+}
+
+// Converts each text of a sample of this class to the other, into a `String` as a writer.
+fn report_written_texts(rt: &HostRuntime, sample: &Sample, class: Class) -> io::Result<()> {
+    let alloc = rt.alloc();
+    let (plain, pretty) = (sample.plain.as_bytes(), sample.pretty.as_bytes());
+    let outcome = written(alloc, class, Mode::Pretty, plain);
+    let line = ("write_converted, to pretty,", sample.of_pretty);
     report_pretty(rt, sample, line, outcome)?;
-    let outcome = debug_plain_in_a_text(alloc, pretty);
-    let line = ("write_debug_to_plain, into a text,", sample.of_plain);
+    let outcome = written(alloc, class, Mode::Plain, pretty);
+    let line = ("write_converted, to plain,", sample.of_plain);
     report_plain(rt, sample, line, outcome)
 }
 
@@ -98,28 +90,10 @@ fn report_plain(
     report(rt, call, sample.name, allocations, outcome)
 }
 
-fn pretty_in_a_text(alloc: Global, plain: &[u8]) -> Result<String, ReadError> {
-    let mut text = String::new(alloc);
-    write_to_pretty(&mut text, plain)?;
-    Ok(text)
-}
-
-fn plain_in_a_text(alloc: Global, pretty: &[u8]) -> Result<String, ReadError> {
-    let mut text = String::new(alloc);
-    write_to_plain(&mut text, pretty)?;
-    Ok(text)
-}
-
-fn debug_pretty_in_a_text(alloc: Global, plain: &[u8]) -> Result<String, ReadError> {
-    let mut text = String::new(alloc);
-    write_debug_to_pretty(&mut text, plain)?;
-    Ok(text)
-}
-
-fn debug_plain_in_a_text(alloc: Global, pretty: &[u8]) -> Result<String, ReadError> {
-    let mut text = String::new(alloc);
-    write_debug_to_plain(&mut text, pretty)?;
-    Ok(text)
+fn written(alloc: Global, class: Class, to: Mode, text: &[u8]) -> Result<String, ReadError> {
+    let mut converted = String::new(alloc);
+    write_converted(&mut converted, class, to, text)?;
+    Ok(converted)
 }
 
 /// Makes the texts of a node and of three lengths.

@@ -8,12 +8,9 @@ use std::io;
 use ufmt::Cursor;
 use ufmt::class::Class;
 use ufmt::layout::Mode;
-use ufmt_doc::convert::{
-    debug_to_plain_into, debug_to_pretty_into, to_plain_into, to_pretty_into, write_to_plain,
-    write_to_pretty,
-};
+use ufmt_doc::convert::{convert_into, write_converted};
 use ufmt_doc::doc::{Doc, same_text};
-use ufmt_doc::{is_debug_text, is_text};
+use ufmt_doc::is_text;
 use ufmt_scan::leaf::{is_leaf, is_leaf_of, is_name_of, is_symbol, is_word};
 use ufmt_scan::quoted::split_escaped;
 
@@ -141,47 +138,42 @@ fn unquoted(alloc: Global, doc: &Doc) -> Result<String, AllocError> {
     }
 }
 
-/// Converts into buffers, and tests texts.
+/// Converts into buffers, and tests texts, of each class.
 pub fn report_conversions(rt: &HostRuntime) -> io::Result<()> {
-    let (plain, pretty) = (MANY_PLAIN.as_bytes(), MANY_PRETTY.as_bytes());
-    let mut buffer = [0; 1024];
-    report_free(rt, "convert::to_pretty_into", MANY, || {
-        to_pretty_into(&mut buffer, plain).is_ok() && buffer.starts_with(pretty)
-    })?;
-    report_free(rt, "convert::to_plain_into", MANY, || {
-        to_plain_into(&mut buffer, pretty).is_ok() && buffer.starts_with(plain)
-    })?;
-    report_free(rt, "convert::write_to_pretty", MANY, || {
-        let mut cursor = Cursor::new(&mut buffer);
-        write_to_pretty(&mut cursor, plain).is_ok() && cursor.written() == pretty
-    })?;
-    report_free(rt, "convert::write_to_plain", MANY, || {
-        let mut cursor = Cursor::new(&mut buffer);
-        write_to_plain(&mut cursor, pretty).is_ok() && cursor.written() == plain
-    })?;
-    report_free(rt, "is_text, plain,", MANY, || {
-        is_text(Mode::Plain, plain) && !is_text(Mode::Plain, pretty)
-    })?;
-    report_free(rt, "is_text, pretty,", MANY, || {
-        is_text(Mode::Pretty, pretty) && !is_text(Mode::Pretty, plain)
-    })
+    for (class, case, plain, pretty) in [
+        (Class::Token, MANY, MANY_PLAIN, MANY_PRETTY),
+        (Class::Debug, DEBUG.name, DEBUG.plain, DEBUG.pretty),
+    ] {
+        let (plain, pretty) = (plain.as_bytes(), pretty.as_bytes());
+        let to_pretty = ["convert_into, to pretty,", "write_converted, to pretty,"];
+        report_converted(rt, (to_pretty, case), (class, Mode::Pretty), plain, pretty)?;
+        let to_plain = ["convert_into, to plain,", "write_converted, to plain,"];
+        report_converted(rt, (to_plain, case), (class, Mode::Plain), pretty, plain)?;
+        report_free(rt, "is_text, plain,", case, || {
+            is_text(class, Mode::Plain, plain) && !is_text(class, Mode::Plain, pretty)
+        })?;
+        report_free(rt, "is_text, pretty,", case, || {
+            is_text(class, Mode::Pretty, pretty) && !is_text(class, Mode::Pretty, plain)
+        })?;
+    }
+    Ok(())
 }
 
-/// Converts debug texts into buffers, and tests them.
-pub fn report_debug_conversions(rt: &HostRuntime) -> io::Result<()> {
-    let (plain, pretty) = (DEBUG.plain.as_bytes(), DEBUG.pretty.as_bytes());
-    let mut buffer = [0; 80];
-    report_free(rt, "convert::debug_to_pretty_into", DEBUG.name, || {
-        debug_to_pretty_into(&mut buffer, plain).is_ok() && buffer.starts_with(pretty)
+// Converts a text of this class to this mode, into a buffer and to a writer.
+fn report_converted(
+    rt: &HostRuntime,
+    ([into, written], case): ([&str; 2], &str),
+    (class, to): (Class, Mode),
+    text: &[u8],
+    other: &[u8],
+) -> io::Result<()> {
+    let mut buffer = [0; 1024];
+    report_free(rt, into, case, || {
+        convert_into(&mut buffer, class, to, text).is_ok() && buffer.starts_with(other)
     })?;
-    report_free(rt, "convert::debug_to_plain_into", DEBUG.name, || {
-        debug_to_plain_into(&mut buffer, pretty).is_ok() && buffer.starts_with(plain)
-    })?;
-    report_free(rt, "is_debug_text, plain,", DEBUG.name, || {
-        is_debug_text(Mode::Plain, plain) && !is_debug_text(Mode::Plain, pretty)
-    })?;
-    report_free(rt, "is_debug_text, pretty,", DEBUG.name, || {
-        is_debug_text(Mode::Pretty, pretty) && !is_debug_text(Mode::Pretty, plain)
+    report_free(rt, written, case, || {
+        let mut cursor = Cursor::new(&mut buffer);
+        write_converted(&mut cursor, class, to, text).is_ok() && cursor.written() == other
     })
 }
 

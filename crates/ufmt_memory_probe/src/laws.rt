@@ -11,18 +11,12 @@ use ufmt_doc::laws::*;
 
 /// Calls the laws by which texts and a document come back.
 pub fn report_laws(rt: &HostRuntime) -> io::Result<()> {
-    let (plain, pretty) = (NODE_PLAIN.as_bytes(), NODE_PRETTY.as_bytes());
-    let outcome = Outcome::of_conversion(plain_again(rt.alloc(), plain), Some(NODE_PLAIN));
-    report(rt, "plain_again", "a node", 20, outcome)?;
-    let outcome = Outcome::of_conversion(pretty_again(rt.alloc(), pretty), Some(NODE_PRETTY));
-    report(rt, "pretty_again", "a node", 21, outcome)?;
-    let again = plain_by_way_of_pretty(rt.alloc(), plain);
-    let outcome = Outcome::of_conversion(again, Some(NODE_PLAIN));
-    report(rt, "plain_by_way_of_pretty", "a node", 2, outcome)?;
-    let again = pretty_by_way_of_plain(rt.alloc(), pretty);
-    let outcome = Outcome::of_conversion(again, Some(NODE_PRETTY));
-    report(rt, "pretty_by_way_of_plain", "a node", 2, outcome)?;
-    report_debug_laws(rt)?;
+    let node = ("a node", Class::Token);
+    report_text(rt, node, Mode::Plain, NODE_PLAIN, 20)?;
+    report_text(rt, node, Mode::Pretty, NODE_PRETTY, 21)?;
+    let debug = (DEBUG.name, Class::Debug);
+    report_text(rt, debug, Mode::Plain, DEBUG.plain, 13)?;
+    report_text(rt, debug, Mode::Pretty, DEBUG.pretty, 14)?;
     let (outcome, doc) = read_twice(rt.alloc(), Mode::Plain, LOOSE);
     report(rt, "read_plain", "a tuple, for its normal form", 3, outcome)?;
     match doc {
@@ -31,19 +25,28 @@ pub fn report_laws(rt: &HostRuntime) -> io::Result<()> {
     }
 }
 
-fn report_debug_laws(rt: &HostRuntime) -> io::Result<()> {
-    let (plain, pretty) = (DEBUG.plain.as_bytes(), DEBUG.pretty.as_bytes());
-    let again = text_again(rt.alloc(), Class::Debug, Mode::Plain, plain);
-    let outcome = Outcome::of_conversion(again, Some(DEBUG.plain));
-    report(rt, "text_again, debug,", DEBUG.name, 13, outcome)?;
-    let again = text_by_way_of_the_other(rt.alloc(), Class::Debug, Mode::Pretty, pretty);
-    let outcome = Outcome::of_conversion(again, Some(DEBUG.pretty));
+// Prints lines on a text that comes back. To read it and print it takes this many allocations.
+fn report_text(
+    rt: &HostRuntime,
+    (case, class): (&str, Class),
+    mode: Mode,
+    text: &str,
+    allocations: u64,
+) -> io::Result<()> {
+    let (again, back) = match mode {
+        Mode::Plain => ("text_again, plain,", "text_by_way_of_the_other, plain,"),
+        Mode::Pretty => ("text_again, pretty,", "text_by_way_of_the_other, pretty,"),
+    };
+    let outcome = text_again(rt.alloc(), class, mode, text.as_bytes());
+    let outcome = Outcome::of_conversion(outcome, Some(text));
+    report(rt, again, case, allocations, outcome)?;
+    let outcome = text_by_way_of_the_other(rt.alloc(), class, mode, text.as_bytes());
     report(
         rt,
-        "text_by_way_of_the_other, debug,",
-        DEBUG.name,
+        back,
+        case,
         2,
-        outcome,
+        Outcome::of_conversion(outcome, Some(text)),
     )
 }
 
@@ -55,11 +58,29 @@ fn report_normal(rt: &HostRuntime, mut doc: Doc) -> io::Result<()> {
     if !doc.is_token() {
         return Ok(());
     }
-    let outcome = Outcome::of_value(normal_by_way_of_plain(rt.alloc(), &doc), Some(LOOSE));
-    report(rt, "normal_by_way_of_plain", "a tuple", 4, outcome)?;
-    let outcome = Outcome::of_value(normal_by_way_of_pretty(rt.alloc(), &doc), Some(LOOSE));
-    report(rt, "normal_by_way_of_pretty", "a tuple", 6, outcome)?;
-    let normal = normal_by_way_of_text(rt.alloc(), Class::Debug, Mode::Plain, &doc);
-    let outcome = Outcome::of_value(normal, Some(LOOSE));
-    report(rt, "normal_by_way_of_text, debug,", "a tuple", 4, outcome)
+    for (call, class, mode, allocations) in [
+        (
+            "normal_by_way_of_text, plain,",
+            Class::Token,
+            Mode::Plain,
+            4,
+        ),
+        (
+            "normal_by_way_of_text, pretty,",
+            Class::Token,
+            Mode::Pretty,
+            6,
+        ),
+        (
+            "normal_by_way_of_text, debug,",
+            Class::Debug,
+            Mode::Plain,
+            4,
+        ),
+    ] {
+        let normal = normal_by_way_of_text(rt.alloc(), class, mode, &doc);
+        let outcome = Outcome::of_value(normal, Some(LOOSE));
+        report(rt, call, "a tuple", allocations, outcome)?;
+    }
+    Ok(())
 }

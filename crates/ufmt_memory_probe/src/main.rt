@@ -39,7 +39,6 @@ fn main(rt: HostRuntime) -> io::Result<()> {
     laws::report_laws(&rt)?;
     documents::report_documents(&rt)?;
     documents::report_conversions(&rt)?;
-    documents::report_debug_conversions(&rt)?;
     documents::report_leaves(&rt)?;
     values::report_values(&rt)?;
     values::report_pieces(&rt)?;

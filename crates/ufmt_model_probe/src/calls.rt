@@ -5,11 +5,12 @@ use std::convert::Infallible;
 use ufmt::class::Class;
 use ufmt::layout::Mode;
 use ufmt::{Full, uDebug, uWrite};
+use ufmt_doc::convert::{convert, convert_into, other_mode, to_plain, to_pretty, write_converted};
 use ufmt_doc::doc::{DebugName, StructName, Tree};
-use ufmt_doc::plain_reader::{ReadError, read_debug_plain, read_plain};
-use ufmt_doc::pretty_reader::{read_debug_pretty, read_pretty};
+use ufmt_doc::plain_reader::{ReadError, read_plain};
+use ufmt_doc::pretty_reader::read_pretty;
 use ufmt_doc::scan::{ScanError, Sink, scan};
-use ufmt_doc::{convert, is_debug_text, is_text, laws, valid_up_to};
+use ufmt_doc::{is_text, laws, read_debug, valid_up_to};
 use ufmt_parse::{ParseError, parse, parse_pretty, uParse};
 
 /// The name of a struct in the documents of one class.
@@ -31,10 +32,7 @@ impl Name for String {
 /// Of debug documents.
 impl Name for DebugName {
     fn read(alloc: Global, mode: Mode, text: &[u8]) -> Result<Tree<DebugName>, ReadError> {
-        match mode {
-            Mode::Plain => read_debug_plain(alloc, text),
-            Mode::Pretty => read_debug_pretty(alloc, text),
-        }
+        read_debug(alloc, mode, text)
     }
 }
 
@@ -72,23 +70,16 @@ impl<'a> Calls<'a> {
 impl Calls<'_> {
     /// Returns the calls of the other mode on a converted text.
     pub fn on_converted<'b>(&self, text: &'b str) -> Calls<'b> {
-        let mode = match self.mode {
-            Mode::Plain => Mode::Pretty,
-            Mode::Pretty => Mode::Plain,
-        };
         Calls {
             alloc: self.alloc,
             class: self.class,
-            mode,
+            mode: other_mode(self.mode),
             text: text.as_bytes(),
         }
     }
 
     pub fn is_text(&self) -> bool {
-        match self.class {
-            Class::Token => is_text(self.mode, self.text),
-            Class::Debug => is_debug_text(self.mode, self.text),
-        }
+        is_text(self.class, self.mode, self.text)
     }
 
     pub fn valid_up_to(&self) -> usize {
@@ -115,47 +106,35 @@ impl Calls<'_> {
         Ok(doc)
     }
 
+    /// Converts the text to the other mode.
     pub fn convert(&self) -> Result<String, ReadError> {
-        match (self.class, self.mode) {
-            (Class::Token, Mode::Plain) => convert::to_pretty(self.alloc, self.text),
-            (Class::Token, Mode::Pretty) => convert::to_plain(self.alloc, self.text),
-            (Class::Debug, Mode::Plain) => convert::debug_to_pretty(self.alloc, self.text),
-            (Class::Debug, Mode::Pretty) => convert::debug_to_plain(self.alloc, self.text),
+        convert(self.alloc, self.class, other_mode(self.mode), self.text)
+    }
+
+    /// Does the same with a token text, by the call for its mode.
+    pub fn convert_token(&self) -> Result<String, ReadError> {
+        match self.mode {
+            Mode::Plain => to_pretty(self.alloc, self.text),
+            Mode::Pretty => to_plain(self.alloc, self.text),
         }
     }
 
     pub fn convert_to<W: uWrite>(&self, writer: &mut W) -> Result<(), ScanError<W::Error>> {
-        match (self.class, self.mode) {
-            (Class::Token, Mode::Plain) => convert::write_to_pretty(writer, self.text),
-            (Class::Token, Mode::Pretty) => convert::write_to_plain(writer, self.text),
-            (Class::Debug, Mode::Plain) => convert::write_debug_to_pretty(writer, self.text),
-            (Class::Debug, Mode::Pretty) => convert::write_debug_to_plain(writer, self.text),
-        }
+        write_converted(writer, self.class, other_mode(self.mode), self.text)
     }
 
     pub fn convert_into(&self, buffer: &mut [u8]) -> Result<usize, ScanError<Full>> {
-        match (self.class, self.mode) {
-            (Class::Token, Mode::Plain) => convert::to_pretty_into(buffer, self.text),
-            (Class::Token, Mode::Pretty) => convert::to_plain_into(buffer, self.text),
-            (Class::Debug, Mode::Plain) => convert::debug_to_pretty_into(buffer, self.text),
-            (Class::Debug, Mode::Pretty) => convert::debug_to_plain_into(buffer, self.text),
-        }
+        convert_into(buffer, self.class, other_mode(self.mode), self.text)
     }
 
-    /// Reads a token text, and prints it again.
+    /// Reads the text, and prints it again.
     pub fn again(&self) -> Result<String, ReadError> {
-        match self.mode {
-            Mode::Plain => laws::plain_again(self.alloc, self.text),
-            Mode::Pretty => laws::pretty_again(self.alloc, self.text),
-        }
+        laws::text_again(self.alloc, self.class, self.mode, self.text)
     }
 
-    /// Converts a token text to the other mode and back.
+    /// Converts the text to the other mode and back.
     pub fn by_way_of_the_other(&self) -> Result<String, ReadError> {
-        match self.mode {
-            Mode::Plain => laws::plain_by_way_of_pretty(self.alloc, self.text),
-            Mode::Pretty => laws::pretty_by_way_of_plain(self.alloc, self.text),
-        }
+        laws::text_by_way_of_the_other(self.alloc, self.class, self.mode, self.text)
     }
 
     /// Parses a text of either class.

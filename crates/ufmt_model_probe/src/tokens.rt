@@ -5,8 +5,9 @@ use crate::fields;
 use crate::half::has_parts;
 use crate::parts::Parts;
 use std::alloc::{AllocError, Global};
+use ufmt::layout::Mode;
 use ufmt_doc::doc::{Doc, same_text};
-use ufmt_doc::laws::{normal_by_way_of_plain, normal_by_way_of_pretty};
+use ufmt_doc::laws::normal_by_way_of_text;
 use ufmt_doc::plain_reader::ReadError;
 
 /// Returns what the calls say of a token text, as a message. It is empty if the text is none, and the
@@ -40,6 +41,8 @@ fn is_text_in_a_list(calls: Calls<'_>, doc: &Doc) -> Result<bool, Fault> {
 fn comes_again(calls: Calls<'_>) -> Result<(), Fault> {
     let again = calls.again()?;
     agree(again.as_bytes() == calls.text, "read and printed again")?;
+    let is_same = calls.convert_token() == calls.convert();
+    agree(is_same, "conversion by the call for a mode")?;
     let back = calls.by_way_of_the_other()?;
     agree(back.as_bytes() == calls.text, "there and back")
 }
@@ -47,10 +50,10 @@ fn comes_again(calls: Calls<'_>) -> Result<(), Fault> {
 // A document that isn't in normal form is printed and read again. The result is the normal form.
 fn comes_as_normal(calls: Calls<'_>, doc: &Doc) -> Result<(), Fault> {
     let parts = Parts::of(calls.alloc, doc)?;
-    let loose = calls.read_loose()?;
-    let by_plain = normal_by_way_of_plain(calls.alloc, &loose)?;
+    let loose = calls.read_loose::<String>()?;
+    let by_plain = normal_by_way_of_text(calls.alloc, calls.class, Mode::Plain, &loose)?;
     has_parts(calls, &by_plain, &parts, "normal form by way of plain")?;
-    let by_pretty = normal_by_way_of_pretty(calls.alloc, &loose)?;
+    let by_pretty = normal_by_way_of_text(calls.alloc, calls.class, Mode::Pretty, &loose)?;
     has_parts(calls, &by_pretty, &parts, "normal form by way of pretty")
 }
 
@@ -72,6 +75,11 @@ fn of_no_text(calls: Calls<'_>) -> Result<(), Fault> {
         "no text, read again",
     )?;
     agree(fields::is_refused(calls), "read_field of no text")?;
+    let converted = calls.convert_token();
+    agree(
+        converted == Err(ReadError::NotText),
+        "conversion of no text by the call for a mode",
+    )?;
     let by_way = calls.by_way_of_the_other();
     agree(by_way == Err(ReadError::NotText), "no text, there and back")
 }

@@ -12,7 +12,7 @@ WITHOUT_MEMORY = (
     ("print a line", "line"), ("print a column", "column"), ("dump bytes", "dump"),
     ("parse a number", "parse_number"), ("parse a struct, plain", "parse_struct"),
     ("parse a struct, pretty", "parse_struct_pretty", "parse_two", "parse_three"), ("scan a text: is_text", "is_text"),
-    ("to_pretty_into", "to_pretty_into"), ("to_plain_into", "to_plain_into"),
+    ("convert_into, to pretty", "convert_into_pretty"), ("convert_into, to plain", "convert_into_plain"),
 )
 ON_TEXTS = (
     ("first_difference", "first_difference"), ("compare_pretty", "compare_pretty"),

@@ -1,6 +1,7 @@
 //! The output for a command on an input.
 ghost use Rattle.std.specs.Prelude.{◌≡◌, ◌≢◌, string_bytes, IfErr, IfOk, IsErrOf};
 ghost use Rattle.ufmt.specs.Layout.{plain_text, pretty_text};
+ghost use Rattle.ufmt_grammar.specs.declared.class.Class.TheVariants.{Token};
 ghost use Rattle.ufmt_conv.specs.Output.{IsOutputLine, line_lengths, without_line_feed};
 ghost use Rattle.ufmt_doc.specs.Texts.{NoDocumentPrints};
 
@@ -14,9 +15,9 @@ use std::alloc::{AllocError, Global};
 pub(super) fn output_line(alloc: Global, command: Command, input: &[u8]) -> Result<String, Fault>
     ensures ok { IfOk result (λ line. IsOutputLine command input.now (string_bytes line)) }
     ensures not_plain { IsErrOf result Fault.NotPlain → (command ≡ Command.Pretty)
-        × NoDocumentPrints plain_text (without_line_feed input.now) }
+        × NoDocumentPrints Token plain_text (without_line_feed input.now) }
     ensures not_pretty { IsErrOf result Fault.NotPretty → (command ≡ Command.Plain)
-        × NoDocumentPrints pretty_text (without_line_feed input.now) }
+        × NoDocumentPrints Token pretty_text (without_line_feed input.now) }
     ensures no_device { IfErr result (λ fault.
         (fault ≢ Fault.CannotRead) × (fault ≢ Fault.CannotWrite)) }
 {
