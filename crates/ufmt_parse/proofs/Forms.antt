@@ -7,7 +7,7 @@ use Rattle.ufmt_core.specs.declared.layout.Mode.{Mode}
 use Rattle.ufmt_core.specs.declared.layout.Setting.{Setting}
 use Rattle.ufmt_core.specs.declared.layout.Mode.TheVariants.{Plain, Pretty}
 use Rattle.ufmt.specs.Token.{IsDebugDocument, normal}
-use Rattle.ufmt_parse.specs.Taking.{setting_in}
+use Rattle.ufmt_parser.specs.Taking.{setting_in}
 
 -- equal texts in this mode are of equal normal forms
 abbrev pub Determines : Setting → Type 0

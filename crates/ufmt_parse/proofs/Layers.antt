@@ -5,10 +5,10 @@ use Rattle.std.proofs.lemmas.List.Elements.{All-from_recursion, recursion_from_A
 use Rattle.ufmt.specs.Document.{Document, documents, list_of}
 use Rattle.ufmt.specs.Layout.{layout}
 use Rattle.ufmt_core.specs.declared.layout.Mode.{Mode}
-use Rattle.ufmt_parse.specs.declared.parser.Fault.{Fault}
-use Rattle.ufmt_parse.specs.Blocks.{outcome_map}
-use Rattle.ufmt_parse.specs.Taking.{Fits, Takes, setting_in}
-use Rattle.ufmt_parse.proofs.Views.{taken_as, viewed}
+use Rattle.ufmt_parser.specs.declared.parser.Fault.{Fault}
+use Rattle.ufmt_parser.specs.Blocks.{outcome_map}
+use Rattle.ufmt_parser.specs.Taking.{Fits, Takes, setting_in}
+use Rattle.ufmt_parser.proofs.Views.{taken_as, viewed}
 
 pub each_of : {X : Type 0} (P : X → Type 0) (xs : List X) → All P xs → AllByRecursion P xs
 each_of P xs all = recursion_from_All P xs all

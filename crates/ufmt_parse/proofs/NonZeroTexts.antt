@@ -7,9 +7,9 @@ use Rattle.ufmt.specs.Layout.{layout}
 use Rattle.ufmt_core.specs.Decimal.{decimal}
 use Rattle.ufmt_core.specs.declared.layout.Mode.{Mode}
 use Rattle.ufmt_core.specs.declared.layout.Setting.{Setting}
-use Rattle.ufmt_parse.specs.declared.parser.Parser.{Parser}
-use Rattle.ufmt_parse.specs.Next.{IsNotNext, NextLeaves}
-use Rattle.ufmt_parse.specs.Taking.{IsTaken, open_blocks, rest, setting_in}
+use Rattle.ufmt_parser.specs.declared.parser.Parser.{Parser}
+use Rattle.ufmt_parser.specs.Next.{IsNotNext, NextLeaves}
+use Rattle.ufmt_parser.specs.Taking.{IsTaken, open_blocks, rest, setting_in}
 use Rattle.ufmt_parse.proofs.NumberKeys.{same_decimal}
 
 pub natural_texts : (n m : ℕ) → 0 < n → m ≡ 0 → decimal (pos n) ≢ decimal (pos m)

@@ -9,10 +9,10 @@ use Rattle.ufmt_grammar.specs.declared.class.Class.TheVariants.{Debug}
 use Rattle.ufmt.specs.Leaves.{MayFollow}
 use Rattle.ufmt.specs.Token.{normal, normal_all}
 use Rattle.ufmt_grammar.proofs.OneWay.{plain_reads_one_way, pretty_reads_one_way}
-use Rattle.ufmt_parse.specs.declared.parser.Fault.{Fault}
-use Rattle.ufmt_parse.specs.declared.parser.Fault.TheVariants.{NotText, OutOfMemory}
-use Rattle.ufmt_parse.specs.Taking.{Fits, Takes, setting_in}
-use Rattle.ufmt_parse.proofs.ListedValues.{ListFits}
+use Rattle.ufmt_parser.specs.declared.parser.Fault.{Fault}
+use Rattle.ufmt_parser.specs.declared.parser.Fault.TheVariants.{NotText, OutOfMemory}
+use Rattle.ufmt_parser.specs.Taking.{Fits, Takes, setting_in}
+use Rattle.ufmt_parse_entries.proofs.ListedValues.{ListFits}
 
 -- in so many blocks, one text is that of one normal form
 pub one_way : (mode : Mode) (blocks : ℕ) (d e : Document) (u v : List ℕ) → Fits blocks d → Fits blocks e → MayFollow Debug u → MayFollow Debug v

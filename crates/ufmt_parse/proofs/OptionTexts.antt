@@ -9,12 +9,12 @@ use Rattle.ufmt.specs.Leaves.{MayFollow}
 use Rattle.ufmt_grammar.specs.declared.class.Class.TheVariants.{Debug}
 use Rattle.ufmt_core.specs.declared.layout.Mode.{Mode}
 use Rattle.ufmt_core.specs.declared.layout.Setting.{Setting}
-use Rattle.ufmt_parse.specs.declared.parser.Fault.{Fault}
-use Rattle.ufmt_parse.specs.declared.parser.Fault.TheVariants.{NotText, OutOfMemory}
-use Rattle.ufmt_parse.specs.declared.parser.Parser.{Parser}
-use Rattle.ufmt_parse.specs.Next.{IsNotNext, NextLeaves}
-use Rattle.ufmt_parse.specs.Taking.{DoesNotBegin, Fits, IsTaken, Takes, open_blocks, rest, setting_in}
-use Rattle.ufmt_parse.proofs.Next.{never_next, what_is_left}
+use Rattle.ufmt_parser.specs.declared.parser.Fault.{Fault}
+use Rattle.ufmt_parser.specs.declared.parser.Fault.TheVariants.{NotText, OutOfMemory}
+use Rattle.ufmt_parser.specs.declared.parser.Parser.{Parser}
+use Rattle.ufmt_parser.specs.Next.{IsNotNext, NextLeaves}
+use Rattle.ufmt_parser.specs.Taking.{DoesNotBegin, Fits, IsTaken, Takes, open_blocks, rest, setting_in}
+use Rattle.ufmt_parser.proofs.Next.{never_next, what_is_left}
 
 -- what comes after `None` is all that can be left after an option
 pub after_none : {T : Type 0} (document : T → Document) (s : Setting) {old new : List ℕ} → old ≡ codes "None" ++ new → (w : Option T) (u : List ℕ)

@@ -11,13 +11,13 @@ use Rattle.ufmt_core.specs.Document.{Document, Pairs, documents, map_of, pairs_o
 use Rattle.ufmt_core.specs.Layout.{layout}
 use Rattle.ufmt_core.specs.declared.layout.Mode.{Mode}
 use Rattle.ufmt.specs.Token.{normal, normal_all, normal_pairs}
-use Rattle.ufmt_parse.specs.declared.parser.Fault.{Fault}
-use Rattle.ufmt_parse.specs.declared.parser.Fault.TheVariants.{NotText}
-use Rattle.ufmt_parse.specs.Blocks.{IsEntry, entry_documents}
-use Rattle.ufmt_parse.specs.Taking.{Fits, Takes, setting_in}
-use Rattle.ufmt_parse.proofs.Ascending.{ascend_too}
-use Rattle.ufmt_parse.proofs.ListedPairs.{MapFits}
-use Rattle.ufmt_parse.proofs.ListedValues.{SetFits}
+use Rattle.ufmt_parser.specs.declared.parser.Fault.{Fault}
+use Rattle.ufmt_parser.specs.declared.parser.Fault.TheVariants.{NotText}
+use Rattle.ufmt_parser.specs.Blocks.{IsEntry, entry_documents}
+use Rattle.ufmt_parser.specs.Taking.{Fits, Takes, setting_in}
+use Rattle.ufmt_parse_entries.proofs.AscendingKeys.{ascend_too}
+use Rattle.ufmt_parse_entries.proofs.ListedPairs.{MapFits}
+use Rattle.ufmt_parse_entries.proofs.ListedValues.{SetFits}
 use Rattle.ufmt_parse.proofs.OneWay.{none_refused, unwanted_refused, wanted_taken}
 
 module _ {T : Type 0} (document : T → Document) where

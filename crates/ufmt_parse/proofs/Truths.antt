@@ -2,8 +2,8 @@
 use Rattle.std.proofs.Common.{refl, ℕ, ◌≤◌, codes, Bool, true, false, List, arith}
 use Rattle.std.specs.Prelude.{if◌then◌else◌}
 use Rattle.ufmt.specs.Document.{leaf}
-use Rattle.ufmt_parse.specs.Taking.{Fits}
-use Rattle.ufmt_parse.proofs.Words.{word_is_leaf}
+use Rattle.ufmt_parser.specs.Taking.{Fits}
+use Rattle.ufmt_parser.proofs.Words.{word_is_leaf}
 
 abbrev pub truth_text : Bool → List ℕ
 truth_text v = if v then codes "true" else codes "false"

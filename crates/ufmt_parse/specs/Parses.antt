@@ -2,11 +2,11 @@
 use Rattle.std.specs.Prelude.{◌≡◌, ◌≤◌, length, Result, IfOk, IfErr}
 use Rattle.ufmt.specs.Document.{Document}
 use Rattle.ufmt_core.specs.declared.layout.Mode.{Mode}
-use Rattle.ufmt_parse.specs.declared.parser.Parser.{Parser}
-use Rattle.ufmt_parse.specs.declared.parser.Fault.{Fault}
-use Rattle.ufmt_parse.specs.declared.parser.Fault.TheVariants.{NotText}
-use Rattle.ufmt_parse.specs.Next.{IsNotNext, NextLeaves}
-use Rattle.ufmt_parse.specs.Taking.{IsTaken, open_blocks, rest}
+use Rattle.ufmt_parser.specs.declared.parser.Parser.{Parser}
+use Rattle.ufmt_parser.specs.declared.parser.Fault.{Fault}
+use Rattle.ufmt_parser.specs.declared.parser.Fault.TheVariants.{NotText}
+use Rattle.ufmt_parser.specs.Next.{IsNotNext, NextLeaves}
+use Rattle.ufmt_parser.specs.Taking.{IsTaken, open_blocks, rest}
 
 -- the clauses of `parse_from`, and what holds of the value
 pub record Parses {M T : Type 0} (mode : Mode) (is_value : T → Type 0) (document : T → Document) (old : Parser M) (outcome : Result T Fault) (new : Parser M) : Type 0 where

@@ -2,16 +2,16 @@
 ghost use Rattle.std.specs.Borrow.{MutBor};
 ghost use Rattle.std.specs.List.{AllByRecursion};
 ghost use Rattle.std.specs.Prelude.{◌≡◌, Result};
-ghost use Rattle.ufmt_parse.specs.declared.parser.Fault.{Fault};
-ghost use Rattle.ufmt_parse.specs.declared.parser.Parser.{Parser};
+ghost use Rattle.ufmt_parser.specs.declared.parser.Fault.{Fault};
+ghost use Rattle.ufmt_parser.specs.declared.parser.Parser.{Parser};
 ghost use Rattle.ufmt_parse.specs.Parses.{Parses};
-ghost use Rattle.ufmt_parse.specs.Taking.{open_blocks};
+ghost use Rattle.ufmt_parser.specs.Taking.{open_blocks};
 
-use crate::from_front::ParsesBy;
-use crate::mode::ParseMode;
-use crate::parser::{Fault, Parser};
 use std::alloc::Allocator;
 use ufmt::uDebug;
+use ufmt_parser::mode::ParseMode;
+use ufmt_parser::parser::{Fault, Parser};
+use ufmt_parser::parses_by::ParsesBy;
 
 /// For a type that holds itself: `is_value` and `prove_value` of `uParse`, in a trait without `parse_from`.
 /// The check takes a recursion through this one.
@@ -42,7 +42,7 @@ impl<T: ProvesValue, A: Allocator> ProvesValue for Vec<T, A> {
 #[derive(Drop)]
 pub struct By<F>(pub F);
 
-#[tactic(auto, unfolding(crate::specs::Next::IsNotNext, crate::specs::Next::NextLeaves))]
+#[tactic(auto, unfolding(ufmt_parser::specs::Next::IsNotNext, ufmt_parser::specs::Next::NextLeaves))]
 impl<
     A,
     M: ParseMode,
@@ -59,18 +59,5 @@ impl<
     #[inline(always)]
     fn parse_by(&self, alloc: A, parser: &mut Parser<'_, M>) -> Result<T, Fault> {
         (self.0)(alloc, parser)
-    }
-}
-
-impl<A, M: ParseMode, T: uDebug, P: ParsesBy<A, M, T>> ParsesBy<A, M, T> for &P {
-    ghost is_value = { P.is_value };
-
-    ghost holds_no_memory = { P.holds_no_memory };
-
-    ghost ready = { λ by blocks. P.ready by.now blocks };
-
-    #[inline(always)]
-    fn parse_by(&self, alloc: A, parser: &mut Parser<'_, M>) -> Result<T, Fault> {
-        (**self).parse_by(alloc, parser)
     }
 }

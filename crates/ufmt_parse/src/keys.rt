@@ -3,7 +3,7 @@ ghost use Rattle.std.specs.Prelude.{◌≡◌};
 ghost use Rattle.std.specs.declared.cmp.Ordering.TheVariants.{Equal};
 ghost use Rattle.ufmt.specs.Token.{normal};
 
-use crate::from_front::uParse;
+use crate::uparse::uParse;
 use std::alloc::Allocator;
 use std::borrow::{Cow, CowSlice};
 use std::boxed::{BoxedSlice, BoxedStr};

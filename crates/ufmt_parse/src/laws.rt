@@ -1,7 +1,7 @@
 //! Laws, each the contract of a function: which types hold no memory.
 mod of_tuples;
 
-use crate::from_front::uParse;
+use crate::uparse::uParse;
 pub use of_tuples::tuples_hold_no_memory;
 use std::borrow::Cow;
 use std::cmp::{Ordering, Reverse};

@@ -6,8 +6,8 @@ ghost use Rattle.ufmt.specs.Token.{IsDebugDocument, normal};
 ghost use Rattle.ufmt_parse.specs.RoundTrip.{printed};
 
 use crate::error::ParseError;
-use crate::from_front::uParse;
-use crate::text::parse;
+use crate::uparse::uParse;
+use crate::whole_text::parse;
 use std::alloc::Global;
 use ufmt::{debug_into, plain_text};
 

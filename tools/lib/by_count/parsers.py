@@ -1,39 +1,15 @@
-"""The files of ufmt_parse with one call for each number of fields, and their answers."""
+"""The files of ufmt_parse_fields and ufmt_parse with one call for each number of fields, and their answers."""
+from lib.by_count.words import MOST, NUMBERS, TYPES, WRITTEN, counted, in_a_row, letters, parts_in_a_row, tuple_of, wrapped
 
-MOST = 12
-# The calls whose fields are each parsed by a parser: a type that holds itself needs them.
-MOST_BY = 6
-TYPES = "ABCDEFGHIJKL"
-PARSERS = "PQRSTU"
-NUMBERS = "one two three four five six seven eight nine ten eleven twelve".split()
-WRITTEN = "tools/write-by-count writes this file: change it there."
+# The types of the parsers of fields.
+PARSERS = "PQRSTUVWXYZN"
+# The calls are in two files, with these numbers of fields.
+HALVES = {"few": range(1, 7), "many": range(7, MOST + 1)}
 
 
-def letters(count):
-    """The fields' names: the types' letters."""
-    return list(TYPES[:count].lower())
-
-
-def in_a_row(items):
-    """A list in a contract."""
-    return " ∷ ".join(list(items) + ["[]"])
-
-
-def wrapped(parts, indent):
-    """A clause of these parts, in lines of at most 100 characters, which `rt fmt` leaves as they are."""
-    lines, line = [], " " * indent + parts[0]
-    for part in parts[1:]:
-        if len(line) + 1 + len(part) <= 100:
-            line += " " + part
-        else:
-            lines.append(line)
-            line = " " * (indent + 4) + part
-    return "\n".join(lines + [line])
-
-
-def tuple_of(items):
-    """A tuple of these."""
-    return "(" + ", ".join(items) + ("," if len(items) == 1 else "") + ")"
+def half_of(count):
+    """The file with the call for that many fields."""
+    return next(half for half, counts in HALVES.items() if count in counts)
 
 
 def chain_of(items):
@@ -75,7 +51,7 @@ class Block:
 
     def row_of(self, name, fields, ending):
         """The parts of the document with this name and these fields, and what ends them."""
-        items = [f"{fields[0]}"] + [f"∷ {field}" for field in fields[1:]] + ["∷ []" + ending]
+        items = parts_in_a_row(fields, ending)
         return [f"({self.document} {name} ({self.row}", "(" + items[0]] + items[1:]
 
     def asked(self, count):
@@ -105,7 +81,8 @@ class Block:
         list_type, same = ("Fields", "SameFields") if self.name == "struct" else ("Documents", "SameDocuments")
         values = [self.field(f"{letter}.now", letter.upper(), f"{letter}_value") for letter in fields]
         binders = ["(other : List ℕ)", f"(others : {list_type})"] + [f"({letter}_value : {letter.upper()})" for letter in fields]
-        row = [f"({self.row}", "(" + values[0]] + [f"∷ {value}" for value in values[1:]] + ["∷ []))"]
+        items = parts_in_a_row(values, "))")
+        row = [f"({self.row}", "(" + items[0]] + items[1:]
         premises = ["→ bytes_eq other name.now ≡ true", f"→ {same} others"] + row
         premises += [f"→ {holder}.is_value {letter}_value" for holder, letter in zip(holders, fields)]
         return wrapped(["ensures alike { IfErr result (λ fault. fault ≡ Fault.NotText →"] + binders + premises
@@ -132,35 +109,51 @@ class Block:
             "    ensures shrinks { length (rest parser.new) ≤ length (rest parser.old) }",
         ])
 
+    def called(self, count):
+        """The name of the call."""
+        return f"parse_{self.name}_{count}"
+
+    def inputs(self):
+        """What each call takes before its fields."""
+        return ["alloc: Alloc", "parser: &mut Parser<'_, M>", "name: &str"]
+
     def call(self, count):
-        """The call for that many fields."""
-        fields = letters(count)
+        """The call for that many fields, each parsed by its type: that with a parser for each."""
         types = ", ".join(f"{letter}: uParse<Alloc>" for letter in TYPES[:count])
-        inputs = ["alloc: Alloc", "parser: &mut Parser<'_, M>", "name: &str"]
-        if self.name == "struct":
-            inputs += [f"{letter}: &str" for letter in fields]
-        counted = "one field" if count == 1 else f"{count} fields"
+        inputs, arguments = self.inputs(), ["alloc", "parser", "name"]
+        for letter in letters(count):
+            inputs += [f"{letter}: &str"] if self.name == "struct" else []
+            arguments += [letter, "&ByType"] if self.name == "struct" else ["&ByType"]
         return f"""
-/// Takes a {self.about} with {counted}, as `parse_from` does a value.
+/// Takes a {self.about} {counted(count)}, as `parse_from` does a value.
 #[inline(always)]
 pub fn parse_{self.name}_{count}<Alloc: Copy, {types}, M: ParseMode>({", ".join(inputs)}) -> Result<{self.result(count)}, Fault>
     requires {{ {self.asked(count)} }}
 {self.clauses(count, TYPES)}
 {{
-{self.body(count, "Plain")}
+    parse_{self.name}_{count}_by({", ".join(arguments)})
 }}
 """
 
-    def body(self, count, row):
-        """What calls the parser of a row with these parsers."""
-        names = f"&[{', '.join(letters(count))}], " if self.name == "struct" else ""
-        call = f"parse_{self.name}_row(alloc, parser, name, {names}&{row})"
-        if count > 1:
-            return f"    {call}"
-        return f"""    match {call} {{
-        Err(fault) => Err(fault),
-        Ok((a_value,)) => Ok(a_value),
-    }}"""
+    def answers(self, count):
+        """The answers of the call for that many fields: the clauses of the one that it calls."""
+        call = f"parse_{self.name}_{count}_by"
+        ready = "tt" if count == 1 else "(" + ", ".join(["tt"] * count) + ")"
+        text = f"""-- {WRITTEN}
+use Rattle.ufmt_parse.proofs.by_count.{self.name}s.{half_of(count)}.parse_{self.name}_{count}.Goals as goal
+
+pub {call}-requires-clause-named : goal.{call}-requires-clause-named
+{call}-requires-clause-named g c = c.requires
+
+pub {call}-requires-clause-ready : goal.{call}-requires-clause-ready
+{call}-requires-clause-ready g c = λ few. {ready}
+"""
+        for clause in ["taken", "only", "none", "alike", "memory", "blocks", "shrinks"]:
+            text += f"""
+pub returns-clause-{clause} : goal.returns-clause-{clause}
+returns-clause-{clause} g c = c.{call}.ensures.{clause}
+"""
+        return text
 
     def ghost_uses(self):
         """The words of the contracts, but for those of std's prelude."""
@@ -170,24 +163,71 @@ pub fn parse_{self.name}_{count}<Alloc: Copy, {types}, M: ParseMode>({", ".join(
         return f"""ghost use Rattle.std.specs.Str.{{bytes_eq}};
 ghost use Rattle.ufmt.specs.Alike.{{{same}}};
 ghost use Rattle.ufmt.specs.Document.{{{list_type}, {self.row}, {self.document}}};
-ghost use Rattle.ufmt_parse.specs.Naming.{{{naming}}};
-ghost use Rattle.ufmt_parse.specs.Next.{{IsNotNext, NextLeaves}};
-ghost use Rattle.ufmt_parse.specs.Taking.{{IsTaken, open_blocks, rest}};"""
+ghost use Rattle.ufmt_parser.specs.Naming.{{{naming}}};
+ghost use Rattle.ufmt_parser.specs.Next.{{IsNotNext, NextLeaves}};
+ghost use Rattle.ufmt_parser.specs.Taking.{{IsTaken, open_blocks, rest}};"""
 
-    def file(self):
-        """The file with a call for each number of fields."""
-        calls = "".join(self.call(count) for count in range(1, MOST + 1))
-        return f"""//! {self.about.capitalize()}s by their number of fields. {WRITTEN}
+    def file(self, counts):
+        """The file with the calls for these numbers of fields."""
+        calls = "".join(self.call(count) for count in counts)
+        called = ", ".join(f"parse_{self.name}_{count}_by" for count in counts)
+        return f"""//! {self.about.capitalize()}s of {counts[0]} to {counts[-1]} fields. {WRITTEN}
 ghost use Rattle.std.specs.Prelude.{{◌≤◌, length, [], ◌∷◌, ◌≡◌, List, ℕ, true, IfOk, IfErr}};
 {self.ghost_uses()}
 
-use crate::from_front::{{Plain, uParse}};
-use crate::mode::ParseMode;
-use crate::parser::{{Fault, Parser}};
-use crate::rows::parse_{self.name}_row;
+use crate::uparse::{{ByType, uParse}};
+use ufmt_parse_fields::{{{called}}};
+use ufmt_parser::mode::ParseMode;
+use ufmt_parser::parser::{{Fault, Parser}};
 {calls}"""
 
-    def answers(self, count, suffix=""):
+
+class BlockBy(Block):
+    """A kind of block each of whose fields is parsed by a parser that is passed."""
+
+    def called(self, count):
+        """The name of the call."""
+        return f"parse_{self.name}_{count}_by"
+
+    def call(self, count):
+        """The call for that many fields."""
+        fields = letters(count)
+        types = ", ".join(f"{letter}: uDebug + Drop" for letter in TYPES[:count])
+        by = ", ".join(f"{parser}: ParsesBy<Alloc, M, {letter}>" for parser, letter in zip(PARSERS, TYPES[:count]))
+        inputs = self.inputs()
+        for letter, parser in zip(fields, PARSERS):
+            inputs += [f"{letter}: &str"] if self.name == "struct" else []
+            inputs += [f"{letter}_by: &{parser}"]
+        parts = ["v"] if count == 1 else [f"v.{place}" for place in range(count)]
+        holds = " × ".join(f"{parser}.is_value {part}" for parser, part in zip(PARSERS, parts))
+        ready = [f"{parser}.ready {letter}_by.now (suc (open_blocks parser.old))" for parser, letter in zip(PARSERS, fields)]
+        # A call that each `Option` makes: inlined everywhere it costs the compiler minutes.
+        attribute = "" if self.name == "tuple" and count == 1 else "\n#[inline(always)]"
+        about = "its field by a parser" if count == 1 else f"each of its {count} fields by a parser"
+        return f"""
+/// Takes a {self.about}, {about}.{attribute}
+pub fn parse_{self.name}_{count}_by<Alloc: Copy, M: ParseMode, {types}, {by}>({", ".join(inputs)}) -> Result<{self.result(count)}, Fault>
+    requires named {{ {self.asked(count)} }}
+{wrapped(["requires ready { open_blocks parser.old < 255 →", ready[0]] + [f"× {item}" for item in ready[1:]] + ["}"], 4)}
+    ensures values {{ IfOk result (λ v. {holds}) }}
+{self.clauses(count, PARSERS)}
+{{
+{self.body(count, tuple_of([f"{letter}_by" for letter in fields]))}
+}}
+"""
+
+    def body(self, count, row):
+        """What calls the parser of a row with these parsers."""
+        names = f"&[{', '.join(letters(count))}], " if self.name == "struct" else ""
+        call = f"parse_{self.name}(alloc, parser, name, {names}&{row})"
+        if count > 1:
+            return f"    {call}"
+        return f"""    match {call} {{
+        Err(fault) => Err(fault),
+        Ok((a_value,)) => Ok(a_value),
+    }}"""
+
+    def answers(self, count):
         """The answers of the call for that many fields: what the call of the row says, of a row of values."""
         fields = letters(count)
         values = [f"{letter}_value" for letter in fields]
@@ -195,8 +235,8 @@ use crate::rows::parse_{self.name}_row;
         alike = " ".join(["other others"] + values + ["named same"] + [f"is_{letter}" for letter in fields])
         row = "(" + ", ".join(values) + ")" if count > 1 else "(record { 0 = a_value })"
         are = chain_of([f"is_{letter}" for letter in fields])
-        where = f"Rattle.ufmt_parse.proofs.{self.name}s{suffix}.parse_{self.name}_{count}{suffix}.Goals"
-        return f"-- {WRITTEN}\n" + (self.of_one if count == 1 else self.of_many)(count, where, binders, alike, row, are, suffix)
+        where = f"Rattle.ufmt_parse_fields.proofs.{self.name}s_by.{half_of(count)}.parse_{self.name}_{count}_by.Goals"
+        return f"-- {WRITTEN}\n" + (self.of_one if count == 1 else self.of_many)(count, where, binders, alike, row, are)
 
     def renamed(self, count):
         """What takes a clause on the names that were passed to one on names that are the same."""
@@ -206,28 +246,27 @@ use crate::rows::parse_{self.name}_row;
         documents = " ∷ ".join([f"g.{letter}.uDebug.document {letter.lower()}_value" for letter in TYPES[:count]] + ["[]"])
         return f"_ _ _ _ ({in_a_row(self.other_names(count)[1:])}) ({passed}) ({documents}) same"
 
-    def named(self, count, suffix):
+    def named(self, count):
         """The answer that the names of a struct may be a debug document's: each is UTF-8, as a `&str` is."""
         if self.name == "tuple":
             return ""
         passed = ["name"] + letters(count)
-        asked = "c.requires.named" if suffix else "c.requires"
         names = in_a_row(f"c.args.{name}.now" for name in passed)
         return f"""
-pub parse_struct_row-requires-clause-named : goal.parse_struct_row-requires-clause-named
-parse_struct_row-requires-clause-named g c = names_are ({names}) {chain_of([f"c.utf8.{name}" for name in passed])} {asked}
+pub parse_struct-requires-clause-named : goal.parse_struct-requires-clause-named
+parse_struct-requires-clause-named g c = names_are ({names}) {chain_of([f"c.utf8.{name}" for name in passed])} c.requires.named
 """
 
-    def of_one(self, count, where, binders, alike, row, are, suffix):
+    def of_one(self, count, where, binders, alike, row, are):
         """The answers of the call for one field, which takes the value out of the row."""
         name, renamed = self.name, self.renamed(count)
         struct = self.name == "struct"
         uses = "use Rattle.std.proofs.Common.{[], ◌∷◌}\n" if struct else ""
-        words = "use Rattle.ufmt_parse.proofs.Words.{names_are}\n" if struct else ""
-        return f"""{uses}use Rattle.ufmt_parse.proofs.Alike.{{no_{name}_alike}}
-use Rattle.ufmt_parse.proofs.Naming.{{no_{name}, {name}_leaves}}
+        words = "use Rattle.ufmt_parser.proofs.Words.{names_are}\n" if struct else ""
+        return f"""{uses}use Rattle.ufmt_parse_fields.proofs.Alike.{{no_{name}_alike}}
+use Rattle.ufmt_parser.proofs.Naming.{{no_{name}, {name}_leaves}}
 {words}use {where} as goal
-{self.named(count, suffix)}
+{self.named(count)}
 pub returns-in-Err-clause-none : goal.returns-in-Err-clause-none
 returns-in-Err-clause-none g c = λ is_not {binders}. no_{name} {renamed} (c.in-Err.ensures.none is_not {row} {are})
 
@@ -238,25 +277,25 @@ pub returns-in-Ok-clause-only : goal.returns-in-Ok-clause-only
 returns-in-Ok-clause-only g c = λ {binders}. {name}_leaves {renamed} _ (c.in-Ok.ensures.only {row} {are})
 """
 
-    def of_many(self, count, where, binders, alike, row, are, suffix):
+    def of_many(self, count, where, binders, alike, row, are):
         """The answers of the call for several fields, whose result is the row's."""
-        ensures = f"c.parse_{self.name}_row.ensures"
-        result = f"c.parse_{self.name}_row.result"
-        asked = self.named(count, suffix) + """
-pub parse_struct_row-requires-clause-counted : goal.parse_struct_row-requires-clause-counted
-parse_struct_row-requires-clause-counted g c = λ v. refl
+        ensures = f"c.parse_{self.name}.ensures"
+        result = f"c.parse_{self.name}.result"
+        asked = self.named(count) + """
+pub parse_struct-requires-clause-counted : goal.parse_struct-requires-clause-counted
+parse_struct-requires-clause-counted g c = λ v. refl
 """ if self.name == "struct" else ""
-        words = "use Rattle.ufmt_parse.proofs.Words.{names_are}\n" if self.name == "struct" else ""
+        words = "use Rattle.ufmt_parser.proofs.Words.{names_are}\n" if self.name == "struct" else ""
         uses = "use Rattle.std.proofs.Common.{[], ◌∷◌, refl}\n" if self.name == "struct" else ""
         none = chain_of([f"none.{place}" for place in range(count)])
         values = f"""
 pub returns-clause-values : goal.returns-clause-values
 returns-clause-values g c = IfOk-weaker {result} _ _ (λ v are. ({", ".join(parts_of("are", count))})) {ensures}.values
-""" if suffix else ""
+"""
         name, renamed = self.name, self.renamed(count)
         return f"""{uses}use Rattle.std.proofs.lemmas.Result.{{IfErr-weaker, IfOk-weaker}}
-use Rattle.ufmt_parse.proofs.Alike.{{no_{name}_alike}}
-use Rattle.ufmt_parse.proofs.Naming.{{no_{name}, {name}_leaves}}
+use Rattle.ufmt_parse_fields.proofs.Alike.{{no_{name}_alike}}
+use Rattle.ufmt_parser.proofs.Naming.{{no_{name}, {name}_leaves}}
 {words}use {where} as goal
 {asked}{values}
 pub returns-clause-taken : goal.returns-clause-taken
@@ -281,86 +320,44 @@ pub returns-clause-shrinks : goal.returns-clause-shrinks
 returns-clause-shrinks g c = {ensures}.shrinks
 """
 
-
-class BlockBy(Block):
-    """A kind of block each of whose fields is parsed by a parser that is passed."""
-
-    def call(self, count):
-        """The call for that many fields."""
-        fields = letters(count)
-        types = ", ".join(f"{letter}: uDebug + Drop" for letter in TYPES[:count])
-        by = ", ".join(f"{parser}: ParsesBy<Alloc, M, {letter}>" for parser, letter in zip(PARSERS, TYPES[:count]))
-        inputs = ["alloc: Alloc", "parser: &mut Parser<'_, M>", "name: &str"]
-        for letter, parser in zip(fields, PARSERS):
-            inputs += [f"{letter}: &str"] if self.name == "struct" else []
-            inputs += [f"{letter}_by: &{parser}"]
-        parts = ["v"] if count == 1 else [f"v.{place}" for place in range(count)]
-        holds = " × ".join(f"{parser}.is_value {part}" for parser, part in zip(PARSERS, parts))
-        ready = [f"{parser}.ready {letter}_by.now (suc (open_blocks parser.old))" for parser, letter in zip(PARSERS, fields)]
-        counted = "its field by a parser" if count == 1 else f"each of its {count} fields by a parser"
-        return f"""
-/// Takes a {self.about}, {counted}.
-pub fn parse_{self.name}_{count}_by<Alloc: Copy, M: ParseMode, {types}, {by}>({", ".join(inputs)}) -> Result<{self.result(count)}, Fault>
-    requires named {{ {self.asked(count)} }}
-{wrapped(["requires ready { open_blocks parser.old < 255 →", ready[0]] + [f"× {item}" for item in ready[1:]] + ["}"], 4)}
-    ensures values {{ IfOk result (λ v. {holds}) }}
-{self.clauses(count, PARSERS)}
-{{
-{self.body(count, tuple_of([f"{letter}_by" for letter in fields]))}
-}}
-"""
-
-    def file(self):
-        """The file with a call for each number of fields."""
-        calls = "".join(self.call(count) for count in range(1, MOST_BY + 1))
-        return f"""//! {self.about.capitalize()}s whose fields are each parsed by a parser. {WRITTEN}
+    def file(self, counts):
+        """The file with the calls for these numbers of fields."""
+        calls = "".join(self.call(count) for count in counts)
+        return f"""//! {self.about.capitalize()}s of {counts[0]} to {counts[-1]} fields, each parsed by a parser. {WRITTEN}
 ghost use Rattle.std.specs.Prelude.{{◌≤◌, ◌<◌, length, [], ◌∷◌, ◌≡◌, List, ℕ, suc, true, IfOk, IfErr}};
 {self.ghost_uses()}
 
-use crate::from_front::ParsesBy;
-use crate::mode::ParseMode;
-use crate::parser::{{Fault, Parser}};
-use crate::rows::parse_{self.name}_row;
+use crate::fields::parse_{self.name};
 use ufmt::uDebug;
+use ufmt_parser::mode::ParseMode;
+use ufmt_parser::parser::{{Fault, Parser}};
+use ufmt_parser::parses_by::ParsesBy;
 {calls}"""
 
 
-def plain_row(count):
-    """A row of values, each parsed by its type's `parse_from`."""
-    bounds = [f"{letter}: uParse<Alloc>" for letter in TYPES[:count]]
-    return row_impl(count, [], bounds, "Plain", TYPES[:count], "_ _. ⊤", "self, self")
-
-
-def row_by(count):
-    """A row of values, each parsed by a parser."""
-    parsers = PARSERS[:count]
-    bounds = [f"{letter}: uDebug + Drop" for letter in TYPES[:count]]
-    bounds += [f"{parser}: ParsesBy<Alloc, M, {letter}>" for parser, letter in zip(parsers, TYPES)]
-    ready = "row blocks. " + " × ".join(f"{parser}.ready row.{place}.now blocks" for place, parser in enumerate(parsers))
-    others = "Plain" if count == 1 else tuple_of([f"self.{place}" for place in range(1, count)])
-    return row_impl(count, ["'p"], bounds, tuple_of([f"&'p {parser}" for parser in parsers]), parsers, ready, f"self.0, &{others}")
-
-
-def row_impl(count, lifetimes, bounds, parsers, holders, ready, parts):
-    """A row of that many values: the first, and a row of those after it."""
-    types, fields = list(TYPES[:count]), letters(count)
-    generics = ", ".join(lifetimes + ["Alloc: Copy", "M: ParseMode"] + bounds)
-    are = pairs_of([f"{holder}.is_value v.{place}" for place, holder in enumerate(holders)])
-    memory = pairs_of([f"{holder}.holds_no_memory" for holder in holders])
+def parsers_impl(count):
+    """A tuple of that many parsers: the first, and a tuple of those after it."""
+    types, fields, parsers = list(TYPES[:count]), letters(count), PARSERS[:count]
+    generics = ["'p", "Alloc: Copy", "M: ParseMode"] + [f"{letter}: uDebug + Drop" for letter in types]
+    generics += [f"{parser}: ParsesBy<Alloc, M, {letter}>" for parser, letter in zip(parsers, types)]
+    are = pairs_of([f"{parser}.is_value v.{place}" for place, parser in enumerate(parsers)])
+    memory = pairs_of([f"{parser}.holds_no_memory" for parser in parsers])
     documents = in_a_row([f"{letter}.document v.{place}" for place, letter in enumerate(types)])
+    ready = " × ".join(f"{parser}.ready fields.{place}.now blocks" for place, parser in enumerate(parsers))
+    others = tuple_of([f"self.{place}" for place in range(1, count)])
     return f"""
-impl<{generics}> RowParsers<Alloc, M, {tuple_of(types)}> for {parsers} {{
-    ghost are_values = {{ λ v. {are} }};
+impl<{", ".join(generics)}> FieldParsers<Alloc, M, {tuple_of(types)}> for {tuple_of([f"&'p {parser}" for parser in parsers])} {{
+    ghost is_value = {{ λ v. {are} }};
 
-    ghost hold_no_memory = {{ {memory} }};
+    ghost holds_no_memory = {{ {memory} }};
 
     ghost documents = {{ λ v. {documents} }};
 
-    ghost ready = {{ λ {ready} }};
+    ghost ready = {{ λ fields blocks. {ready} }};
 
     #[inline(always)]
-    fn parse_row(&self, alloc: Alloc, parser: &mut Parser<'_, M>, kind: Kind, count: Count, names: &[&str]) -> Result<{tuple_of(types)}, Fault> {{
-        match parse_first(alloc, parser, kind, count, names, {parts}) {{
+    fn parse_rest(&self, alloc: Alloc, parser: &mut Parser<'_, M>, kind: Kind, count: Count, names: &[&str]) -> Result<{tuple_of(types)}, Fault> {{
+        match parse_first(alloc, parser, kind, count, names, self.0, &{others}) {{
             Err(fault) => Err(fault),
             Ok(({fields[0]}, {tuple_of(fields[1:])})) => Ok({tuple_of(fields)}),
         }}
@@ -369,15 +366,15 @@ impl<{generics}> RowParsers<Alloc, M, {tuple_of(types)}> for {parsers} {{
 """
 
 
-def row_answers(count, name):
-    """The answers of a row: what is taken as the first value and the others is taken as the row."""
+def parsers_answers(count):
+    """The answers of a tuple of parsers: what is taken as the first value and the others is taken as the tuple."""
     others = [f"v.{place}" for place in range(1, count)]
     view = "v.0, " + ("tt", "record { 0 = v.1 }")[count - 1] if count < 3 else f"v.0, ({', '.join(others)})"
     types = " × ".join(f"g.row.{letter}.Denot" for letter in TYPES[:count])
     takes = "viewed" + (f" {{A = {types}}}" if count > 1 else "") + f" (λ v. ({view}))"
     return f"""-- {WRITTEN}
-use Rattle.ufmt_parse.proofs.Views.{{viewed}}
-use Rattle.ufmt_parse.proofs.{name}.parse_row.Goals as goal
+use Rattle.ufmt_parser.proofs.Views.{{viewed}}
+use Rattle.ufmt_parse_fields.proofs.tuples_of_parsers.{parsers_name(count)}.parse_rest.Goals as goal
 
 pub returns-in-Err-clause-takes : goal.returns-in-Err-clause-takes
 returns-in-Err-clause-takes g c = {takes} c.in-Err.ensures.takes
@@ -390,26 +387,23 @@ returns-in-Err-clause-memory g c = c.in-Err.ensures.memory
 """
 
 
-def rows(about, uses, made, most):
-    """The file with a row for each number of values."""
-    return f"""//! {about} {WRITTEN}
+def parsers_name(count):
+    """The folder of the impl's proofs."""
+    return f"Tuple{count}{'Ref' * count}FieldParsersTuple{count}"
+
+
+def tuples_of_parsers():
+    """The file with an impl for each number of parsers."""
+    return f"""//! Tuples of one to {MOST} parsers, each of a field. {WRITTEN}
 ghost use Rattle.std.specs.Prelude.{{[], ◌∷◌, ⊤}};
 
-use crate::from_front::{{{uses}}};
-use crate::mode::ParseMode;
-use crate::parser::{{Fault, Parser}};
-use crate::rows::{{RowParsers, parse_first}};
+use crate::fields::{{FieldParsers, parse_first}};
 use ufmt::layout::{{Count, Kind}};
-""" + "".join(made(count) for count in range(1, most + 1))
-
-
-def plain_rows():
-    return rows(f"Rows of one to {MOST} values, each parsed by its type.", "Plain, uParse", plain_row, MOST)
-
-
-def rows_by():
-    """The rows by parsers, whose types only print."""
-    return rows(f"Rows of one to {MOST_BY} values, each by a parser.", "ParsesBy, Plain", row_by, MOST_BY).replace("\nimpl", "use ufmt::uDebug;\n\nimpl", 1)
+use ufmt::uDebug;
+use ufmt_parser::mode::ParseMode;
+use ufmt_parser::parser::{{Fault, Parser}};
+use ufmt_parser::parses_by::ParsesBy;
+""" + "".join(parsers_impl(count) for count in range(1, MOST + 1))
 
 
 def tuple_impl(count):
@@ -450,7 +444,7 @@ def tuple_answers(count):
     return f"""-- {WRITTEN}
 use Rattle.std.proofs.Common.{{[], refl}}
 use Rattle.std.proofs.lemmas.Result.{{IfErr-weaker, IfOk-weaker}}
-use Rattle.ufmt_parse.proofs.tuple_impls.Tuple{count}uParse.parse_from.Goals as goal
+use Rattle.ufmt_parse.proofs.by_count.tuple_impls.Tuple{count}uParse.parse_from.Goals as goal
 
 pub returns-clause-taken : goal.returns-clause-taken
 returns-clause-taken g c = {call}.ensures.taken
@@ -471,16 +465,16 @@ def tuple_impls():
     calls = ", ".join(f"parse_tuple_{count}" for count in range(1, MOST + 1))
     impls = "".join(tuple_impl(count) for count in range(1, MOST + 1))
     return f"""//! Tuples of one to {MOST}. {WRITTEN}
-use crate::from_front::uParse;
-use crate::mode::ParseMode;
-use crate::parser::{{Fault, Parser}};
-use crate::tuples::{{{calls}}};
+use crate::by_count::tuples::{{{calls}}};
+use crate::uparse::uParse;
+use ufmt_parser::mode::ParseMode;
+use ufmt_parser::parser::{{Fault, Parser}};
 {impls}"""
 
 
 def tuple_law_clause(count):
     """That a tuple holds no memory if its fields hold none."""
-    number = NUMBERS[count - 1]
+    number = NUMBERS[count]
     parts = [f"ensures of_{number} {{"] + [f"{letter}.holds_no_memory →" for letter in TYPES[:count]]
     return wrapped(parts + [f"⟦<{tuple_of(TYPES[:count])} as uParse<Alloc>>⟧.holds_no_memory }}"], 4)
 
@@ -490,7 +484,7 @@ def tuple_law():
     types = ", ".join(f"{letter}: uParse<Alloc>" for letter in TYPES)
     clauses = "\n".join(tuple_law_clause(count) for count in range(1, MOST + 1))
     return f"""//! The law on tuples of one to {MOST}. {WRITTEN}
-use crate::from_front::uParse;
+use crate::uparse::uParse;
 
 /// A tuple holds no memory if its fields hold none.
 pub fn tuples_hold_no_memory<Alloc: Copy, {types}>()
@@ -506,22 +500,23 @@ TUPLES_BY = BlockBy("tuple", "tuple_of", "documents", "tuple")
 
 
 def files():
-    """Each file by its path in the crate, with what makes its text."""
-    found = {"src/tuple_impls.rt": tuple_impls, "src/plain_rows.rt": plain_rows, "src/rows_by.rt": rows_by, "src/laws/of_tuples.rt": tuple_law}
+    """Each file by its path in the repository, with what makes its text."""
+    types, parsers = "crates/ufmt_parse", "crates/ufmt_parse_fields"
+    found = {
+        f"{types}/src/by_count/tuple_impls.rt": tuple_impls,
+        f"{types}/src/laws/of_tuples.rt": tuple_law,
+        f"{parsers}/src/tuples_of_parsers.rt": tuples_of_parsers,
+    }
+    folders = {STRUCTS: f"{types}/src/by_count/structs", TUPLES: f"{types}/src/by_count/tuples",
+               STRUCTS_BY: f"{parsers}/src/structs_by", TUPLES_BY: f"{parsers}/src/tuples_by"}
+    for block, folder in folders.items():
+        for half, counts in HALVES.items():
+            found[f"{folder}/{half}.rt"] = lambda block=block, counts=counts: block.file(counts)
     for count in range(1, MOST + 1):
-        name = f"plain_rows/PlainRowParsersTuple{count}"
-        found[f"proofs/{name}/parse_row/Answers.antt"] = lambda count=count, name=name: row_answers(count, name.replace("/", "."))
-    for count in range(2, MOST + 1):
-        found[f"proofs/tuple_impls/Tuple{count}uParse/parse_from/Answers.antt"] = lambda count=count: tuple_answers(count)
-    for count in range(1, MOST_BY + 1):
-        name = f"rows_by/Tuple{count}{'Ref' * count}RowParsersTuple{count}"
-        found[f"proofs/{name}/parse_row/Answers.antt"] = lambda count=count, name=name: row_answers(count, name.replace("/", "."))
-    for block in (STRUCTS, TUPLES):
-        found[f"src/{block.name}s.rt"] = block.file
-        for count in range(1, MOST + 1):
-            found[f"proofs/{block.name}s/parse_{block.name}_{count}/Answers.antt"] = lambda block=block, count=count: block.answers(count)
-    for block in (STRUCTS_BY, TUPLES_BY):
-        found[f"src/{block.name}s_by.rt"] = block.file
-        for count in range(1, MOST_BY + 1):
-            found[f"proofs/{block.name}s_by/parse_{block.name}_{count}_by/Answers.antt"] = lambda block=block, count=count: block.answers(count, "_by")
+        found[f"{parsers}/proofs/tuples_of_parsers/{parsers_name(count)}/parse_rest/Answers.antt"] = lambda count=count: parsers_answers(count)
+        if count > 1:
+            found[f"{types}/proofs/by_count/tuple_impls/Tuple{count}uParse/parse_from/Answers.antt"] = lambda count=count: tuple_answers(count)
+        for block, folder in folders.items():
+            answers = f"{folder.replace('/src/', '/proofs/')}/{half_of(count)}/{block.called(count)}/Answers.antt"
+            found[answers] = lambda block=block, count=count: block.answers(count)
     return found

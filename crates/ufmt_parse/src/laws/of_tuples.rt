@@ -1,5 +1,5 @@
 //! The law on tuples of one to 12. tools/write-by-count writes this file: change it there.
-use crate::from_front::uParse;
+use crate::uparse::uParse;
 
 /// A tuple holds no memory if its fields hold none.
 pub fn tuples_hold_no_memory<

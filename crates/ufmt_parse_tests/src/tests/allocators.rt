@@ -4,7 +4,7 @@ use std::alloc::Global;
 use std::collections::{BTreeMap, BTreeSet, LinkedList, VecDeque};
 use std::rc::{Rc, RcSlice, RcStr};
 use ufmt::{debug_into, uDebug};
-use ufmt_parse::{Boxed, Each, Fault, Parser, ParsesBy, Plain, PlainText, parse, uParse};
+use ufmt_parse::{Boxed, ByType, Each, Fault, Parser, ParsesBy, PlainText, parse, uParse};
 
 type Lent<'a> = &'a Global;
 
@@ -48,7 +48,7 @@ fn values_over_a_lent_allocator_are_parsed(rt: HostRuntime) {
 // A list of boxes, each over this allocator.
 fn boxes<'a>(alloc: Lent<'a>, text: &str) -> Result<Vec<Box<u8, Lent<'a>>, Lent<'a>>, Fault> {
     let mut parser: Parser<'_, PlainText> = Parser::new(text.as_bytes());
-    Each(Boxed(Plain)).parse_by(alloc, &mut parser)
+    Each(Boxed(ByType)).parse_by(alloc, &mut parser)
 }
 
 #[test]

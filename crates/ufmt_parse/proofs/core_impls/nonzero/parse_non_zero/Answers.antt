@@ -1,0 +1,21 @@
+use Rattle.ufmt_parse.proofs.NonZeroTexts.{zero_refused}
+use Rattle.ufmt_parse.proofs.core_impls.nonzero.parse_non_zero.Goals as goal
+
+pub returns-in-Err-clause-none : goal.returns-in-Err-clause-none
+returns-in-Err-clause-none g c = λ is v holds.
+    let number = c.prove_number.ensures v holds in
+    rw number.1 (c.in-Err.ensures.none is (g.T.NonZero.get v) number.0)
+
+pub returns-in-None-clause-none : goal.returns-in-None-clause-none
+returns-in-None-clause-none g c = λ is v holds.
+    let number = c.prove_number.ensures v holds in
+    zero_refused g.M.ParseMode.mode g.T.uDebug.document c.in-Ok.number g.N.uDebug.document c.args.parser.now c.parse_from.new.parser c.in-Ok.ensures.taken
+    v (λ s. c.in-None.ensures s v holds) (rw number.1 (c.in-Ok.ensures.only (g.T.NonZero.get v) number.0))
+
+pub returns-in-Some-clause-taken : goal.returns-in-Some-clause-taken
+returns-in-Some-clause-taken g c = rw c.in-Some.ensures c.in-Ok.ensures.taken
+
+pub returns-in-Some-clause-only : goal.returns-in-Some-clause-only
+returns-in-Some-clause-only g c = λ v holds.
+    let number = c.prove_number.ensures v holds in
+    rw number.1 (c.in-Ok.ensures.only (g.T.NonZero.get v) number.0)

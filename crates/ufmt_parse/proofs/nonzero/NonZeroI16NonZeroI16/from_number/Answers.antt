@@ -1,9 +1,0 @@
-use Rattle.std.proofs.Common.{to_z-of_z}
-use Rattle.std.specs.Int.NonZero.{non_zero_i16_get}
-use Rattle.ufmt_parse.specs.Values.{is_non_zero_i16}
-use Rattle.ufmt_parse.proofs.NonZeroTexts.{integer_found}
-use Rattle.ufmt_parse.proofs.nonzero.NonZeroI16NonZeroI16.from_number.Goals as goal
-
-pub returns : goal.returns
-returns g c = integer_found is_non_zero_i16 non_zero_i16_get (λ v is. is.0) c.args.number c.new.result
-    (rw (to_z-of_z c.ranges.number) at c.new.ensures)

@@ -1,9 +1,0 @@
-use Rattle.std.proofs.Common.{to_z-of_z}
-use Rattle.std.specs.Int.NonZero.{non_zero_isize_get}
-use Rattle.ufmt_parse.specs.Values.{is_non_zero_isize}
-use Rattle.ufmt_parse.proofs.NonZeroTexts.{integer_found}
-use Rattle.ufmt_parse.proofs.nonzero.NonZeroIsizeNonZeroIsize.from_number.Goals as goal
-
-pub returns : goal.returns
-returns g c = integer_found is_non_zero_isize non_zero_isize_get (λ v is. is.0) c.args.number c.new.result
-    (rw (to_z-of_z c.ranges.number) at c.new.ensures)

@@ -1,5 +1,0 @@
-use Rattle.ufmt_parse.proofs.Integers.{splits_minus}
-use Rattle.ufmt_parse.proofs.numbers.split_sign.Goals as goal
-
-pub returns-then-is_signed : goal.returns-then-is_signed
-returns-then-is_signed g c = rw (c.split_minus.ensures.minus, c.split_minus.ensures.after) (splits_minus g.T.Integer.int c.args.input.now)

@@ -1,0 +1,10 @@
+use Rattle.ufmt.specs.Layout.{setting}
+use Rattle.ufmt_grammar.specs.declared.class.Class.TheVariants.{Debug}
+use Rattle.ufmt_core.specs.declared.layout.Mode.TheVariants.{Pretty}
+use Rattle.ufmt_grammar.proofs.OneWay.{pretty_text_determines}
+use Rattle.ufmt_parse.proofs.Forms.{form_of}
+use Rattle.ufmt_parse.proofs.whole_text.parse_pretty.Goals as goal
+
+pub returns-clause-form : goal.returns-clause-form
+returns-clause-form g c =
+    form_of g.T.uDebug.document (setting Pretty 0) (pretty_text_determines Debug) c.args.text.now c.parse_whole.result c.parse_whole.ensures.ok c.parse_whole.ensures.debug

@@ -1,0 +1,82 @@
+//! Options and results.
+ghost use Rattle.std.specs.Prelude.{◌<◌, IfSome, Ok, Err, suc};
+
+use crate::by_count::tuples::parse_tuple_1;
+use crate::uparse::{ByType, uParse};
+use ufmt::uDebug;
+use ufmt_parse_fields::parse_tuple_1_by;
+use ufmt_parser::mode::ParseMode;
+use ufmt_parser::parser::{Fault, Parser};
+use ufmt_parser::parses_by::ParsesBy;
+
+#[tactic(auto, unfolding(ufmt_parser::specs::Next::IsNotNext, ufmt_parser::specs::Next::NextLeaves))]
+impl<A: Copy, T: uParse<A>> uParse<A> for Option<T> {
+    ghost is_value = { λ o. IfSome o T.is_value };
+
+    ghost holds_no_memory = { T.holds_no_memory };
+
+    fn prove_value(&self) {
+        match self {
+            None => {}
+            Some(value) => value.prove_value(),
+        }
+    }
+
+    #[inline(always)]
+    fn parse_from<M: ParseMode>(alloc: A, parser: &mut Parser<'_, M>) -> Result<Option<T>, Fault> {
+        Optional(ByType).parse_by(alloc, parser)
+    }
+}
+
+/// Parses an `Option` of what its parser parses.
+#[derive(Drop)]
+pub struct Optional<P>(pub P);
+
+impl<A: Copy, M: ParseMode, T: uDebug + Drop, P: ParsesBy<A, M, T>> ParsesBy<A, M, Option<T>>
+    for Optional<P> {
+    ghost is_value = { λ o. IfSome o P.is_value };
+
+    ghost holds_no_memory = { P.holds_no_memory };
+
+    ghost ready = { λ optional blocks. blocks < 255 → P.ready optional.0 (suc blocks) };
+
+    #[inline(always)]
+    fn parse_by(&self, alloc: A, parser: &mut Parser<'_, M>) -> Result<Option<T>, Fault> {
+        if parser.eats("None") {
+            return Ok(None);
+        }
+        match parse_tuple_1_by(alloc, parser, "Some", &self.0) {
+            Ok(value) => Ok(Some(value)),
+            Err(fault) => Err(fault),
+        }
+    }
+}
+
+impl<A: Copy, T: uParse<A>, E: uParse<A>> uParse<A> for Result<T, E> {
+    ghost is_value = { elim [ Ok value ↦ T.is_value value | Err error ↦ E.is_value error ] };
+
+    ghost holds_no_memory = { T.holds_no_memory × E.holds_no_memory };
+
+    fn prove_value(&self) {
+        match self {
+            Ok(value) => value.prove_value(),
+            Err(error) => error.prove_value(),
+        }
+    }
+
+    fn parse_from<M: ParseMode>(
+        alloc: A,
+        parser: &mut Parser<'_, M>,
+    ) -> Result<Result<T, E>, Fault> {
+        if parser.is_named("Ok") {
+            return match parse_tuple_1(alloc, parser, "Ok") {
+                Ok(value) => Ok(Ok(value)),
+                Err(fault) => Err(fault),
+            };
+        }
+        match parse_tuple_1(alloc, parser, "Err") {
+            Ok(error) => Ok(Err(error)),
+            Err(fault) => Err(fault),
+        }
+    }
+}

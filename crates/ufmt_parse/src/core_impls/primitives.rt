@@ -1,0 +1,44 @@
+//! Truth values and `()`.
+ghost use Rattle.std.specs.Prelude.{⊤};
+
+use crate::uparse::uParse;
+use ufmt_parser::mode::ParseMode;
+use ufmt_parser::parser::{Fault, Parser};
+
+#[tactic(auto, unfolding(ufmt_parser::specs::Next::IsNotNext, ufmt_parser::specs::Next::NextLeaves))]
+impl<A: Copy> uParse<A> for bool {
+    ghost is_value = { λ _. ⊤ };
+
+    ghost holds_no_memory = { ⊤ };
+
+    fn prove_value(&self) {}
+
+    #[inline(always)]
+    fn parse_from<M: ParseMode>(_alloc: A, parser: &mut Parser<'_, M>) -> Result<bool, Fault> {
+        if parser.eats("true") {
+            return Ok(true);
+        }
+        if parser.eats("false") {
+            return Ok(false);
+        }
+        Err(Fault::NotText)
+    }
+}
+
+#[tactic(auto, unfolding(ufmt_parser::specs::Next::IsNotNext, ufmt_parser::specs::Next::NextLeaves))]
+impl<A: Copy> uParse<A> for () {
+    ghost is_value = { λ _. ⊤ };
+
+    ghost holds_no_memory = { ⊤ };
+
+    fn prove_value(&self) {}
+
+    #[inline(always)]
+    fn parse_from<M: ParseMode>(_alloc: A, parser: &mut Parser<'_, M>) -> Result<(), Fault> {
+        if parser.eats("()") {
+            Ok(())
+        } else {
+            Err(Fault::NotText)
+        }
+    }
+}

@@ -1,0 +1,25 @@
+//! `RangeFull`. The other ranges print a value beside dots, which no debug document has.
+ghost use Rattle.std.specs.Prelude.{⊤};
+
+use crate::uparse::uParse;
+use std::ops::RangeFull;
+use ufmt_parser::mode::ParseMode;
+use ufmt_parser::parser::{Fault, Parser};
+
+#[tactic(auto, unfolding(ufmt_parser::specs::Next::IsNotNext, ufmt_parser::specs::Next::NextLeaves))]
+impl<A: Copy> uParse<A> for RangeFull {
+    ghost is_value = { λ _. ⊤ };
+
+    ghost holds_no_memory = { ⊤ };
+
+    fn prove_value(&self) {}
+
+    #[inline(always)]
+    fn parse_from<M: ParseMode>(_alloc: A, parser: &mut Parser<'_, M>) -> Result<RangeFull, Fault> {
+        if parser.eats("..") {
+            Ok(..)
+        } else {
+            Err(Fault::NotText)
+        }
+    }
+}

@@ -1,0 +1,78 @@
+//! Values from whole texts.
+ghost use Rattle.std.specs.Prelude.{◌≡◌, ◌≢◌, ◌≤◌, ◌++◌, List, ℕ, length, IfOk, IsErrOf};
+ghost use Rattle.ufmt.specs.Document.{Document};
+ghost use Rattle.ufmt.specs.Layout.{layout, plain_text, pretty_text, setting};
+ghost use Rattle.ufmt.specs.Leaves.{MayFollow};
+ghost use Rattle.ufmt.specs.Token.{IsDebugDocument, normal};
+ghost use Rattle.ufmt_grammar.specs.declared.class.Class.TheVariants.{Debug};
+
+use crate::error::ParseError;
+use crate::uparse::uParse;
+use ufmt_parser::mode::{ParseMode, PlainText, PrettyText};
+use ufmt_parser::parser::{Fault, Parser};
+
+/// Returns a value that prints as this plain text, and whose document is a debug document. Fails with `NotText`
+/// only if no such value prints so: after a whole value's text, `at` is where it ends. The other error is
+/// `OutOfMemory`, which never comes for a type that holds no memory.
+pub fn parse<T: uParse<A>, A>(alloc: A, text: &[u8]) -> Result<T, ParseError>
+    ensures ok { IfOk result (λ v. plain_text (T.document v) ≡ text.now) }
+    ensures form { IfOk result (λ v. (d : Document) → IsDebugDocument d → plain_text d ≡ text.now
+        → normal (T.document v) ≡ normal d) }
+    ensures debug { IfOk result (λ v. IsDebugDocument (T.document v)) }
+    ensures not_text { (at : ℕ) → IsErrOf result (ParseError.NotText at) → (v : T) → T.is_value v
+        → IsDebugDocument (T.document v) → plain_text (T.document v) ≢ text.now }
+    ensures after_value { (at : ℕ) → IsErrOf result (ParseError.NotText at) → (v : T) (u : List ℕ) → T.is_value v
+        → IsDebugDocument (T.document v) → MayFollow Debug u → text.now ≡ plain_text (T.document v) ++ u
+        → at ≡ length (plain_text (T.document v)) }
+    ensures memory { T.holds_no_memory → IsErrOf result ParseError.OutOfMemory → ⊥ }
+    ensures within { (at : ℕ) → IsErrOf result (ParseError.NotText at) → at ≤ length text.now }
+{
+    parse_whole::<T, A, PlainText>(alloc, text)
+}
+
+/// Returns a value that prints as this pretty text, as `parse` does with a plain one.
+pub fn parse_pretty<T: uParse<A>, A>(alloc: A, text: &[u8]) -> Result<T, ParseError>
+    ensures ok { IfOk result (λ v. pretty_text (T.document v) ≡ text.now) }
+    ensures form { IfOk result (λ v. (d : Document) → IsDebugDocument d → pretty_text d ≡ text.now
+        → normal (T.document v) ≡ normal d) }
+    ensures debug { IfOk result (λ v. IsDebugDocument (T.document v)) }
+    ensures not_text { (at : ℕ) → IsErrOf result (ParseError.NotText at) → (v : T) → T.is_value v
+        → IsDebugDocument (T.document v) → pretty_text (T.document v) ≢ text.now }
+    ensures after_value { (at : ℕ) → IsErrOf result (ParseError.NotText at) → (v : T) (u : List ℕ) → T.is_value v
+        → IsDebugDocument (T.document v) → MayFollow Debug u → text.now ≡ pretty_text (T.document v) ++ u
+        → at ≡ length (pretty_text (T.document v)) }
+    ensures memory { T.holds_no_memory → IsErrOf result ParseError.OutOfMemory → ⊥ }
+    ensures within { (at : ℕ) → IsErrOf result (ParseError.NotText at) → at ≤ length text.now }
+{
+    parse_whole::<T, A, PrettyText>(alloc, text)
+}
+
+// The same in either mode.
+#[tactic(auto, unfolding(ufmt_parser::specs::Next::IsNotNext, ufmt_parser::specs::Next::NextLeaves))]
+fn parse_whole<T: uParse<A>, A, M: ParseMode>(alloc: A, text: &[u8]) -> Result<T, ParseError>
+    ensures ok { IfOk result (λ v. layout (setting M.mode 0) (T.document v) ≡ text.now) }
+    ensures debug { IfOk result (λ v. IsDebugDocument (T.document v)) }
+    ensures not_text { (at : ℕ) → IsErrOf result (ParseError.NotText at) → (v : T) → T.is_value v
+        → IsDebugDocument (T.document v) → layout (setting M.mode 0) (T.document v) ≢ text.now }
+    ensures after_value { (at : ℕ) → IsErrOf result (ParseError.NotText at) → (v : T) (u : List ℕ) → T.is_value v
+        → IsDebugDocument (T.document v) → MayFollow Debug u → text.now ≡ layout (setting M.mode 0) (T.document v) ++ u
+        → at ≡ length (layout (setting M.mode 0) (T.document v)) }
+    ensures memory { T.holds_no_memory → IsErrOf result ParseError.OutOfMemory → ⊥ }
+    ensures within { (at : ℕ) → IsErrOf result (ParseError.NotText at) → at ≤ length text.now }
+{
+    let mut parser: Parser<'_, M> = Parser::new(text);
+    match T::parse_from(alloc, &mut parser) {
+        Ok(value) => {
+            if parser.len() == 0 {
+                return Ok(value);
+            }
+            Err(ParseError::NotText {
+                at: text.len() - parser.len(),
+            })
+        }
+        Err(Fault::NotText) => Err(ParseError::NotText {
+            at: text.len() - parser.len(),
+        }),
+        Err(Fault::OutOfMemory) => Err(ParseError::OutOfMemory),
+    }
+}

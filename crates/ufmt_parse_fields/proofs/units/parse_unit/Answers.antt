@@ -1,0 +1,23 @@
+use Rattle.std.proofs.Common.{arith, inl}
+use Rattle.std.proofs.lemmas.List.{append-nil}
+use Rattle.ufmt_parser.specs.Taking.{open_blocks, setting_in}
+use Rattle.ufmt_parser.proofs.Naming.{no_unit, tuple_alone, unit_leaves}
+use Rattle.ufmt_parser.proofs.Words.{name_is}
+use Rattle.ufmt_parse_fields.proofs.units.parse_unit.Goals as goal
+
+pub returns-then-eats-clause-taken : goal.returns-then-eats-clause-taken
+returns-then-eats-clause-taken g c = (c.if-eats.ensures.eats, (inl (name_is c.args.name.now c.utf8.name c.requires).whole, omega (arith, c.eats.ensures.counted)))
+
+pub returns-then-eats-clause-struct_taken : goal.returns-then-eats-clause-struct_taken
+returns-then-eats-clause-struct_taken g c =
+    (rw (append-nil c.args.name.now) c.if-eats.ensures.eats, ((name_is c.args.name.now c.utf8.name c.requires, tt), omega (arith, c.eats.ensures.counted)))
+
+pub returns-then-eats-clause-tuple_taken : goal.returns-then-eats-clause-tuple_taken
+returns-then-eats-clause-tuple_taken g c =
+    (rw (tuple_alone (setting_in g.M.ParseMode.mode (open_blocks c.args.parser.now)) c.args.name.now c.requires) c.if-eats.ensures.eats, (name_is c.args.name.now c.utf8.name c.requires, omega (arith, c.eats.ensures.counted)))
+
+pub returns-then-eats-clause-only : goal.returns-then-eats-clause-only
+returns-then-eats-clause-only g c = λ d is. unit_leaves g.M.ParseMode.mode c.args.parser.now c.args.name.now c.requires d is c.eats.new.self c.if-eats.ensures.eats
+
+pub returns-else-eats-clause-none : goal.returns-else-eats-clause-none
+returns-else-eats-clause-none g c = λ d is. no_unit g.M.ParseMode.mode c.args.parser.now c.args.name.now c.requires d is c.if-eats.ensures.eats

@@ -1,0 +1,12 @@
+pub mod Clauses
+pub mod EntryParts
+pub mod NameBytes
+pub mod NameFronts
+pub mod Naming
+pub mod Next
+pub mod Parts
+pub mod Settings
+pub mod Strips
+pub mod Taken
+pub mod Views
+pub mod Words

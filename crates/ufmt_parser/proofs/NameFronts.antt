@@ -1,0 +1,155 @@
+-- The name at the front of a document's text is found byte by byte.
+use Rattle.std.proofs.Common.{◌≡◌, ◌≢◌, ◌⊎◌, inl, inr, refl, sym, ap, ◌∙◌, subst, ℕ, ◌==◌, ◌||◌, ◌&&◌, Bool, true, false, List, [], ◌∷◌, ◌++◌, append_assoc, None, eqb-true}
+use Rattle.std.specs.Str.{bytes_eq}
+use Rattle.std.proofs.lemmas.Slice.Eq.{bytes_eq-Decides}
+use Rattle.std.proofs.lemmas.List.{append_cancel_left}
+use Rattle.ufmt.specs.Document.{Document, leaf, joined, list_of, set_of, map_of, struct_of, non_exhaustive_of, tuple_of, pretty_part, no_documents, first_document, no_fields, first_field}
+use Rattle.ufmt.specs.Layout.{layout}
+use Rattle.ufmt_core.specs.declared.layout.Setting.{Setting}
+use Rattle.ufmt_grammar.specs.declared.class.Class.TheVariants.{Debug}
+use Rattle.ufmt.specs.Leaves.{EndsLeaf, IsDebugFollower, MayFollow, is_debug_byte, is_ender, outside, place_after}
+use Rattle.ufmt.specs.Reading.{leaf_from}
+use Rattle.ufmt.specs.Token.{IsBuilt}
+use Rattle.ufmt_grammar.proofs.ClassLeaves.{name_some}
+use Rattle.ufmt_grammar.proofs.DebugLeaves.{StopsLeaf, leaf_from-append}
+use Rattle.ufmt_grammar.proofs.ReadingWords.{each_ender}
+use Rattle.ufmt_parser.specs.Naming.{begins_space, document_name, ends_name, is_debug_name, is_past_name}
+use Rattle.ufmt_parser.specs.Taking.{DoesNotBegin}
+use Rattle.ufmt_parser.proofs.Words.{begins_name, name_ends}
+
+-- ---- where a name is over
+
+each_end : (P : ℕ → Type 0) → P 32 → P 40 → P 91 → P 123 → P 44 → P 93 → P 41 → P 125 → (c : ℕ) → ends_name c ≡ true → P c
+each_end P space parenthesis bracket brace comma closing_bracket closing_parenthesis closing_brace c h =
+    go (c == 32) (c == 40) (c == 91) (c == 123) refl refl refl refl h
+  where
+    at : (k : ℕ) → (c == k) ≡ true → P k → P c
+    at k e p = subst P (sym (eqb-true c k e)) p
+
+    go : (a b d e : Bool) → (c == 32) ≡ a → (c == 40) ≡ b → (c == 91) ≡ d → (c == 123) ≡ e → (a || (b || d || e) || is_ender c) ≡ true → P c
+    go true b d e ha hb hd he k = at 32 ha space
+    go false true d e ha hb hd he k = at 40 hb parenthesis
+    go false false true e ha hb hd he k = at 91 hd bracket
+    go false false false true ha hb hd he k = at 123 he brace
+    go false false false false ha hb hd he k = each_ender P comma closing_bracket closing_parenthesis closing_brace c k
+
+end_stops : (c : ℕ) (t : List ℕ) → ends_name c ≡ true → StopsLeaf (c ∷ t)
+end_stops c t h = each_end (λ b. place_after outside b t ≡ None) refl refl refl refl refl refl refl refl c h
+
+-- no byte of a name comes where one is over
+past_name_stops : (u : List ℕ) → is_past_name u ≡ true → StopsLeaf u
+past_name_stops [] h = tt
+past_name_stops (c ∷ u) h = go (ends_name c) (c == 58) refl refl h
+  where
+    at_space : (u : List ℕ) → begins_space u ≡ true → place_after outside 58 u ≡ None
+    at_space [] is_space = absurd (cc)
+    at_space (b ∷ u) is_space = rw (eqb-true b 32 is_space) refl
+
+    go : (end colon : Bool) → ends_name c ≡ end → (c == 58) ≡ colon → (end || colon && begins_space u) ≡ true → place_after outside c u ≡ None
+    go true colon is_end is_colon k = end_stops c u is_end
+    go false true is_end is_colon k = rw (eqb-true c 58 is_colon) (at_space u k)
+    go false false is_end is_colon k = absurd (cc)
+
+ender_ends : (c : ℕ) → is_ender c ≡ true → ends_name c ≡ true
+ender_ends c h = each_ender (λ b. ends_name b ≡ true) refl refl refl refl c h
+
+-- what may follow a document is past its name
+follower_is_past : (u : List ℕ) → IsDebugFollower u → is_past_name u ≡ true
+follower_is_past [] h = refl
+follower_is_past (c ∷ []) h = rw (ender_ends c h) refl
+follower_is_past (c ∷ b ∷ u) (inl h) = rw (ender_ends c h) refl
+follower_is_past (c ∷ b ∷ u) (inr (inl h)) = rw (h.0, h.1) refl
+follower_is_past (c ∷ b ∷ u) (inr (inr h)) = rw h.0 refl
+
+-- ---- how a text begins
+
+-- the text begins with this name, and no byte of the name comes after it
+pub record IsNamed (name text : List ℕ) : Type 0 where
+  pub tail : List ℕ
+  pub is : text ≡ name ++ tail
+  pub ends : EndsLeaf outside name
+  pub past : is_past_name tail ≡ true
+
+-- no name begins with the byte
+abbrev pub begins_none : ℕ → Type 0
+begins_none c = is_debug_byte c || c == 58 ≡ false
+
+-- no name is called so
+abbrev pub BeginsNoName : List ℕ → Type 0
+BeginsNoName [] = Unit {0}
+BeginsNoName (c ∷ text) = begins_none c
+
+-- the text begins with a bracket, and what is called its name is none
+pub record IsBracketed (name text : List ℕ) : Type 0 where
+  pub bracket : ℕ
+  pub tail : List ℕ
+  pub is : text ≡ bracket ∷ tail
+  pub no_byte : begins_none bracket
+  pub no_name : BeginsNoName name
+
+-- a document's text begins with its name or with a bracket
+pub document_begins : (s : Setting) (d : Document) (u : List ℕ) → IsBuilt Debug d → MayFollow Debug u
+    → IsNamed (document_name d) (layout s d ++ u) ⊎ IsBracketed (document_name d) (layout s d ++ u)
+document_begins s (leaf text) u (inl is) may = inl (record { tail = u; is = refl; ends = is.pieces; past = follower_is_past u may })
+document_begins s (leaf text) u (inr unit) may =
+    inr (record { bracket = 40; tail = 41 ∷ u; is = ap (λ t. t ++ u) unit; no_byte = refl; no_name = subst BeginsNoName (sym unit) refl })
+document_begins s (joined ds) u is may = absurd is
+document_begins s (pretty_part d) u is may = absurd is
+document_begins s (list_of ds) u is may = inr (record { bracket = 91; tail = _; is = refl; no_byte = refl; no_name = tt })
+document_begins s (set_of ds) u is may = inr (record { bracket = 123; tail = _; is = refl; no_byte = refl; no_name = tt })
+document_begins s (map_of ps) u is may = inr (record { bracket = 123; tail = _; is = refl; no_byte = refl; no_name = tt })
+document_begins s (struct_of name no_fields) u is may =
+    inl (record { tail = u; is = append_assoc name [] u; ends = is.0.whole.pieces; past = follower_is_past u may })
+document_begins s (struct_of name (first_field field value fs)) u is may =
+    inl (record { tail = _; is = append_assoc name _ u; ends = is.0.whole.pieces; past = refl })
+document_begins s (non_exhaustive_of name no_fields) u is may = inl (record { tail = _; is = append_assoc name _ u; ends = is.1.whole.pieces; past = refl })
+document_begins s (non_exhaustive_of name (first_field field value fs)) u is may =
+    inl (record { tail = _; is = append_assoc name _ u; ends = is.1.whole.pieces; past = refl })
+document_begins s (tuple_of [] no_documents) u is may = absurd (name_some Debug is)
+document_begins s (tuple_of (c ∷ name) no_documents) u is may =
+    inl (record { tail = u; is = append_assoc (c ∷ name) [] u; ends = is.whole.pieces; past = follower_is_past u may })
+document_begins s (tuple_of [] (first_document d ds)) u is may = inr (record { bracket = 40; tail = _; is = refl; no_byte = refl; no_name = tt })
+document_begins s (tuple_of (c ∷ name) (first_document d ds)) u is may =
+    inl (record { tail = _; is = append_assoc (c ∷ name) _ u; ends = is.0.whole.pieces; past = refl })
+
+-- ---- the test of a name
+
+other_bytes : (other name : List ℕ) → other ≢ name → bytes_eq other name ≡ false
+other_bytes other name differs = go (bytes_eq other name) refl
+  where
+    go : (b : Bool) → bytes_eq other name ≡ b → bytes_eq other name ≡ false
+    go false e = e
+    go true e = absurd (differs ((bytes_eq-Decides other name).0 e))
+
+-- a text that doesn't begin with the name is another's
+pub another_is_next : (name other text : List ℕ) → is_debug_name name ≡ true → IsNamed other text ⊎ IsBracketed other text → DoesNotBegin name text
+    → bytes_eq other name ≡ false
+another_is_next name other text is (inl named) refuses = other_bytes other name (λ same. refuses named.tail (named.is ∙ ap (λ w. w ++ named.tail) same))
+another_is_next name other text is (inr bracketed) refuses = other_bytes other name (λ same. none_is name is (subst BeginsNoName same bracketed.no_name))
+  where
+    none_is : (name : List ℕ) → is_debug_name name ≡ true → BeginsNoName name → ⊥
+    none_is [] is none = absurd (cc)
+    none_is (c ∷ name) is none = absurd (cc (begins_name c name is, none))
+
+-- a text that begins with the name is its own if and only if the name is over there
+pub name_is_next : (name other text after : List ℕ) → is_debug_name name ≡ true → IsNamed other text ⊎ IsBracketed other text → text ≡ name ++ after
+    → bytes_eq other name ≡ is_past_name after
+name_is_next name other text after is (inl named) at = go (is_past_name after) refl
+  where
+    whole : is_past_name after ≡ true → other ≡ name
+    whole past = sym (leaf_from-append outside other named.tail named.ends (past_name_stops named.tail named.past))
+        ∙ ap (leaf_from outside) (sym named.is ∙ at)
+        ∙ leaf_from-append outside name after (name_ends name is) (past_name_stops after past)
+
+    longer : is_past_name after ≡ false → other ≢ name
+    longer past same =
+        let tails : named.tail ≡ after = append_cancel_left name named.tail after (ap (λ w. w ++ named.tail) (sym same) ∙ sym named.is ∙ at) in
+        absurd (cc (named.past, ap is_past_name tails))
+
+    go : (past : Bool) → is_past_name after ≡ past → bytes_eq other name ≡ past
+    go true past = (bytes_eq-Decides other name).1 (whole past)
+    go false past = other_bytes other name (longer past)
+name_is_next [] other text after is (inr bracketed) at = absurd (cc)
+name_is_next (c ∷ name) other text after is (inr bracketed) at =
+    let same : bracketed.bracket ∷ bracketed.tail ≡ c ∷ (name ++ after) = sym bracketed.is ∙ at in
+    absurd (cc (begins_name c name is, bracketed.no_byte))
