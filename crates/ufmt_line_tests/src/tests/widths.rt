@@ -98,6 +98,7 @@ const VALUES: [&str; 4] = [
 ];
 
 const FILLS: &str = "Err(Full) ************";
+
 const TEXT_AND_FILLS: &str = "Err(Full) x***********";
 
 // Lines with such a text in a column, and with a column of this width in it, around `x`. `wanted` is of the first, and `nested`
