@@ -3,7 +3,7 @@ use Rattle.std.proofs.Common.{◌≡◌, ◌⊎◌, inl, inr, ◌≤◌, ◌<◌
 use Rattle.std.proofs.Math.Nat.{min-eq_left, min-eq_right}
 use Rattle.std.proofs.Math.Seq.{take-append-add}
 use Rattle.std.proofs.lemmas.Bool.{cases_lt}
-use Rattle.std.proofs.lemmas.List.{drop-drop, take-append-le, take_all}
+use Rattle.std.proofs.lemmas.List.{drop-drop, take_all}
 use Rattle.ufmt_c.specs.Calls.{HasPut, PutsText, full, reported}
 
 -- a small number is reported as it is
@@ -27,15 +27,6 @@ module _ (old text new bytes : List ℕ) (h : HasPut old text new) where
 
   stays : (n : ℕ) → drop (length text + n) new ≡ drop (length text + n) old
   stays n = sym (drop-drop n (length text) new) ∙ ap (drop n) h.after ∙ drop-drop n (length text) old
-
-  -- there is no room, and the buffer stays
-  pub put_none : length new ≤ length text → HasPut old (text ++ bytes) new
-  put_none none = record {
-    same_length = h.same_length;
-    front = rw grown (take_all (length text + length bytes) new (omega (arith, none)) ∙ sym (take_all (length text) new none) ∙ h.front
-        ∙ sym (take-append-le (length old) text bytes (omega (arith, none, h.same_length))));
-    after = rw grown (stays (length bytes));
-  }
 
   -- so many bytes are put after the text: all, or those up to the buffer's end
   module _ (count k : ℕ) (next : List ℕ) (is : count ≡ length text) (room : count + k ≤ length new) (within : k ≤ length bytes)

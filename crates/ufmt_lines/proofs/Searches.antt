@@ -64,9 +64,6 @@ gaps_step text start end less within =
     let size : end - start ≡ suc (end - suc start) = omega (arith, less) in
     ap (λ n. gaps (take n (drop start text))) size ∙ ap (λ t. gaps (take (suc (end - suc start)) t)) (drop-cons text start 0 (omega arith))
 
-pub gaps_of_none : (text : List ℕ) (end : ℕ) → gaps_between text end end ≡ 0
-gaps_of_none text end = let size : end - end ≡ 0 = omega arith in ap (λ n. gaps (take n (drop end text))) size
-
 -- one byte more before the end
 pub gaps_at : (text : List ℕ) (start after end : ℕ) → after ≡ suc start → after ≤ end → end ≤ length text
     → gaps_between text start end ≡ cond (may_begin_after (get_or text start 0)) (suc (gaps_between text after end)) (gaps_between text after end)
@@ -107,12 +104,6 @@ one_more_gap text low start after end next less within is many =
     let size : gaps_between text start end ≡ suc (gaps_between text after end) =
     gaps_at text start after end next less within ∙ ap (λ b. cond b (suc (gaps_between text after end)) (gaps_between text after end)) is in
     omega (arith, size, many)
-
--- no gap more
-pub no_more_gap : (text : List ℕ) (start after end : ℕ) → after ≡ suc start → after ≤ end → end ≤ length text → may_begin_after (get_or text start 0) ≡ false
-    → gaps_between text after end ≡ 0 → gaps_between text start end ≡ 0
-no_more_gap text start after end next less within is none =
-    gaps_at text start after end next less within ∙ ap (λ b. cond b (suc (gaps_between text after end)) (gaps_between text after end)) is ∙ none
 
 -- before a word that is before another one, each place has two gaps or more
 pub two_words_before : (text : List ℕ) (low gap word end : ℕ) → word ≡ suc gap → low ≤ gap → word ≤ end → end ≤ length text → may_begin_after (get_or text gap 0) ≡ true

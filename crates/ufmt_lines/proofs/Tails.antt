@@ -1,7 +1,7 @@
 -- The longest tail of a line that is a text of the other mode.
 use Rattle.std.proofs.Common.{◌≡◌, ◌∙◌, refl, ap, sym, ℕ, List, [], ◌∷◌, Bool, true, false, Option, Some, None, option_map, Ok, Err, is_some, unwrap_or, ◌+◌, ◌<◌, ◌≤◌, suc, ◌++◌, length, take, drop, get_or, append_assoc, append-nil, add-one, drop-cons}
 use Rattle.std.proofs.lemmas.Bool.{false≢true, true≢false}
-use Rattle.std.proofs.lemmas.List.{drop_all, take_all, take_more}
+use Rattle.std.proofs.lemmas.List.{take_more}
 use Rattle.std.specs.Prelude.{⊤}
 use Rattle.ufmt_grammar.proofs.NormalForms.{layout-normal}
 use Rattle.ufmt_grammar.proofs.ReadingWhole.{reads_each_text, reads_only_texts}
@@ -64,10 +64,6 @@ pub tail_skips : (here : Bool) (mode : Mode) (byte : ℕ) (rest : List ℕ) → 
 unfolding tail_converted
 tail_skips here mode byte rest h = ap (λ o. unwrap_or o (byte ∷ tail_converted (may_begin_after byte) mode rest)) h
 
-none_from : {A : Type 0} (o : Option A) → is_some o ≡ false → o ≡ None
-none_from None h = refl
-none_from (Some x) h = absurd (true≢false h)
-
 some_from : {A : Type 0} (o : Option A) → is_some o ≡ true → (x : A) × (o ≡ Some x)
 some_from None h = absurd (false≢true h)
 some_from (Some x) h = (x, refl)
@@ -75,11 +71,6 @@ some_from (Some x) h = (x, refl)
 -- a text that can be converted
 pub is_some_converted : (mode : Mode) (text : List ℕ) → is_some (converted mode text) ≡ true → (other : List ℕ) × (converted mode text ≡ Some other)
 is_some_converted mode text h = some_from (converted mode text) h
-
--- no text begins here
-pub none_here : (here : Bool) (mode : Mode) (text : List ℕ) → is_some (converted mode text) ≡ false → converted_here here mode text ≡ None
-none_here true mode text h = none_from (converted mode text) h
-none_here false mode text h = refl
 
 module _ (mode : Mode) (line : List ℕ) (start : ℕ) (within : start < length line) where
   -- a text that begins at this place is the longest if none begins before
@@ -102,14 +93,7 @@ module _ (mode : Mode) (line : List ℕ) (start : ℕ) (within : start < length 
       ∙ sym (append_assoc (take start line) (byte ∷ []) (tail_converted (may_begin_after byte) mode rest))
       ∙ ap (λ t. t ++ tail_converted (may_begin_after byte) mode rest) (sym (take_more line start 0 within))
 
--- past the line's end there is no text
-pub tail_none : (mode : Mode) (line : List ℕ) (start : ℕ) (here : Bool) → length line ≤ start
-    → output_of mode line ≡ take start line ++ tail_converted here mode (drop start line) → output_of mode line ≡ line
-unfolding tail_converted
-tail_none mode line start here past before =
-    before ∙ ap (λ t. take start line ++ tail_converted here mode t) (drop_all start line past) ∙ append-nil (take start line) ∙ take_all start line past
-
--- what `write_to` did with an output, if there is a text to convert
+-- what a conversion did with an output, if there is a text to convert
 module _ (mode : Mode) (text : List ℕ) (is_text : is_some (converted mode text) ≡ true) (old new : GroupOutput) where
   pub output_grows : {E : Type 0} {done : ⊤} → ConvertsTo {E = E} output_seen Debug (layout (setting (other_mode mode) 0)) (layout (setting mode 0)) text old (Ok done) new
       → (other : List ℕ) × (converted mode text ≡ Some other) × (output_bytes new ≡ output_bytes old ++ other)

@@ -1,5 +1,5 @@
 -- The events of a document, and what sinks and scans promise.
-use Rattle.std.specs.Prelude.{◌≡◌, ℕ, Bool, true, false, cond, List, [], ◌∷◌, ◌++◌, Result, MatchResult, ⊤}
+use Rattle.std.specs.Prelude.{◌≡◌, ℕ, Bool, true, false, if◌then◌else◌, List, [], ◌∷◌, ◌++◌, Result, MatchResult, ⊤}
 use Rattle.std.specs.Borrow.{Bor}
 use Rattle.ufmt_core.specs.Document.{Document, leaf, joined, list_of, set_of, map_of, struct_of, non_exhaustive_of, tuple_of, pretty_part, Documents, no_documents, first_document, Pairs, no_pairs, first_pair, Fields, no_fields, first_field}
 use Rattle.ufmt_core.specs.Layout.{next, tuple_kind}
@@ -32,7 +32,7 @@ event_now Dots = Dots
 
 -- the events of a block of this kind after this many entries: those of each further entry, and the end, which may be dots
 abbrev pub tail_events : Kind → Count → Bool → List (List TextEvent) → List TextEvent
-tail_events kind count dots [] = cond dots (Next ∷ Dots ∷ []) (Close kind count ∷ [])
+tail_events kind count dots [] = if dots then Next ∷ Dots ∷ [] else Close kind count ∷ []
 tail_events kind count dots (es ∷ more) = Next ∷ (es ++ tail_events kind (next count) dots more)
 
 -- the events of a block with this name, which may end in dots: `alone`, if it has no entries

@@ -1,5 +1,5 @@
 -- The opening bracket that a text's last byte closes, looked for from the text's end on.
-use Rattle.std.specs.Prelude.{◌≡◌, ◌≢◌, ◌<◌, ◌≤◌, ◌-◌, ◌==◌, ◌||◌, ℕ, zero, suc, Bool, true, false, cond, not, List, [], ◌∷◌, drop, take, length, slice_index_or, ⊤, Some, None}
+use Rattle.std.specs.Prelude.{◌≡◌, ◌≢◌, ◌<◌, ◌≤◌, ◌-◌, ◌==◌, ◌||◌, ℕ, zero, suc, Bool, true, false, if◌then◌else◌, not, List, [], ◌∷◌, drop, take, length, slice_index_or, ⊤, Some, None}
 use Rattle.ufmt.specs.Bytes.{backslash, closing_brace, closing_bracket, closing_parenthesis}
 use Rattle.ufmt.specs.Leaves.{Place, outside, between, after_backslash, is_opening, is_quote}
 use Rattle.ufmt_core.specs.declared.layout.Mode.{Mode}
@@ -55,8 +55,8 @@ abbrev pub closing : Place → List ℕ → Closing
 closing outside [] = unread
 closing (between quote) [] = none
 closing (after_backslash quote) [] = none
-closing outside (c ∷ t) = cond (is_quote c) (closing (between c) t) (cond (is_opening c) (at_opening (closing outside t)) (cond (is_closing c) (at_closing (closing outside t)) (at_plain (closing outside t))))
-closing (between quote) (c ∷ t) = cond (c == quote) (at_plain (closing outside t)) (cond (c == backslash) (closing (after_backslash quote) t) (closing (between quote) t))
+closing outside (c ∷ t) = if is_quote c then closing (between c) t else if is_opening c then at_opening (closing outside t) else if is_closing c then at_closing (closing outside t) else at_plain (closing outside t)
+closing (between quote) (c ∷ t) = if c == quote then at_plain (closing outside t) else if c == backslash then closing (after_backslash quote) t else closing (between quote) t
 closing (after_backslash quote) (c ∷ t) = closing (between quote) t
 
 -- at no place from `start` on the text has the opening bracket that its last byte closes
@@ -118,7 +118,7 @@ may_begin_at text (suc n) = may_begin_after (slice_index_or text n 0)
 -- how many bytes there are after which a text may begin
 abbrev pub gaps : List ℕ → ℕ
 gaps [] = 0
-gaps (c ∷ t) = cond (may_begin_after c) (suc (gaps t)) (gaps t)
+gaps (c ∷ t) = if may_begin_after c then suc (gaps t) else gaps t
 
 -- how many of them are from one place to another
 abbrev pub gaps_between : List ℕ → ℕ → ℕ → ℕ

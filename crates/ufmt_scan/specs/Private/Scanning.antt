@@ -1,5 +1,5 @@
 -- The events of what is left of a text, at each step of a scan.
-use Rattle.std.specs.Prelude.{◌≡◌, ℕ, zero, suc, ◌<◌, length, reverse, take, Bool, true, false, ◌&&◌, cond, List, [], ◌∷◌, ◌++◌, map, codes, Option, Some, None, option_and_then, MatchOption, Result, MatchResult, IfOk}
+use Rattle.std.specs.Prelude.{◌≡◌, ℕ, zero, suc, ◌<◌, length, reverse, take, Bool, true, false, ◌&&◌, if◌then◌else◌, List, [], ◌∷◌, ◌++◌, map, codes, Option, Some, None, option_and_then, MatchOption, Result, MatchResult, IfOk}
 use Rattle.std.specs.Borrow.{Bor}
 use Rattle.ufmt_core.specs.Document.{Document, leaf}
 use Rattle.ufmt_core.specs.Layout.{frame, inside, lead, next, setting, trail}
@@ -170,7 +170,7 @@ scan_block level kind t = choose (strip ((frame level.mode kind).closing Zero) t
 -- the events of a document that begins with this leaf, which may be its name
 abbrev pub scan_front : Level → Bool → List ℕ → Parse (List TextEvent)
 scan_front level is_name front t =
-    parse_map events_of (cond is_name (read_named level.class (setting_at level) (entry_of level) front t) (Some (leaf front, t)))
+    parse_map events_of (if is_name then read_named level.class (setting_at level) (entry_of level) front t else Some (leaf front, t))
 
 -- the level with this many blocks around it
 abbrev pub level_at : Class → Mode → ℕ → Level
