@@ -1,6 +1,6 @@
 -- The longest tail of a line that is a text of the other mode.
-use Rattle.std.proofs.Common.{◌≡◌, ◌∙◌, refl, ap, sym, ℕ, List, [], ◌∷◌, Bool, true, false, Option, Some, None, option_map, Ok, Err, is_some, unwrap_or, ◌+◌, ◌<◌, ◌≤◌, suc, ◌++◌, length, take, drop, get_or, append_assoc, append-nil, add-one, drop-cons}
-use Rattle.std.proofs.lemmas.Bool.{false≢true, true≢false}
+use Rattle.std.proofs.Common.{◌≡◌, ◌∙◌, refl, ap, sym, ℕ, List, [], ◌∷◌, Bool, true, false, Option, Some, None, option_map, Ok, Err, is_some, unwrap_or, ◌+◌, ◌<◌, ◌≤◌, suc, ◌++◌, length, take, drop, get_or, append_assoc, add-one, drop-cons}
+use Rattle.std.proofs.lemmas.Bool.{false≢true}
 use Rattle.std.proofs.lemmas.List.{take_more}
 use Rattle.std.specs.Prelude.{⊤}
 use Rattle.ufmt_grammar.proofs.NormalForms.{layout-normal}
