@@ -4,16 +4,10 @@ use ufmt::{Full, uWrite, write_debug};
 use ufmt_print_examples::Fixed;
 use ufmt_test_rows::rows::Table;
 
-trait FixedRows {
-    // Adds a row of what a call returned, and of what is written then.
-    fn put_fixed<const N: usize>(&mut self, outcome: Result<(), Full>, writer: &Fixed<N>);
-}
-
-impl FixedRows for Table {
-    fn put_fixed<const N: usize>(&mut self, outcome: Result<(), Full>, writer: &Fixed<N>) {
-        let outcome = outcome.map(|()| writer.written().len());
-        self.put_outcome(outcome, writer.written());
-    }
+// Adds a row of what a call returned, and of what is written then.
+fn put_fixed<const N: usize>(table: &mut Table, outcome: Result<(), Full>, writer: &Fixed<N>) {
+    let outcome = outcome.map(|()| writer.written().len());
+    table.put_outcome(outcome, writer.written());
 }
 
 #[test]
@@ -30,16 +24,16 @@ fn a_fixed_writer_takes_pieces_whole(rt: HostRuntime) {
         ("f", "Err(Full) abcde"),
     ] {
         let outcome = writer.write_str(piece);
-        table.put_fixed(outcome, &writer);
+        put_fixed(&mut table, outcome, &writer);
         table.wants(wanted);
     }
     let mut writer = Fixed::<7>::new();
     let outcome = write_debug(&mut writer, &[1u8, 23]);
-    table.put_fixed(outcome, &writer);
+    put_fixed(&mut table, outcome, &writer);
     table.wants("Ok(7) [1, 23]");
     let mut writer = Fixed::<6>::new();
     let outcome = write_debug(&mut writer, &[1u8, 23]);
-    table.put_fixed(outcome, &writer);
+    put_fixed(&mut table, outcome, &writer);
     table.wants("Err(Full) [1, 23");
     has_wanted_rows(&rt, &table);
 }
