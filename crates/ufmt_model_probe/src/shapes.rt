@@ -5,9 +5,9 @@ use std::alloc::Global;
 use ufmt::layout::Mode;
 use ufmt::{plain_text, uDebug};
 use ufmt_parse::{
-    Fault as Unparsed, ParseMode, Parser, PlainText, PrettyText, parse_fields, parse_struct_1,
-    parse_struct_2, parse_struct_3, parse_struct_12, parse_tuple_1, parse_tuple_2, parse_tuple_3,
-    parse_tuple_12, parse_variants,
+    ByType, Fault as Unparsed, ParseMode, Parser, PlainText, PrettyText, by_type, parse_fields,
+    parse_struct_1, parse_struct_2, parse_struct_3, parse_struct_12, parse_tuple_1, parse_tuple_2,
+    parse_tuple_3, parse_tuple_12, parse_variants,
 };
 
 /// Returns the fields of each struct, tuple and variant that has the text, as the texts of tuples.
@@ -62,7 +62,7 @@ fn whole<T: Drop, M: ParseMode>(
 macro_rules! named {
     ($alloc:ident $text:ident $out:ident $mode:ident $call:ident($($type:ident $name:literal)+)) => {{
         let mut parser: Parser<'_, $mode> = Parser::new($text);
-        let taken = $call::<(), $($type),+, $mode>((), &mut parser, "S", $($name),+);
+        let taken: Result<($($type),+), Unparsed> = $call((), &mut parser, "S", $($name, &ByType),+);
         note($alloc, "s", whole(taken, &parser)?, $out)?
     }};
 }
@@ -71,7 +71,7 @@ macro_rules! named {
 macro_rules! unnamed {
     ($alloc:ident $text:ident $out:ident $mode:ident $call:ident($($type:ident)+)) => {{
         let mut parser: Parser<'_, $mode> = Parser::new($text);
-        let taken = $call::<(), $($type),+, $mode>((), &mut parser, "T");
+        let taken: Result<($($type),+), Unparsed> = $call((), &mut parser, "T", $(by_type!($type)),+);
         note($alloc, "t", whole(taken, &parser)?, $out)?
     }};
 }

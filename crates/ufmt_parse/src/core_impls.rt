@@ -8,4 +8,5 @@ mod nonzero;
 pub mod options;
 mod primitives;
 mod ranges;
+mod tuples;
 mod wrappers;

@@ -4,7 +4,6 @@
 //! by piece, as a formatter writes it. A user names this crate only.
 
 mod by;
-mod by_count;
 mod core_impls;
 mod error;
 mod keys;
@@ -17,15 +16,6 @@ mod uparse;
 mod whole_text;
 
 pub use by::{By, ProvesValue};
-pub use by_count::structs::{
-    parse_struct_1, parse_struct_2, parse_struct_3, parse_struct_4, parse_struct_5, parse_struct_6,
-    parse_struct_7, parse_struct_8, parse_struct_9, parse_struct_10, parse_struct_11,
-    parse_struct_12,
-};
-pub use by_count::tuples::{
-    parse_tuple_1, parse_tuple_2, parse_tuple_3, parse_tuple_4, parse_tuple_5, parse_tuple_6,
-    parse_tuple_7, parse_tuple_8, parse_tuple_9, parse_tuple_10, parse_tuple_11, parse_tuple_12,
-};
 pub use core_impls::options::Optional;
 pub use error::ParseError;
 pub use keys::ParseKey;
@@ -33,12 +23,15 @@ pub use place::line_and_column;
 pub use round_trips::{round_trip, round_trip_in};
 pub use std_impls::boxes::Boxed;
 pub use std_impls::vectors::Each;
-pub use ufmt_parse_fields::{
-    parse_struct_1_by, parse_struct_2_by, parse_struct_3_by, parse_struct_4_by, parse_struct_5_by,
-    parse_struct_6_by, parse_struct_7_by, parse_struct_8_by, parse_struct_9_by, parse_struct_10_by,
-    parse_struct_11_by, parse_struct_12_by, parse_tuple_1_by, parse_tuple_2_by, parse_tuple_3_by,
-    parse_tuple_4_by, parse_tuple_5_by, parse_tuple_6_by, parse_tuple_7_by, parse_tuple_8_by,
-    parse_tuple_9_by, parse_tuple_10_by, parse_tuple_11_by, parse_tuple_12_by, parse_unit,
+pub use ufmt_parse_fields::parse_unit;
+pub use ufmt_parse_structs::{
+    parse_struct_1, parse_struct_2, parse_struct_3, parse_struct_4, parse_struct_5, parse_struct_6,
+    parse_struct_7, parse_struct_8, parse_struct_9, parse_struct_10, parse_struct_11,
+    parse_struct_12,
+};
+pub use ufmt_parse_tuples::{
+    parse_tuple_1, parse_tuple_2, parse_tuple_3, parse_tuple_4, parse_tuple_5, parse_tuple_6,
+    parse_tuple_7, parse_tuple_8, parse_tuple_9, parse_tuple_10, parse_tuple_11, parse_tuple_12,
 };
 pub use ufmt_parser::mode::{ParseMode, PlainText, PrettyText};
 pub use ufmt_parser::parser::{Fault, Parser};

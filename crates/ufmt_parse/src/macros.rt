@@ -8,13 +8,13 @@
 #[macro_export]
 macro_rules! parse_fields {
     ($alloc:expr, $parser:expr, $name:ident { $($field:ident),+ $(,)? } $(,)?) => {
-        match $crate::parse_struct_call!([$($field)+] $alloc, $parser, stringify!($name), $(stringify!($field)),+) {
+        match $crate::parse_struct_call!([$($field)+] $alloc, $parser, stringify!($name), $(stringify!($field), &$crate::ByType),+) {
             std::result::Result::Ok(($($field),+)) => std::result::Result::Ok($name { $($field),+ }),
             std::result::Result::Err(fault) => std::result::Result::Err(fault),
         }
     };
     ($alloc:expr, $parser:expr, $name:ident ( $($field:ident),+ $(,)? ) $(,)?) => {
-        match $crate::parse_tuple_call!([$($field)+] $alloc, $parser, stringify!($name)) {
+        match $crate::parse_tuple_call!([$($field)+] $alloc, $parser, stringify!($name), $($crate::by_type!($field)),+) {
             std::result::Result::Ok(($($field),+)) => std::result::Result::Ok($name($($field),+)),
             std::result::Result::Err(fault) => std::result::Result::Err(fault),
         }
@@ -58,7 +58,7 @@ macro_rules! parse_variant {
     ([$alloc:ident, $parser:ident, $name:ident]) => { std::result::Result::Err($crate::Fault::NotText) };
     ([$alloc:ident, $parser:ident, $name:ident] $variant:ident { $($field:ident),+ $(,)? } $(, $($rest:tt)*)?) => {
         if $parser.is_named(stringify!($variant)) {
-            match $crate::parse_struct_call!([$($field)+] $alloc, $parser, stringify!($variant), $(stringify!($field)),+) {
+            match $crate::parse_struct_call!([$($field)+] $alloc, $parser, stringify!($variant), $(stringify!($field), &$crate::ByType),+) {
                 std::result::Result::Ok(($($field),+)) => std::result::Result::Ok($name::$variant { $($field),+ }),
                 std::result::Result::Err(fault) => std::result::Result::Err(fault),
             }
@@ -68,7 +68,7 @@ macro_rules! parse_variant {
     };
     ([$alloc:ident, $parser:ident, $name:ident] $variant:ident ( $($field:ident),+ $(,)? ) $(, $($rest:tt)*)?) => {
         if $parser.is_named(stringify!($variant)) {
-            match $crate::parse_tuple_call!([$($field)+] $alloc, $parser, stringify!($variant)) {
+            match $crate::parse_tuple_call!([$($field)+] $alloc, $parser, stringify!($variant), $($crate::by_type!($field)),+) {
                 std::result::Result::Ok(($($field),+)) => std::result::Result::Ok($name::$variant($($field),+)),
                 std::result::Result::Err(fault) => std::result::Result::Err(fault),
             }
@@ -134,6 +134,14 @@ macro_rules! parse_tuple_call {
             [parse_tuple_1 parse_tuple_2 parse_tuple_3 parse_tuple_4 parse_tuple_5 parse_tuple_6 parse_tuple_7 parse_tuple_8 parse_tuple_9 parse_tuple_10 parse_tuple_11 parse_tuple_12]
             $($arguments)*
         )
+    };
+}
+
+/// The parser of a field of a tuple struct, by its type.
+#[macro_export]
+macro_rules! by_type {
+    ($field:tt) => {
+        &$crate::ByType
     };
 }
 

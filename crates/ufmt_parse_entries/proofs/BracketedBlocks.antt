@@ -10,8 +10,8 @@ use Rattle.ufmt_core.specs.declared.layout.Kind.TheVariants.{Brackets, Braces, S
 use Rattle.ufmt_core.specs.declared.layout.Mode.{Mode}
 use Rattle.ufmt_core.specs.declared.layout.Setting.{Setting}
 use Rattle.ufmt_grammar.specs.declared.class.Class.TheVariants.{Debug}
-use Rattle.ufmt.specs.Leaves.{MayFollow}
-use Rattle.ufmt.specs.Reading.{strip}
+use Rattle.ufmt_grammar.specs.Leaves.{MayFollow}
+use Rattle.ufmt_grammar.specs.Reading.{strip}
 use Rattle.ufmt_grammar.proofs.BlocksComplete.{Closes, tail_follows}
 use Rattle.ufmt_grammar.proofs.FramesClose.{closes}
 use Rattle.ufmt_grammar.proofs.Parsing.{strip_joined}

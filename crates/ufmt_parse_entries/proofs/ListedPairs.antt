@@ -9,7 +9,7 @@ use Rattle.ufmt_core.specs.declared.layout.Kind.TheVariants.{Braces}
 use Rattle.ufmt_core.specs.declared.layout.Mode.{Mode}
 use Rattle.ufmt_core.specs.declared.layout.Setting.{Setting}
 use Rattle.ufmt_grammar.specs.declared.class.Class.TheVariants.{Debug}
-use Rattle.ufmt.specs.Token.{PairsAreBuilt}
+use Rattle.ufmt_grammar.specs.Token.{PairsAreBuilt}
 use Rattle.ufmt_parser.specs.declared.parser.Fault.{Fault}
 use Rattle.ufmt_parser.specs.Blocks.{EntriesFit, IsEntry, entry_documents}
 use Rattle.ufmt_parser.specs.Taking.{Fits, Takes, setting_in}

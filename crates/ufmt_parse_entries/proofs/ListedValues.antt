@@ -10,7 +10,7 @@ use Rattle.ufmt_core.specs.declared.layout.Kind.TheVariants.{Braces, Brackets}
 use Rattle.ufmt_core.specs.declared.layout.Mode.{Mode}
 use Rattle.ufmt_core.specs.declared.layout.Setting.{Setting}
 use Rattle.ufmt_grammar.specs.declared.class.Class.TheVariants.{Debug}
-use Rattle.ufmt.specs.Token.{AreBuilt, IsBuilt}
+use Rattle.ufmt_grammar.specs.Token.{AreBuilt, IsBuilt}
 use Rattle.ufmt_grammar.proofs.TextsBegin.{document_begins}
 use Rattle.ufmt_parser.specs.declared.parser.Fault.{Fault}
 use Rattle.ufmt_parser.specs.Blocks.{BeginsEntry, EntriesFit}

@@ -1,7 +1,7 @@
 -- What is taken from one text, by what is taken from another.
 use Rattle.std.proofs.Common.{◌≡◌, ap, ◌∙◌, subst, List, ℕ, ◌++◌, Result, Ok, Err}
 use Rattle.ufmt_grammar.specs.declared.class.Class.TheVariants.{Debug}
-use Rattle.ufmt.specs.Leaves.{MayFollow}
+use Rattle.ufmt_grammar.specs.Leaves.{MayFollow}
 use Rattle.ufmt_parser.specs.declared.parser.Fault.{Fault}
 use Rattle.ufmt_parser.specs.declared.parser.Fault.TheVariants.{NotText, OutOfMemory}
 use Rattle.ufmt_parser.specs.Blocks.{outcome_map}

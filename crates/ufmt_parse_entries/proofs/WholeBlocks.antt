@@ -9,7 +9,7 @@ use Rattle.ufmt_core.specs.declared.layout.Kind.TheVariants.{Brackets, Braces, S
 use Rattle.ufmt_core.specs.declared.layout.Mode.{Mode}
 use Rattle.ufmt_core.specs.declared.layout.Mode.TheVariants.{Plain, Pretty}
 use Rattle.ufmt_core.specs.declared.layout.Setting.{Setting}
-use Rattle.ufmt.specs.Leaves.{is_ender}
+use Rattle.ufmt_grammar.specs.Leaves.{is_ender}
 use Rattle.ufmt_parser.specs.declared.parser.Fault.{Fault}
 use Rattle.ufmt_parser.specs.declared.parser.Fault.TheVariants.{NotText, OutOfMemory}
 use Rattle.ufmt_parser.specs.Blocks.{AreSome, BeginsEntry, EntriesFit, IsBracketed}

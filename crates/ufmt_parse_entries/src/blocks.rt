@@ -1,14 +1,14 @@
 //! Blocks of any number of entries.
 ghost use Rattle.std.specs.Prelude.{◌≤◌, ◌≡◌, ◌<◌, ◌-◌, ◌++◌, length, map, All, IfOk, suc};
-ghost use Rattle.ufmt.specs.Document.{documents, list_of, map_of, pairs_of, set_of};
-ghost use Rattle.ufmt.specs.Layout.{block_tail, frame, layout};
+ghost use Rattle.ufmt_core.specs.Document.{documents, list_of, map_of, pairs_of, set_of};
+ghost use Rattle.ufmt_core.specs.Layout.{block_tail, frame, layout};
 ghost use Rattle.ufmt_core.specs.declared.layout.Count.TheVariants.{Zero};
 ghost use Rattle.ufmt_parser.specs.Blocks.{outcome_map, entry_documents, AreSome, EntriesBegin, EntriesFit, IsBracketed, IsEntry};
 ghost use Rattle.ufmt_parser.specs.Taking.{Fits, Takes, open_blocks, rest, setting_in};
 
 use std::alloc::Allocator;
-use ufmt::layout::{Count, Kind};
-use ufmt::uDebug;
+use ufmt_core::layout::{Count, Kind};
+use ufmt_core::uDebug;
 use ufmt_parser::entries::{EntryParser, Pair, Value};
 use ufmt_parser::mode::ParseMode;
 use ufmt_parser::parser::{Fault, Parser};

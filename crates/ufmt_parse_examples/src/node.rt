@@ -9,7 +9,7 @@ ghost use Rattle.ufmt_parse_examples.specs.declared.node.Node.TheFolds.{fold-Nod
 use std::alloc::Global;
 use ufmt::{Formatter, fields, uDebug, uWrite};
 use ufmt_parse::{
-    Boxed, By, ByType, Fault, Optional, ParseMode, Parser, ProvesValue, parse_struct_2_by, uParse,
+    Boxed, By, ByType, Fault, Optional, ParseMode, Parser, ProvesValue, parse_struct_2, uParse,
 };
 
 /// A number, and perhaps another node.
@@ -59,7 +59,7 @@ fn parse_node<M: ParseMode>(alloc: Global, parser: &mut Parser<'_, M>) -> Result
     ensures { Parses M.mode is_node ⟦<Node as uDebug>⟧.document parser.old result parser.new }
 {
     let next = Optional(Boxed(By(parse_node)));
-    match parse_struct_2_by(alloc, parser, "Node", "value", &ByType, "next", &next) {
+    match parse_struct_2(alloc, parser, "Node", "value", &ByType, "next", &next) {
         Err(fault) => Err(fault),
         Ok((value, next)) => Ok(Node { value, next }),
     }

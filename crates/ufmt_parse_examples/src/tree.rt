@@ -9,7 +9,7 @@ ghost use Rattle.ufmt_parse_examples.specs.declared.tree.Tree.TheFolds.{fold-Tre
 use std::alloc::Global;
 use ufmt::{Formatter, fields, uDebug, uWrite};
 use ufmt_parse::{
-    By, ByType, Each, Fault, ParseMode, Parser, ProvesValue, parse_struct_2_by, uParse,
+    By, ByType, Each, Fault, ParseMode, Parser, ProvesValue, parse_struct_2, uParse,
 };
 
 /// A number, and trees below it.
@@ -56,7 +56,7 @@ fn parse_tree<M: ParseMode>(alloc: Global, parser: &mut Parser<'_, M>) -> Result
     ensures { Parses M.mode is_tree ⟦<Tree as uDebug>⟧.document parser.old result parser.new }
 {
     let children = Each(By(parse_tree));
-    match parse_struct_2_by(
+    match parse_struct_2(
         alloc, parser, "Tree", "size", &ByType, "children", &children,
     ) {
         Err(fault) => Err(fault),

@@ -2,8 +2,8 @@
 use Rattle.std.proofs.Common.{◌≡◌, sym, subst, ℕ, List, true}
 use Rattle.std.specs.Str.{bytes_eq}
 use Rattle.ufmt_core.proofs.Alike.{name_is, fields_are, documents_are}
-use Rattle.ufmt.specs.Alike.{SameDocuments, SameFields}
-use Rattle.ufmt.specs.Document.{struct_of, tuple_of, Documents, Fields}
+use Rattle.ufmt_core.specs.Alike.{SameDocuments, SameFields}
+use Rattle.ufmt_core.specs.Document.{struct_of, tuple_of, Documents, Fields}
 use Rattle.ufmt_core.specs.declared.layout.Mode.{Mode}
 use Rattle.ufmt_parser.specs.declared.parser.Parser.{Parser}
 use Rattle.ufmt_parser.specs.Next.{IsNotNext}

@@ -1,10 +1,10 @@
 -- A row of fields is the inside of a struct or of a tuple.
 use Rattle.std.proofs.Common.{◌≡◌, refl, ap, ◌∙◌, ℕ, suc, ◌+◌, ◌<◌, ◌≤◌, List, [], ◌∷◌, ◌++◌, length, codes, Result, arith}
 use Rattle.std.specs.Prelude.{zip}
-use Rattle.ufmt.specs.Document.{Document, documents, fields_of, nest_all, nest_fields, struct_of, tuple_of}
-use Rattle.ufmt.specs.Layout.{block_tail, field_texts, frame, inside, layout, texts, tuple_kind}
-use Rattle.ufmt.specs.Leaves.{IsName, OrEmpty}
-use Rattle.ufmt.specs.Token.{AreBuilt, FieldsAreBuilt}
+use Rattle.ufmt_core.specs.Document.{Document, documents, fields_of, nest_all, nest_fields, struct_of, tuple_of}
+use Rattle.ufmt_core.specs.Layout.{block_tail, field_texts, frame, inside, layout, texts, tuple_kind}
+use Rattle.ufmt_grammar.specs.Leaves.{IsName, OrEmpty}
+use Rattle.ufmt_grammar.specs.Token.{AreBuilt, FieldsAreBuilt}
 use Rattle.ufmt_grammar.specs.declared.class.Class.TheVariants.{Debug}
 use Rattle.ufmt_core.specs.declared.layout.Count.TheVariants.{Zero}
 use Rattle.ufmt_core.specs.declared.layout.Kind.{Kind}

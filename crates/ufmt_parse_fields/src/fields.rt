@@ -1,15 +1,15 @@
 //! The fields of structs and tuples, and their parsers.
 ghost use Rattle.std.specs.Prelude.{◌≤◌, ◌<◌, ◌-◌, ◌++◌, length, [], ◌∷◌, ◌≡◌, ℕ, List, IfOk, IfErr, suc, true, zip, ⊤};
-ghost use Rattle.ufmt.specs.Document.{Document, documents, fields_of, struct_of, tuple_of};
-ghost use Rattle.ufmt.specs.Layout.{block_tail, frame, inside};
+ghost use Rattle.ufmt_core.specs.Document.{Document, documents, fields_of, struct_of, tuple_of};
+ghost use Rattle.ufmt_core.specs.Layout.{block_tail, frame, inside};
 ghost use Rattle.ufmt_core.specs.declared.layout.Count.TheVariants.{Zero};
 ghost use Rattle.ufmt_parser.specs.Fields.{AllFit, AreNames, all_now, each_text};
 ghost use Rattle.ufmt_parser.specs.Naming.{is_debug_name_or_empty};
 ghost use Rattle.ufmt_parser.specs.Next.{IsNotNext, NextLeaves};
 ghost use Rattle.ufmt_parser.specs.Taking.{IsTaken, Takes, open_blocks, rest, setting_in};
 
-use ufmt::layout::{Count, Kind};
-use ufmt::uDebug;
+use ufmt_core::layout::{Count, Kind};
+use ufmt_core::uDebug;
 use ufmt_parser::entries::{EntryParser, Named, Value};
 use ufmt_parser::mode::ParseMode;
 use ufmt_parser::parser::{Fault, Parser};
@@ -213,7 +213,7 @@ fn parse_block<A: Copy, M: ParseMode, V: Drop, R: FieldParsers<A, M, V>>(
 
 /// Takes a struct with these fields.
 #[inline(always)]
-pub(crate) fn parse_struct<A: Copy, M: ParseMode, V: Drop, R: FieldParsers<A, M, V>>(
+pub fn parse_struct<A: Copy, M: ParseMode, V: Drop, R: FieldParsers<A, M, V>>(
     alloc: A,
     parser: &mut Parser<'_, M>,
     name: &str,
@@ -242,7 +242,7 @@ pub(crate) fn parse_struct<A: Copy, M: ParseMode, V: Drop, R: FieldParsers<A, M,
 
 /// Takes a tuple with these fields.
 #[inline(always)]
-pub(crate) fn parse_tuple<A: Copy, M: ParseMode, V: Drop, R: FieldParsers<A, M, V>>(
+pub fn parse_tuple<A: Copy, M: ParseMode, V: Drop, R: FieldParsers<A, M, V>>(
     alloc: A,
     parser: &mut Parser<'_, M>,
     name: &str,

@@ -2,8 +2,8 @@
 ghost use Rattle.std.specs.Prelude.{[], ◌∷◌, ⊤};
 
 use crate::fields::{FieldParsers, parse_first};
-use ufmt::layout::{Count, Kind};
-use ufmt::uDebug;
+use ufmt_core::layout::{Count, Kind};
+use ufmt_core::uDebug;
 use ufmt_parser::mode::ParseMode;
 use ufmt_parser::parser::{Fault, Parser};
 use ufmt_parser::parses_by::ParsesBy;

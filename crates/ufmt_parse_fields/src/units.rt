@@ -1,6 +1,6 @@
 //! Values that print as their name alone: variants and structs without fields.
 ghost use Rattle.std.specs.Prelude.{◌≡◌, ◌≤◌, length, true, IfOk, IfErr};
-ghost use Rattle.ufmt.specs.Document.{Document, leaf, no_documents, no_fields, struct_of, tuple_of};
+ghost use Rattle.ufmt_core.specs.Document.{Document, leaf, no_documents, no_fields, struct_of, tuple_of};
 ghost use Rattle.ufmt_parser.specs.Naming.{is_debug_name, is_unit};
 ghost use Rattle.ufmt_parser.specs.Next.{IsNotNext, NextLeaves};
 ghost use Rattle.ufmt_parser.specs.Taking.{IsTaken, open_blocks, rest};

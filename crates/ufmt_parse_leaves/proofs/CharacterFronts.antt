@@ -5,8 +5,8 @@ use Rattle.std.specs.Char.{IsScalar}
 use Rattle.std.specs.Str.{continuation_len}
 use Rattle.std.proofs.lemmas.Str.{encode_ascii, encode_same}
 use Rattle.ufmt_core.proofs.QuotedBytes.{escape-past_ascii}
-use Rattle.ufmt.specs.Quoted.{escaped, escaped_byte, quoted_char}
-use Rattle.ufmt.specs.Reading.{strip}
+use Rattle.ufmt_core.specs.Quoted.{escaped, escaped_byte, quoted_char}
+use Rattle.ufmt_grammar.specs.Reading.{strip}
 use Rattle.ufmt_grammar.proofs.Parsing.{strip_found, strip_of_front}
 use Rattle.ufmt_scan.proofs.Characters.{Written, ascii, past_ascii, length-led, is_written}
 use Rattle.ufmt_scan.proofs.Spelled.{spelled_once}

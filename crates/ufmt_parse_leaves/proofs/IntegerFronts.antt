@@ -5,7 +5,7 @@ use Rattle.ufmt_core.specs.Decimal.{decimal}
 use Rattle.ufmt_core.specs.Document.{leaf}
 use Rattle.ufmt_core.specs.ValueDocuments.{integer}
 use Rattle.ufmt_core.proofs.DecimalTexts.{decimal-negative}
-use Rattle.ufmt.specs.Leaves.{IsDebugFollower}
+use Rattle.ufmt_grammar.specs.Leaves.{IsDebugFollower}
 use Rattle.ufmt_grammar.proofs.ClassTokens.{tokens_are_debug}
 use Rattle.ufmt_grammar.proofs.NumbersAreWords.{IsBuilt-integer}
 use Rattle.ufmt_grammar.proofs.ReadingWords.{each_ender}

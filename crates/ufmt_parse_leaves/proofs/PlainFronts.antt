@@ -4,7 +4,7 @@ use Rattle.std.specs.Prelude.{unwrap_or}
 use Rattle.std.specs.Str.{IsAscii}
 use Rattle.std.proofs.lemmas.Bool.Decides.{nat_tests}
 use Rattle.std.proofs.lemmas.Str.Ascii.{IsAscii-cons, IsAscii-nil}
-use Rattle.ufmt.specs.Quoted.{escape, escaped_bytes}
+use Rattle.ufmt_core.specs.Quoted.{escape, escaped_bytes}
 use Rattle.ufmt_parse_leaves.specs.Spelling.{all_plain, is_plain}
 
 and_true : (a : Bool) → a && true ≡ a

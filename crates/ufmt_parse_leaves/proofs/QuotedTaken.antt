@@ -5,8 +5,8 @@ use Rattle.std.specs.Str.{IsUtf8, chars}
 use Rattle.std.proofs.lemmas.Str.{IsUtf8-string_bytes, scalars-chars}
 use Rattle.std.specs.Char.{IsScalar}
 use Rattle.ufmt_core.specs.Document.{leaf}
-use Rattle.ufmt.specs.Quoted.{IsQuoted, escaped_bytes, quoted_char, quoted_text}
-use Rattle.ufmt.specs.Reading.{strip}
+use Rattle.ufmt_core.specs.Quoted.{IsQuoted, escaped_bytes, quoted_char, quoted_text}
+use Rattle.ufmt_grammar.specs.Reading.{strip}
 use Rattle.ufmt_core.proofs.QuotedCharacters.{quoted_text-parts}
 use Rattle.ufmt_grammar.proofs.Parsing.{strip_found}
 use Rattle.ufmt_grammar.proofs.ClassTokens.{tokens_are_debug}

@@ -1,8 +1,8 @@
 -- Bytes as they are written between quotation marks, up to the closing one.
 use Rattle.std.proofs.Common.{◌≡◌, inl, refl, sym, ap, ◌∙◌, ℕ, List, [], ◌∷◌, ◌++◌, take, drop, Some, true, append_assoc, append-nil}
 use Rattle.std.proofs.lemmas.List.{take-append-drop}
-use Rattle.ufmt.specs.Quoted.{escaped_byte, escaped_bytes, unescaped_len}
-use Rattle.ufmt.specs.Reading.{strip}
+use Rattle.ufmt_core.specs.Quoted.{escaped_byte, escaped_bytes, unescaped_len}
+use Rattle.ufmt_grammar.specs.Reading.{strip}
 use Rattle.ufmt_grammar.proofs.Parsing.{strip_found}
 use Rattle.ufmt_parse_leaves.specs.Spelling.{all_plain}
 use Rattle.ufmt_parse_leaves.proofs.PlainFronts.{plain_itself}

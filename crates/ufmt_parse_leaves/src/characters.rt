@@ -1,7 +1,7 @@
 //! Characters in apostrophes.
 ghost use Rattle.std.specs.Prelude.{◌≡◌, ◌≢◌, ◌++◌, ℕ, List, MatchOption, encode_utf8};
 ghost use Rattle.std.specs.Char.{IsScalar};
-ghost use Rattle.ufmt.specs.Quoted.{escaped, quoted_char};
+ghost use Rattle.ufmt_core.specs.Quoted.{escaped, quoted_char};
 ghost use Rattle.ufmt_core.specs.Bytes.{apostrophe};
 
 use ufmt_scan::quoted::{character_len, split_escaped};

@@ -1,8 +1,8 @@
 //! Texts in quotation marks.
 ghost use Rattle.std.specs.Prelude.{◌≡◌, ◌<◌, ◌≤◌, ◌++◌, ◌∷◌, IfOk, IfSome, MatchOption, length, string_bytes, true};
 ghost use Rattle.std.specs.Str.{IsUtf8, chars};
-ghost use Rattle.ufmt.specs.Document.{leaf};
-ghost use Rattle.ufmt.specs.Quoted.{escaped_byte, escaped_bytes, quoted_text};
+ghost use Rattle.ufmt_core.specs.Document.{leaf};
+ghost use Rattle.ufmt_core.specs.Quoted.{escaped_byte, escaped_bytes, quoted_text};
 ghost use Rattle.ufmt_core.specs.Bytes.{quotation_mark};
 ghost use Rattle.ufmt_parser.specs.Blocks.{outcome_map};
 ghost use Rattle.ufmt_parse_leaves.specs.Spelling.{all_plain, NeverCloses};
@@ -10,8 +10,8 @@ ghost use Rattle.ufmt_parser.specs.Taking.{Fits, Takes, open_blocks, rest};
 
 use crate::plain_bytes::plain_len;
 use std::alloc::{AllocError, Allocator};
-use ufmt::ascii::text_from;
-use ufmt::quoted::unescaped_len;
+use ufmt_core::ascii::text_from;
+use ufmt_core::quoted::unescaped_len;
 use ufmt_parser::mode::ParseMode;
 use ufmt_parser::parser::{Fault, Parser};
 use ufmt_scan::quoted::split_escaped;

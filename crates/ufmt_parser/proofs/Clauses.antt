@@ -1,8 +1,8 @@
 -- What a parser's clauses say, and `Takes`.
 use Rattle.std.proofs.Common.{◌≡◌, ◌≢◌, refl, ap, ◌≤◌, ◌++◌, length, length-append, arith, List, ℕ, Result, Ok, Err, IfOk}
 use Rattle.std.specs.Prelude.{IfErr}
-use Rattle.ufmt.specs.Document.{Document}
-use Rattle.ufmt.specs.Layout.{layout}
+use Rattle.ufmt_core.specs.Document.{Document}
+use Rattle.ufmt_core.specs.Layout.{layout}
 use Rattle.ufmt_core.specs.declared.layout.Mode.{Mode}
 use Rattle.ufmt_parser.specs.declared.parser.Parser.{Parser}
 use Rattle.ufmt_parser.specs.declared.parser.Fault.{Fault}

@@ -1,8 +1,8 @@
 -- What is left of a block is taken in parts: an entry's lead, the entry, its trail, and what is left then.
 use Rattle.std.proofs.Common.{◌≡◌, inl, inr, refl, sym, List, [], ◌∷◌, ℕ, codes, ◌++◌, ◌-◌, ◌<◌, ◌≤◌, Result, Ok, Err}
 use Rattle.ufmt_grammar.specs.declared.class.Class.TheVariants.{Debug}
-use Rattle.ufmt.specs.Leaves.{MayFollow}
-use Rattle.ufmt.specs.Layout.{block_tail, frame, inside, lead, next, trail}
+use Rattle.ufmt_grammar.specs.Leaves.{MayFollow}
+use Rattle.ufmt_core.specs.Layout.{block_tail, frame, inside, lead, next, trail}
 use Rattle.ufmt_core.specs.declared.layout.Mode.{Mode}
 use Rattle.ufmt_core.specs.declared.layout.Kind.{Kind}
 use Rattle.ufmt_core.specs.declared.layout.Count.{Count}

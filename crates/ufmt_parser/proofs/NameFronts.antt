@@ -3,13 +3,13 @@ use Rattle.std.proofs.Common.{◌≡◌, ◌≢◌, ◌⊎◌, inl, inr, refl, s
 use Rattle.std.specs.Str.{bytes_eq}
 use Rattle.std.proofs.lemmas.Slice.Eq.{bytes_eq-Decides}
 use Rattle.std.proofs.lemmas.List.{append_cancel_left}
-use Rattle.ufmt.specs.Document.{Document, leaf, joined, list_of, set_of, map_of, struct_of, non_exhaustive_of, tuple_of, pretty_part, no_documents, first_document, no_fields, first_field}
-use Rattle.ufmt.specs.Layout.{layout}
+use Rattle.ufmt_core.specs.Document.{Document, leaf, joined, list_of, set_of, map_of, struct_of, non_exhaustive_of, tuple_of, pretty_part, no_documents, first_document, no_fields, first_field}
+use Rattle.ufmt_core.specs.Layout.{layout}
 use Rattle.ufmt_core.specs.declared.layout.Setting.{Setting}
 use Rattle.ufmt_grammar.specs.declared.class.Class.TheVariants.{Debug}
-use Rattle.ufmt.specs.Leaves.{EndsLeaf, IsDebugFollower, MayFollow, is_debug_byte, is_ender, outside, place_after}
-use Rattle.ufmt.specs.Reading.{leaf_from}
-use Rattle.ufmt.specs.Token.{IsBuilt}
+use Rattle.ufmt_grammar.specs.Leaves.{EndsLeaf, IsDebugFollower, MayFollow, is_debug_byte, is_ender, outside, place_after}
+use Rattle.ufmt_grammar.specs.Reading.{leaf_from}
+use Rattle.ufmt_grammar.specs.Token.{IsBuilt}
 use Rattle.ufmt_grammar.proofs.ClassLeaves.{name_some}
 use Rattle.ufmt_grammar.proofs.DebugLeaves.{StopsLeaf, leaf_from-append}
 use Rattle.ufmt_grammar.proofs.ReadingWords.{each_ender}

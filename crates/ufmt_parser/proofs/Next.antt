@@ -1,6 +1,6 @@
 -- What the words on what comes next say: callers' proofs open them by these.
 use Rattle.std.proofs.Common.{◌≡◌, List, ℕ}
-use Rattle.ufmt.specs.Document.{Document}
+use Rattle.ufmt_core.specs.Document.{Document}
 use Rattle.ufmt_core.specs.declared.layout.Mode.{Mode}
 use Rattle.ufmt_parser.specs.declared.parser.Parser.{Parser}
 use Rattle.ufmt_parser.specs.Next.{IsNotNext, NextLeaves}

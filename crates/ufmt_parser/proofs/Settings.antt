@@ -1,6 +1,6 @@
 -- The mode and depth of entries, by the number of open blocks.
 use Rattle.std.proofs.Common.{◌≡◌, refl, ap, subst, ℕ, suc, ◌+◌, ◌-◌, ◌<◌, ◌≤◌, min, arith}
-use Rattle.ufmt.specs.Layout.{entry_depth, inside, setting}
+use Rattle.ufmt_core.specs.Layout.{entry_depth, inside, setting}
 use Rattle.ufmt_core.specs.declared.layout.Mode.{Mode}
 use Rattle.ufmt_core.specs.declared.layout.Mode.TheVariants.{Plain, Pretty}
 use Rattle.ufmt_grammar.proofs.FramesClose.{Fits}

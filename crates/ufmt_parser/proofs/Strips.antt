@@ -1,6 +1,6 @@
 -- What was stripped from a text, and what was not.
 use Rattle.std.proofs.Common.{◌≡◌, ◌≢◌, sym, ap, ◌∙◌, List, ℕ, ◌<◌, ◌≤◌, ◌++◌, arith, length, length-append, Option, Some, None, Bor}
-use Rattle.ufmt.specs.Reading.{strip}
+use Rattle.ufmt_grammar.specs.Reading.{strip}
 use Rattle.ufmt_grammar.proofs.Parsing.{strip_found, strip_of_front, strip_of_none}
 use Rattle.ufmt_parser.specs.Taking.{DoesNotBegin}
 use Rattle.ufmt_scan.specs.Rest.{now_of}

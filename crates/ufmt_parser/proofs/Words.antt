@@ -2,10 +2,10 @@
 use Rattle.std.proofs.Common.{◌≡◌, refl, subst, sym, ℕ, ◌==◌, ◌||◌, ◌&&◌, Bool, true, false, cond, List, [], ◌∷◌, Some, None, inl, arith, eqb-true}
 use Rattle.std.specs.Str.{IsUtf8}
 use Rattle.std.proofs.lemmas.Str.{is_utf8-from_IsUtf8}
-use Rattle.ufmt.specs.Document.{leaf}
+use Rattle.ufmt_core.specs.Document.{leaf}
 use Rattle.ufmt_grammar.specs.declared.class.Class.TheVariants.{Debug}
-use Rattle.ufmt.specs.Leaves.{EndsLeaf, IsName, IsWord, OrEmpty, Place, between, has_quote, is_debug_byte, is_quote, leads_on, outside}
-use Rattle.ufmt.specs.Token.{IsBuilt}
+use Rattle.ufmt_grammar.specs.Leaves.{EndsLeaf, IsName, IsWord, OrEmpty, Place, between, has_quote, is_debug_byte, is_quote, leads_on, outside}
+use Rattle.ufmt_grammar.specs.Token.{IsBuilt}
 use Rattle.ufmt_grammar.proofs.ClassTokens.{tokens_are_debug}
 use Rattle.ufmt_parser.specs.Naming.{are_debug_names, is_debug_name, is_debug_name_or_empty}
 use Rattle.ufmt_parser.specs.Fields.{AreNames}

@@ -6,7 +6,7 @@ use Rattle.ufmt_core.specs.Document.{Document}
 use Rattle.ufmt_core.specs.declared.layout.Kind.{Kind}
 use Rattle.ufmt_core.specs.declared.layout.Kind.TheVariants.{Brackets, Braces, Struct, Tuple, Unnamed}
 use Rattle.ufmt_core.specs.declared.layout.Setting.{Setting}
-use Rattle.ufmt.specs.Leaves.{is_ender}
+use Rattle.ufmt_grammar.specs.Leaves.{is_ender}
 
 -- the outcome, with another view of the value
 abbrev pub outcome_map : {A B F : Type 0} → (A → B) → Result A F → Result B F

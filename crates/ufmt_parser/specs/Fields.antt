@@ -1,9 +1,9 @@
 -- Rows of fields: their names, if they have names, and their documents.
 use Rattle.std.specs.Prelude.{ℕ, List, [], ◌∷◌, ◌++◌, codes, map, ⊤}
 use Rattle.std.specs.Borrow.{Bor}
-use Rattle.ufmt.specs.Document.{Document}
-use Rattle.ufmt.specs.Layout.{layout}
-use Rattle.ufmt.specs.Leaves.{IsName}
+use Rattle.ufmt_core.specs.Document.{Document}
+use Rattle.ufmt_core.specs.Layout.{layout}
+use Rattle.ufmt_grammar.specs.Leaves.{IsName}
 use Rattle.ufmt_grammar.specs.declared.class.Class.TheVariants.{Debug}
 use Rattle.ufmt_core.specs.declared.layout.Setting.{Setting}
 use Rattle.ufmt_parser.specs.Taking.{Fits}

@@ -2,8 +2,8 @@
 use Rattle.std.specs.Prelude.{ℕ, ◌&&◌, ◌||◌, ◌==◌, List, [], ◌∷◌, Bool, true, false}
 use Rattle.std.specs.Str.{bytes_eq}
 use Rattle.ufmt_core.specs.Bytes.{colon, space}
-use Rattle.ufmt.specs.Document.{Document, leaf, joined, list_of, set_of, map_of, struct_of, non_exhaustive_of, tuple_of, pretty_part, no_documents, first_document, no_fields, first_field}
-use Rattle.ufmt.specs.Leaves.{is_debug_byte, is_ender, is_opening, leads_on}
+use Rattle.ufmt_core.specs.Document.{Document, leaf, joined, list_of, set_of, map_of, struct_of, non_exhaustive_of, tuple_of, pretty_part, no_documents, first_document, no_fields, first_field}
+use Rattle.ufmt_grammar.specs.Leaves.{is_debug_byte, is_ender, is_opening, leads_on}
 
 -- the text of a leaf, or the name of a struct or a tuple; other documents have none
 abbrev pub document_name : Document → List ℕ

@@ -1,6 +1,6 @@
 -- What comes next, in two words. Callers' proofs don't open them, so the names in a document stay whole there.
 use Rattle.std.specs.Prelude.{◌≡◌, ℕ, List}
-use Rattle.ufmt.specs.Document.{Document}
+use Rattle.ufmt_core.specs.Document.{Document}
 use Rattle.ufmt_core.specs.declared.layout.Mode.{Mode}
 use Rattle.ufmt_parser.specs.declared.parser.Parser.{Parser}
 use Rattle.ufmt_parser.specs.Taking.{IsNext, rest}

@@ -1,11 +1,11 @@
 -- What a parser takes from the front of a text.
 use Rattle.std.specs.Prelude.{◌≡◌, ◌≢◌, ℕ, ◌+◌, ◌≤◌, Bool, List, ◌++◌, MatchBool, Result, Ok, Err, ⊤}
-use Rattle.ufmt.specs.Document.{Document, nest}
-use Rattle.ufmt.specs.Layout.{layout}
+use Rattle.ufmt_core.specs.Document.{Document, nest}
+use Rattle.ufmt_core.specs.Layout.{layout}
 use Rattle.ufmt_core.specs.declared.layout.Mode.{Mode}
 use Rattle.ufmt_grammar.specs.declared.class.Class.TheVariants.{Debug}
-use Rattle.ufmt.specs.Leaves.{MayFollow}
-use Rattle.ufmt.specs.Token.{IsBuilt}
+use Rattle.ufmt_grammar.specs.Leaves.{MayFollow}
+use Rattle.ufmt_grammar.specs.Token.{IsBuilt}
 pub use Rattle.ufmt_scan.specs.Depth.{depth_in, setting_in}
 use Rattle.ufmt_parser.specs.declared.parser.Parser.{Parser}
 use Rattle.ufmt_parser.specs.declared.parser.Fault.{Fault}

@@ -1,14 +1,14 @@
 //! The entries of blocks: values, values with a name, and pairs.
 ghost use Rattle.std.specs.Prelude.{◌≤◌, length, ◌≡◌, ◌++◌, ℕ, List, IfOk, IfErr, codes};
-ghost use Rattle.ufmt.specs.Layout.{layout};
+ghost use Rattle.ufmt_core.specs.Layout.{layout};
 ghost use Rattle.ufmt_core.specs.declared.layout.Setting.{Setting};
 ghost use Rattle.ufmt_parser.specs.Taking.{Fits, Takes, open_blocks, rest, setting_in};
 
 use crate::mode::ParseMode;
 use crate::parser::{Fault, Parser};
 use crate::parses_by::ParsesBy;
-use ufmt::layout::COLON;
-use ufmt::uDebug;
+use ufmt_core::layout::COLON;
+use ufmt_core::uDebug;
 
 /// A parser of one entry of a block.
 pub trait EntryParser<A, M: ParseMode, E> {

@@ -3,7 +3,7 @@ ghost use Rattle.std.specs.Prelude.{◌≡◌};
 ghost use Rattle.ufmt_core.specs.declared.layout.Mode.{Mode};
 ghost use Rattle.ufmt_core.specs.declared.layout.Mode.TheVariants.{Plain, Pretty};
 
-use ufmt::layout::Mode;
+use ufmt_core::layout::Mode;
 
 /// The mode of the texts that a parser takes.
 pub trait ParseMode {

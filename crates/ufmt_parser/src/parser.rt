@@ -1,9 +1,9 @@
 //! The rest of a text, and what is taken from its front.
 ghost use Rattle.std.specs.Prelude.{◌≡◌, ◌<◌, ◌≤◌, ◌-◌, length, MatchBool, false, not, suc, true};
 ghost use Rattle.std.specs.Str.{bytes_eq};
-ghost use Rattle.ufmt.specs.Layout.{ending, frame, lead};
+ghost use Rattle.ufmt_core.specs.Layout.{ending, frame, lead};
 ghost use Rattle.ufmt_core.specs.declared.layout.Count.TheVariants.{Zero};
-ghost use Rattle.ufmt.specs.Document.{Document};
+ghost use Rattle.ufmt_core.specs.Document.{Document};
 ghost use Rattle.ufmt_parser.specs.Naming.{document_name, ends_name, is_debug_name, is_past_name};
 ghost use Rattle.ufmt_parser.specs.Next.{IsNotNext, NextLeaves};
 ghost use Rattle.ufmt_parser.specs.Taking.{Eats, open_blocks, rest, setting_in};
@@ -11,7 +11,7 @@ ghost use Rattle.ufmt_parser.specs.Taking.{Eats, open_blocks, rest, setting_in};
 use crate::mode::ParseMode;
 use crate::strip::{strip_ending, strip_lead, strip_piece};
 use std::marker::PhantomData;
-use ufmt::layout::{Count, Kind};
+use ufmt_core::layout::{Count, Kind};
 
 /// Why a value isn't parsed.
 #[derive(Clone, Copy, Drop)]

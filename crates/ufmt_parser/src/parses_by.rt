@@ -1,11 +1,11 @@
 //! Parsers of the values of a type.
 ghost use Rattle.std.specs.Prelude.{◌≤◌, length, ◌≡◌, ℕ, IfOk, IfErr};
-ghost use Rattle.ufmt.specs.Layout.{layout};
+ghost use Rattle.ufmt_core.specs.Layout.{layout};
 ghost use Rattle.ufmt_parser.specs.Taking.{Fits, Takes, open_blocks, rest, setting_in};
 
 use crate::mode::ParseMode;
 use crate::parser::{Fault, Parser};
-use ufmt::uDebug;
+use ufmt_core::uDebug;
 
 /// A parser of values of a type, from texts in the mode `M`.
 pub trait ParsesBy<A, M: ParseMode, T: uDebug> {

@@ -1,11 +1,11 @@
 //! What is around the entries of a block, stripped from the front of a text.
 ghost use Rattle.std.specs.Prelude.{◌≡◌, None, MatchOption};
-ghost use Rattle.ufmt.specs.Layout.{ending, frame, lead};
-ghost use Rattle.ufmt.specs.Reading.{strip};
+ghost use Rattle.ufmt_core.specs.Layout.{ending, frame, lead};
+ghost use Rattle.ufmt_grammar.specs.Reading.{strip};
 ghost use Rattle.ufmt_parser.specs.Taking.{setting_in};
 ghost use Rattle.ufmt_scan.specs.Rest.{now_of};
 
-use ufmt::layout::{Count, Kind, Mode};
+use ufmt_core::layout::{Count, Kind, Mode};
 use ufmt_scan::strip::{
     setting_in, strip_byte, strip_closing, strip_eight, strip_first_lead, strip_four,
     strip_to_line, strip_two,

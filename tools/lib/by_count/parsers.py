@@ -1,4 +1,4 @@
-"""The files of ufmt_parse_fields and ufmt_parse with one call for each number of fields, and their answers."""
+"""The files of the crates of parsing with one call or impl for each number of fields, and their answers."""
 from lib.by_count.words import MOST, NUMBERS, TYPES, WRITTEN, counted, in_a_row, letters, parts_in_a_row, tuple_of, wrapped
 
 # The types of the parsers of fields.
@@ -15,7 +15,7 @@ def half_of(count):
 def chain_of(items):
     """These in a chain, as what holds of a row is."""
     chain = "tt"
-    for item in reversed(items):
+    for item in reversed(list(items)):
         chain = f"({item}, {chain})"
     return chain
 
@@ -39,7 +39,7 @@ def no_memory(holders):
 
 
 class Block:
-    """A kind of block whose fields are parsed by their number."""
+    """A kind of block whose fields are parsed by their number, each by a parser that is passed."""
 
     def __init__(self, name, document, row, about):
         self.name, self.document, self.row, self.about = name, document, row, about
@@ -109,6 +109,10 @@ class Block:
             "    ensures shrinks { length (rest parser.new) ≤ length (rest parser.old) }",
         ])
 
+    def crate(self):
+        """The crate of the calls."""
+        return f"ufmt_parse_{self.name}s"
+
     def called(self, count):
         """The name of the call."""
         return f"parse_{self.name}_{count}"
@@ -117,77 +121,17 @@ class Block:
         """What each call takes before its fields."""
         return ["alloc: Alloc", "parser: &mut Parser<'_, M>", "name: &str"]
 
-    def call(self, count):
-        """The call for that many fields, each parsed by its type: that with a parser for each."""
-        types = ", ".join(f"{letter}: uParse<Alloc>" for letter in TYPES[:count])
-        inputs, arguments = self.inputs(), ["alloc", "parser", "name"]
-        for letter in letters(count):
-            inputs += [f"{letter}: &str"] if self.name == "struct" else []
-            arguments += [letter, "&ByType"] if self.name == "struct" else ["&ByType"]
-        return f"""
-/// Takes a {self.about} {counted(count)}, as `parse_from` does a value.
-#[inline(always)]
-pub fn parse_{self.name}_{count}<Alloc: Copy, {types}, M: ParseMode>({", ".join(inputs)}) -> Result<{self.result(count)}, Fault>
-    requires {{ {self.asked(count)} }}
-{self.clauses(count, TYPES)}
-{{
-    parse_{self.name}_{count}_by({", ".join(arguments)})
-}}
-"""
-
-    def answers(self, count):
-        """The answers of the call for that many fields: the clauses of the one that it calls."""
-        call = f"parse_{self.name}_{count}_by"
-        ready = "tt" if count == 1 else "(" + ", ".join(["tt"] * count) + ")"
-        text = f"""-- {WRITTEN}
-use Rattle.ufmt_parse.proofs.by_count.{self.name}s.{half_of(count)}.parse_{self.name}_{count}.Goals as goal
-
-pub {call}-requires-clause-named : goal.{call}-requires-clause-named
-{call}-requires-clause-named g c = c.requires
-
-pub {call}-requires-clause-ready : goal.{call}-requires-clause-ready
-{call}-requires-clause-ready g c = λ few. {ready}
-"""
-        for clause in ["taken", "only", "none", "alike", "memory", "blocks", "shrinks"]:
-            text += f"""
-pub returns-clause-{clause} : goal.returns-clause-{clause}
-returns-clause-{clause} g c = c.{call}.ensures.{clause}
-"""
-        return text
-
     def ghost_uses(self):
         """The words of the contracts, but for those of std's prelude."""
         struct = self.name == "struct"
         list_type, same = ("Fields", "SameFields") if struct else ("Documents", "SameDocuments")
         naming = "are_debug_names, same_names" if struct else "is_debug_name_or_empty"
         return f"""ghost use Rattle.std.specs.Str.{{bytes_eq}};
-ghost use Rattle.ufmt.specs.Alike.{{{same}}};
-ghost use Rattle.ufmt.specs.Document.{{{list_type}, {self.row}, {self.document}}};
+ghost use Rattle.ufmt_core.specs.Alike.{{{same}}};
+ghost use Rattle.ufmt_core.specs.Document.{{{list_type}, {self.row}, {self.document}}};
 ghost use Rattle.ufmt_parser.specs.Naming.{{{naming}}};
 ghost use Rattle.ufmt_parser.specs.Next.{{IsNotNext, NextLeaves}};
 ghost use Rattle.ufmt_parser.specs.Taking.{{IsTaken, open_blocks, rest}};"""
-
-    def file(self, counts):
-        """The file with the calls for these numbers of fields."""
-        calls = "".join(self.call(count) for count in counts)
-        called = ", ".join(f"parse_{self.name}_{count}_by" for count in counts)
-        return f"""//! {self.about.capitalize()}s of {counts[0]} to {counts[-1]} fields. {WRITTEN}
-ghost use Rattle.std.specs.Prelude.{{◌≤◌, length, [], ◌∷◌, ◌≡◌, List, ℕ, true, IfOk, IfErr}};
-{self.ghost_uses()}
-
-use crate::uparse::{{ByType, uParse}};
-use ufmt_parse_fields::{{{called}}};
-use ufmt_parser::mode::ParseMode;
-use ufmt_parser::parser::{{Fault, Parser}};
-{calls}"""
-
-
-class BlockBy(Block):
-    """A kind of block each of whose fields is parsed by a parser that is passed."""
-
-    def called(self, count):
-        """The name of the call."""
-        return f"parse_{self.name}_{count}_by"
 
     def call(self, count):
         """The call for that many fields."""
@@ -206,7 +150,7 @@ class BlockBy(Block):
         about = "its field by a parser" if count == 1 else f"each of its {count} fields by a parser"
         return f"""
 /// Takes a {self.about}, {about}.{attribute}
-pub fn parse_{self.name}_{count}_by<Alloc: Copy, M: ParseMode, {types}, {by}>({", ".join(inputs)}) -> Result<{self.result(count)}, Fault>
+pub fn {self.called(count)}<Alloc: Copy, M: ParseMode, {types}, {by}>({", ".join(inputs)}) -> Result<{self.result(count)}, Fault>
     requires named {{ {self.asked(count)} }}
 {wrapped(["requires ready { open_blocks parser.old < 255 →", ready[0]] + [f"× {item}" for item in ready[1:]] + ["}"], 4)}
     ensures values {{ IfOk result (λ v. {holds}) }}
@@ -235,7 +179,7 @@ pub fn parse_{self.name}_{count}_by<Alloc: Copy, M: ParseMode, {types}, {by}>({"
         alike = " ".join(["other others"] + values + ["named same"] + [f"is_{letter}" for letter in fields])
         row = "(" + ", ".join(values) + ")" if count > 1 else "(record { 0 = a_value })"
         are = chain_of([f"is_{letter}" for letter in fields])
-        where = f"Rattle.ufmt_parse_fields.proofs.{self.name}s_by.{half_of(count)}.parse_{self.name}_{count}_by.Goals"
+        where = f"Rattle.{self.crate()}.proofs.{half_of(count)}.{self.called(count)}.Goals"
         return f"-- {WRITTEN}\n" + (self.of_one if count == 1 else self.of_many)(count, where, binders, alike, row, are)
 
     def renamed(self, count):
@@ -327,8 +271,8 @@ returns-clause-shrinks g c = {ensures}.shrinks
 ghost use Rattle.std.specs.Prelude.{{◌≤◌, ◌<◌, length, [], ◌∷◌, ◌≡◌, List, ℕ, suc, true, IfOk, IfErr}};
 {self.ghost_uses()}
 
-use crate::fields::parse_{self.name};
-use ufmt::uDebug;
+use ufmt_core::uDebug;
+use ufmt_parse_fields::fields::parse_{self.name};
 use ufmt_parser::mode::ParseMode;
 use ufmt_parser::parser::{{Fault, Parser}};
 use ufmt_parser::parses_by::ParsesBy;
@@ -398,8 +342,8 @@ def tuples_of_parsers():
 ghost use Rattle.std.specs.Prelude.{{[], ◌∷◌, ⊤}};
 
 use crate::fields::{{FieldParsers, parse_first}};
-use ufmt::layout::{{Count, Kind}};
-use ufmt::uDebug;
+use ufmt_core::layout::{{Count, Kind}};
+use ufmt_core::uDebug;
 use ufmt_parser::mode::ParseMode;
 use ufmt_parser::parser::{{Fault, Parser}};
 use ufmt_parser::parses_by::ParsesBy;
@@ -412,12 +356,7 @@ def tuple_impl(count):
     row = tuple_of(TYPES[:count])
     values = " × ".join(f"{letter}.is_value t.{place}" for place, letter in enumerate(TYPES[:count]))
     proofs = "\n".join(f"        self.{place}.prove_value();" for place in range(count))
-    body = f'parse_tuple_{count}(alloc, parser, "")'
-    if count == 1:
-        body = f"""match {body} {{
-            Err(fault) => Err(fault),
-            Ok(parsed) => Ok((parsed,)),
-        }}"""
+    body = f'parse_tuple(alloc, parser, "", &{tuple_of(["&ByType"] * count)})'
     return f"""
 impl<Alloc: Copy, {types}> uParse<Alloc> for {row} {{
     ghost is_value = {{ λ t. {values} }};
@@ -437,36 +376,34 @@ impl<Alloc: Copy, {types}> uParse<Alloc> for {row} {{
 
 
 def tuple_answers(count):
-    """The answers of a tuple of several values: what the call for their number says, of the values of a tuple."""
-    call = f"c.parse_tuple_{count}"
-    values = " ".join(f"v.{place}" for place in range(count))
-    are = " ".join(f"are.{place}" for place in range(count))
+    """The answers of a tuple: what the call of the row says, where each field is parsed by its type."""
+    are, none = chain_of(f"are.{place}" for place in range(count)), chain_of(f"none.{place}" for place in range(count))
+    if count == 1:
+        are, none = "(are, tt)", "(none, tt)"
     return f"""-- {WRITTEN}
-use Rattle.std.proofs.Common.{{[], refl}}
 use Rattle.std.proofs.lemmas.Result.{{IfErr-weaker, IfOk-weaker}}
-use Rattle.ufmt_parse.proofs.by_count.tuple_impls.Tuple{count}uParse.parse_from.Goals as goal
+use Rattle.ufmt_parse.proofs.core_impls.tuples.Tuple{count}uParse.parse_from.Goals as goal
 
 pub returns-clause-taken : goal.returns-clause-taken
-returns-clause-taken g c = {call}.ensures.taken
+returns-clause-taken g c = c.parse_tuple.ensures.taken
 
 pub returns-clause-only : goal.returns-clause-only
-returns-clause-only g c = IfOk-weaker {call}.result _ _ (λ _ only v are. only [] {values} refl {are}) {call}.ensures.only
+returns-clause-only g c = IfOk-weaker c.parse_tuple.result _ _ (λ _ only v are. only v {are}) c.parse_tuple.ensures.only
 
 pub returns-clause-none : goal.returns-clause-none
-returns-clause-none g c = IfErr-weaker {call}.result _ _ (λ _ none is_not v are. none is_not [] {values} refl {are}) {call}.ensures.none
+returns-clause-none g c = IfErr-weaker c.parse_tuple.result _ _ (λ _ none is_not v are. none is_not v {are}) c.parse_tuple.ensures.none
 
 pub returns-clause-memory : goal.returns-clause-memory
-returns-clause-memory g c = {call}.ensures.memory
+returns-clause-memory g c = λ none. c.parse_tuple.ensures.memory {none}
 """
 
 
 def tuple_impls():
     """The file with `uParse` for the tuples."""
-    calls = ", ".join(f"parse_tuple_{count}" for count in range(1, MOST + 1))
     impls = "".join(tuple_impl(count) for count in range(1, MOST + 1))
     return f"""//! Tuples of one to {MOST}. {WRITTEN}
-use crate::by_count::tuples::{{{calls}}};
-use crate::uparse::uParse;
+use crate::uparse::{{ByType, uParse}};
+use ufmt_parse_fields::fields::parse_tuple;
 use ufmt_parser::mode::ParseMode;
 use ufmt_parser::parser::{{Fault, Parser}};
 {impls}"""
@@ -495,28 +432,23 @@ pub fn tuples_hold_no_memory<Alloc: Copy, {types}>()
 
 STRUCTS = Block("struct", "struct_of", "fields_of", "struct")
 TUPLES = Block("tuple", "tuple_of", "documents", "tuple")
-STRUCTS_BY = BlockBy("struct", "struct_of", "fields_of", "struct")
-TUPLES_BY = BlockBy("tuple", "tuple_of", "documents", "tuple")
 
 
 def files():
     """Each file by its path in the repository, with what makes its text."""
-    types, parsers = "crates/ufmt_parse", "crates/ufmt_parse_fields"
+    values, fields = "crates/ufmt_parse", "crates/ufmt_parse_fields"
     found = {
-        f"{types}/src/by_count/tuple_impls.rt": tuple_impls,
-        f"{types}/src/laws/of_tuples.rt": tuple_law,
-        f"{parsers}/src/tuples_of_parsers.rt": tuples_of_parsers,
+        f"{values}/src/core_impls/tuples.rt": tuple_impls,
+        f"{values}/src/laws/of_tuples.rt": tuple_law,
+        f"{fields}/src/tuples_of_parsers.rt": tuples_of_parsers,
     }
-    folders = {STRUCTS: f"{types}/src/by_count/structs", TUPLES: f"{types}/src/by_count/tuples",
-               STRUCTS_BY: f"{parsers}/src/structs_by", TUPLES_BY: f"{parsers}/src/tuples_by"}
-    for block, folder in folders.items():
-        for half, counts in HALVES.items():
-            found[f"{folder}/{half}.rt"] = lambda block=block, counts=counts: block.file(counts)
     for count in range(1, MOST + 1):
-        found[f"{parsers}/proofs/tuples_of_parsers/{parsers_name(count)}/parse_rest/Answers.antt"] = lambda count=count: parsers_answers(count)
-        if count > 1:
-            found[f"{types}/proofs/by_count/tuple_impls/Tuple{count}uParse/parse_from/Answers.antt"] = lambda count=count: tuple_answers(count)
-        for block, folder in folders.items():
-            answers = f"{folder.replace('/src/', '/proofs/')}/{half_of(count)}/{block.called(count)}/Answers.antt"
+        found[f"{fields}/proofs/tuples_of_parsers/{parsers_name(count)}/parse_rest/Answers.antt"] = lambda count=count: parsers_answers(count)
+        found[f"{values}/proofs/core_impls/tuples/Tuple{count}uParse/parse_from/Answers.antt"] = lambda count=count: tuple_answers(count)
+    for block in (STRUCTS, TUPLES):
+        for half, counts in HALVES.items():
+            found[f"crates/{block.crate()}/src/{half}.rt"] = lambda block=block, counts=counts: block.file(counts)
+        for count in range(1, MOST + 1):
+            answers = f"crates/{block.crate()}/proofs/{half_of(count)}/{block.called(count)}/Answers.antt"
             found[answers] = lambda block=block, count=count: block.answers(count)
     return found

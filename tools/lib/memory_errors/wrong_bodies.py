@@ -31,7 +31,7 @@ PUT = [
     ("a second constant", "ufmt_core/src/write.rt", r"\n(?=fn )", "const SPENT: AllocError = AllocError;\n"),
     ("a struct in 20 bytes: the error of a text that is none", "ufmt_parse_fields/src/fields.rt", body("parse_block"),
      'if parser.len() == 20 { "".parse::<Spent>()?; }'),
-    ("a tuple of three: the error as a function's name", "ufmt_parse/src/by_count/tuples/few.rt", body("parse_tuple_3"),
+    ("a tuple of three: the error as a function's name", "ufmt_parse_tuples/src/few.rt", body("parse_tuple_3"),
      "Some(()).filter(|_| false).map_or_else(|| Result::Err(alloc_error()), Ok)?;"),
     ("an option in an option: the type of a trait's errors as a value", "ufmt_doc/src/reader/document_sink.rt", body("event"),
      "if self.docs.len() == 2 { return Result::Err::<(), _>(Self::Error); }"),

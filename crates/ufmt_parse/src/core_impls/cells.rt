@@ -1,7 +1,7 @@
 //! `CellValue`, what a cell held when it was read. A `RefCellValue` holds a loan of a cell, so it isn't parsed.
-use crate::by_count::structs::parse_struct_1;
-use crate::uparse::uParse;
+use crate::uparse::{ByType, uParse};
 use ufmt::cells::CellValue;
+use ufmt_parse_structs::parse_struct_1;
 use ufmt_parser::mode::ParseMode;
 use ufmt_parser::parser::{Fault, Parser};
 
@@ -19,7 +19,7 @@ impl<A: Copy, T: uParse<A>> uParse<A> for CellValue<T> {
         alloc: A,
         parser: &mut Parser<'_, M>,
     ) -> Result<CellValue<T>, Fault> {
-        match parse_struct_1(alloc, parser, "Cell", "value") {
+        match parse_struct_1(alloc, parser, "Cell", "value", &ByType) {
             Err(fault) => Err(fault),
             Ok(value) => Ok(CellValue(value)),
         }

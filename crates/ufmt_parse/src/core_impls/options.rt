@@ -1,10 +1,9 @@
 //! Options and results.
 ghost use Rattle.std.specs.Prelude.{◌<◌, IfSome, Ok, Err, suc};
 
-use crate::by_count::tuples::parse_tuple_1;
 use crate::uparse::{ByType, uParse};
 use ufmt::uDebug;
-use ufmt_parse_fields::parse_tuple_1_by;
+use ufmt_parse_tuples::parse_tuple_1;
 use ufmt_parser::mode::ParseMode;
 use ufmt_parser::parser::{Fault, Parser};
 use ufmt_parser::parses_by::ParsesBy;
@@ -45,7 +44,7 @@ impl<A: Copy, M: ParseMode, T: uDebug + Drop, P: ParsesBy<A, M, T>> ParsesBy<A, 
         if parser.eats("None") {
             return Ok(None);
         }
-        match parse_tuple_1_by(alloc, parser, "Some", &self.0) {
+        match parse_tuple_1(alloc, parser, "Some", &self.0) {
             Ok(value) => Ok(Some(value)),
             Err(fault) => Err(fault),
         }
@@ -69,12 +68,12 @@ impl<A: Copy, T: uParse<A>, E: uParse<A>> uParse<A> for Result<T, E> {
         parser: &mut Parser<'_, M>,
     ) -> Result<Result<T, E>, Fault> {
         if parser.is_named("Ok") {
-            return match parse_tuple_1(alloc, parser, "Ok") {
+            return match parse_tuple_1(alloc, parser, "Ok", &ByType) {
                 Ok(value) => Ok(Ok(value)),
                 Err(fault) => Err(fault),
             };
         }
-        match parse_tuple_1(alloc, parser, "Err") {
+        match parse_tuple_1(alloc, parser, "Err", &ByType) {
             Ok(error) => Ok(Err(error)),
             Err(fault) => Err(fault),
         }

@@ -1,20 +1,20 @@
 //! Tests of the calls that take a parser for each field.
 use super::same;
 use ufmt_parse::{
-    ByType, Fault, Optional, Parser, PlainText, parse_struct_1_by, parse_struct_2_by,
-    parse_struct_3_by, parse_struct_4_by, parse_struct_5_by, parse_struct_6_by, parse_tuple_1_by,
-    parse_tuple_2_by, parse_tuple_3_by, parse_tuple_4_by, parse_tuple_5_by, parse_tuple_6_by,
+    ByType, Fault, Optional, Parser, PlainText, parse_struct_1, parse_struct_2, parse_struct_3,
+    parse_struct_4, parse_struct_5, parse_struct_6, parse_tuple_1, parse_tuple_2, parse_tuple_3,
+    parse_tuple_4, parse_tuple_5, parse_tuple_6,
 };
 
 type P<'t> = Parser<'t, PlainText>;
 
 fn struct_1(text: &str) -> Result<u8, Fault> {
-    parse_struct_1_by((), &mut P::new(text.as_bytes()), "S", "a", &ByType)
+    parse_struct_1((), &mut P::new(text.as_bytes()), "S", "a", &ByType)
 }
 
 fn struct_2(text: &str) -> Result<(u8, Option<bool>), Fault> {
     let by = Optional(ByType);
-    parse_struct_2_by(
+    parse_struct_2(
         (),
         &mut P::new(text.as_bytes()),
         "S",
@@ -28,19 +28,19 @@ fn struct_2(text: &str) -> Result<(u8, Option<bool>), Fault> {
 fn struct_3(text: &str) -> Result<(u8, bool, u8), Fault> {
     let p = ByType;
     let mut parser = P::new(text.as_bytes());
-    parse_struct_3_by((), &mut parser, "S", "a", &p, "b", &p, "c", &p)
+    parse_struct_3((), &mut parser, "S", "a", &p, "b", &p, "c", &p)
 }
 
 fn struct_4(text: &str) -> Result<(u8, bool, u8, u8), Fault> {
     let p = ByType;
     let mut parser = P::new(text.as_bytes());
-    parse_struct_4_by((), &mut parser, "S", "a", &p, "b", &p, "c", &p, "d", &p)
+    parse_struct_4((), &mut parser, "S", "a", &p, "b", &p, "c", &p, "d", &p)
 }
 
 fn struct_5(text: &str) -> Result<(u8, bool, u8, u8, u8), Fault> {
     let p = ByType;
     let mut parser = P::new(text.as_bytes());
-    parse_struct_5_by(
+    parse_struct_5(
         (),
         &mut parser,
         "S",
@@ -60,7 +60,7 @@ fn struct_5(text: &str) -> Result<(u8, bool, u8, u8, u8), Fault> {
 fn struct_6(text: &str) -> Result<(u8, bool, u8, u8, u8, u8), Fault> {
     let p = ByType;
     let mut parser = P::new(text.as_bytes());
-    parse_struct_6_by(
+    parse_struct_6(
         (),
         &mut parser,
         "S",
@@ -108,33 +108,33 @@ fn structs_are_parsed_by_parsers(rt: HostRuntime) {
 }
 
 fn tuple_1(text: &str) -> Result<u8, Fault> {
-    parse_tuple_1_by((), &mut P::new(text.as_bytes()), "T", &ByType)
+    parse_tuple_1((), &mut P::new(text.as_bytes()), "T", &ByType)
 }
 
 fn tuple_2(text: &str) -> Result<(u8, Option<bool>), Fault> {
     let by = Optional(ByType);
-    parse_tuple_2_by((), &mut P::new(text.as_bytes()), "T", &ByType, &by)
+    parse_tuple_2((), &mut P::new(text.as_bytes()), "T", &ByType, &by)
 }
 
 fn tuple_3(text: &str) -> Result<(u8, bool, u8), Fault> {
     let p = ByType;
-    parse_tuple_3_by((), &mut P::new(text.as_bytes()), "T", &p, &p, &p)
+    parse_tuple_3((), &mut P::new(text.as_bytes()), "T", &p, &p, &p)
 }
 
 fn tuple_4(text: &str) -> Result<(u8, bool, u8, u8), Fault> {
     let p = ByType;
-    parse_tuple_4_by((), &mut P::new(text.as_bytes()), "T", &p, &p, &p, &p)
+    parse_tuple_4((), &mut P::new(text.as_bytes()), "T", &p, &p, &p, &p)
 }
 
 fn tuple_5(text: &str) -> Result<(u8, bool, u8, u8, u8), Fault> {
     let p = ByType;
-    parse_tuple_5_by((), &mut P::new(text.as_bytes()), "T", &p, &p, &p, &p, &p)
+    parse_tuple_5((), &mut P::new(text.as_bytes()), "T", &p, &p, &p, &p, &p)
 }
 
 fn tuple_6(text: &str) -> Result<(u8, bool, u8, u8, u8, u8), Fault> {
     let p = ByType;
     let mut parser = P::new(text.as_bytes());
-    parse_tuple_6_by((), &mut parser, "T", &p, &p, &p, &p, &p, &p)
+    parse_tuple_6((), &mut parser, "T", &p, &p, &p, &p, &p, &p)
 }
 
 #[test]

@@ -3,8 +3,8 @@ use super::{prints_again, same};
 use std::alloc::{AllocError, Global};
 use ufmt_parse::ParseError::NotText;
 use ufmt_parse::{
-    Fault, ParseError, ParseMode, Parser, PlainText, PrettyText, parse_struct_1, parse_struct_2,
-    parse_struct_3, parse_struct_4, parse_struct_5, parse_struct_6, parse_struct_7,
+    ByType, Fault, ParseError, ParseMode, Parser, PlainText, PrettyText, parse_struct_1,
+    parse_struct_2, parse_struct_3, parse_struct_4, parse_struct_5, parse_struct_6, parse_struct_7,
     parse_struct_12,
 };
 
@@ -164,43 +164,34 @@ type Eleven = (u8, bool, u8, u8, u8, u8, u8, u8, u8, u8, u8);
 
 type Twelve = (u8, bool, u8, u8, u8, u8, u8, u8, u8, u8, u8, u8);
 
+// What this call takes of a struct `Row` with these fields, each parsed by its type.
+macro_rules! by_types {
+    ($call:ident $parser:ident $($name:literal)+) => {
+        $call((), &mut $parser, "Row", $($name, &ByType),+)
+    };
+}
+
 fn one<M: ParseMode>(text: &str) -> Taken<u8> {
     let mut parser: Parser<'_, M> = Parser::new(text.as_bytes());
-    let row = parse_struct_1((), &mut parser, "Row", "a");
+    let row = by_types!(parse_struct_1 parser "a");
     (row.ok(), text.len() - parser.len())
 }
 
 fn three<M: ParseMode>(text: &str) -> Taken<(u8, bool, u8)> {
     let mut parser: Parser<'_, M> = Parser::new(text.as_bytes());
-    let row = parse_struct_3((), &mut parser, "Row", "a", "b", "c");
+    let row = by_types!(parse_struct_3 parser "a" "b" "c");
     (row.ok(), text.len() - parser.len())
 }
 
 fn seven<M: ParseMode>(text: &str) -> Taken<Seven> {
     let mut parser: Parser<'_, M> = Parser::new(text.as_bytes());
-    let row = parse_struct_7((), &mut parser, "Row", "a", "b", "c", "d", "e", "f", "g");
+    let row = by_types!(parse_struct_7 parser "a" "b" "c" "d" "e" "f" "g");
     (row.ok(), text.len() - parser.len())
 }
 
 fn twelve<M: ParseMode>(text: &str) -> Taken<Twelve> {
     let mut parser: Parser<'_, M> = Parser::new(text.as_bytes());
-    let row = parse_struct_12(
-        (),
-        &mut parser,
-        "Row",
-        "a",
-        "b",
-        "c",
-        "d",
-        "e",
-        "f",
-        "g",
-        "h",
-        "i",
-        "j",
-        "k",
-        "l",
-    );
+    let row = by_types!(parse_struct_12 parser "a" "b" "c" "d" "e" "f" "g" "h" "i" "j" "k" "l");
     (row.ok(), text.len() - parser.len())
 }
 
@@ -293,7 +284,7 @@ fn count_of<T: Drop>(
 macro_rules! count {
     ($call:ident $text:ident $count:literal $($type:ident $name:literal)+) => {{
         let mut parser: Parser<'_, PlainText> = Parser::new($text.as_bytes());
-        let outcome = $call::<(), $($type),+, PlainText>((), &mut parser, "S", $($name),+);
+        let outcome: Result<($($type),+), Fault> = $call((), &mut parser, "S", $($name, &ByType),+);
         count_of(outcome, &parser, $count)
     }};
 }

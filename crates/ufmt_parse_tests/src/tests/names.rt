@@ -10,7 +10,8 @@ use super::{first_wrong, same};
 use std::alloc::Global;
 use ufmt::{Formatter, plain_text, pretty_text, uDebug, uWrite};
 use ufmt_parse::{
-    Fault, ParseMode, Parser, parse_struct_1, parse_struct_2, parse_tuple_2, parse_unit, uParse,
+    ByType, Fault, ParseMode, Parser, parse_struct_1, parse_struct_2, parse_tuple_2, parse_unit,
+    uParse,
 };
 
 const SIZE: &str = "Größe";
@@ -49,7 +50,7 @@ impl uParse<Global> for Size {
     }
 
     fn parse_from<M: ParseMode>(alloc: Global, parser: &mut Parser<'_, M>) -> Result<Size, Fault> {
-        match parse_struct_2(alloc, parser, SIZE, HEIGHT, TITLE) {
+        match parse_struct_2(alloc, parser, SIZE, HEIGHT, &ByType, TITLE, &ByType) {
             Ok((height, title)) => Ok(Size { height, title }),
             Err(fault) => Err(fault),
         }
@@ -77,7 +78,7 @@ impl<A: Copy> uParse<A> for Pair {
     }
 
     fn parse_from<M: ParseMode>(alloc: A, parser: &mut Parser<'_, M>) -> Result<Pair, Fault> {
-        match parse_tuple_2(alloc, parser, PAIR) {
+        match parse_tuple_2(alloc, parser, PAIR, &ByType, &ByType) {
             Ok((first, second)) => Ok(Pair(first, second)),
             Err(fault) => Err(fault),
         }
@@ -144,12 +145,12 @@ impl<A: Copy> uParse<A> for Shape {
                 Err(fault) => Err(fault),
             }
         } else if parser.is_named(PATH) {
-            match parse_tuple_2(alloc, parser, PATH) {
+            match parse_tuple_2(alloc, parser, PATH, &ByType, &ByType) {
                 Ok((a, b)) => Ok(Shape::Paired(a, b)),
                 Err(fault) => Err(fault),
             }
         } else if parser.is_named(TITLE) {
-            match parse_struct_1(alloc, parser, TITLE, HEIGHT) {
+            match parse_struct_1(alloc, parser, TITLE, HEIGHT, &ByType) {
                 Ok(height) => Ok(Shape::Raised { height }),
                 Err(fault) => Err(fault),
             }

@@ -21,11 +21,11 @@ returns-in-Err g t c = record {
 pub returns-in-Ok : goal.returns-in-Ok
 returns-in-Ok g t c = record {
   values = (node_made (record { value = c.in-Ok.value; next = c.in-Ok.next })).1 c.in-Ok.ensures.values;
-  taken = subst (λ d. IsTaken g.M.ParseMode.mode c.args.parser.now d c.parse_struct_2_by.new.parser)
+  taken = subst (λ d. IsTaken g.M.ParseMode.mode c.args.parser.now d c.parse_struct_2.new.parser)
       (document_made (record { value = c.in-Ok.value; next = c.in-Ok.next })) c.in-Ok.ensures.taken;
   only = λ n is.
       let parts = (node_is n).0 is in
-      subst (λ d. NextLeaves g.M.ParseMode.mode c.args.parser.now d c.parse_struct_2_by.new.parser) (document_of n)
+      subst (λ d. NextLeaves g.M.ParseMode.mode c.args.parser.now d c.parse_struct_2.new.parser) (document_of n)
       (c.in-Ok.ensures.only (codes "Node") (codes "value") (codes "next") (out-Node n).value (out-Node n).next refl parts.0 parts.1);
   none = tt;
   blocks = c.in-Ok.ensures.blocks;

@@ -22,11 +22,11 @@ returns-in-Err g t c = record {
 pub returns-in-Ok : goal.returns-in-Ok
 returns-in-Ok g t c = record {
   values = (tree_made (record { size = c.in-Ok.size; children = c.in-Ok.children })).1 c.in-Ok.ensures.values;
-  taken = subst (λ d. IsTaken g.M.ParseMode.mode c.args.parser.now d c.parse_struct_2_by.new.parser)
+  taken = subst (λ d. IsTaken g.M.ParseMode.mode c.args.parser.now d c.parse_struct_2.new.parser)
       (sym (fold-roll-Tree _ _ (record { size = c.in-Ok.size; children = c.in-Ok.children }))) c.in-Ok.ensures.taken;
   only = λ v is.
       let parts = (tree_is v).0 is in
-      subst (λ d. NextLeaves g.M.ParseMode.mode c.args.parser.now d c.parse_struct_2_by.new.parser) (sym (fold_out-Tree _ _ v))
+      subst (λ d. NextLeaves g.M.ParseMode.mode c.args.parser.now d c.parse_struct_2.new.parser) (sym (fold_out-Tree _ _ v))
       (c.in-Ok.ensures.only (codes "Tree") (codes "size") (codes "children") (out-Tree v).size (out-Tree v).children refl parts.0 parts.1);
   none = tt;
   blocks = c.in-Ok.ensures.blocks;

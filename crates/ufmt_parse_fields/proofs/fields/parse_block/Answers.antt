@@ -1,5 +1,5 @@
 use Rattle.std.proofs.Common.{◌≡◌, ◌-◌, suc, ap, sym, ◌∙◌, arith}
-use Rattle.ufmt.specs.Layout.{frame}
+use Rattle.ufmt_core.specs.Layout.{frame}
 use Rattle.ufmt_parser.specs.Taking.{open_blocks}
 use Rattle.ufmt_parser.proofs.Settings.{inside-of}
 use Rattle.ufmt_parser.proofs.Taken.{after_piece, piece_refused, taken_with}

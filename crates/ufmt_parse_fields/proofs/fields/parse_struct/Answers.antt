@@ -1,5 +1,5 @@
 use Rattle.std.specs.Prelude.{zip}
-use Rattle.ufmt.specs.Document.{fields_of, struct_of}
+use Rattle.ufmt_core.specs.Document.{fields_of, struct_of}
 use Rattle.ufmt_parser.specs.Fields.{all_now}
 use Rattle.ufmt_parser.specs.Taking.{open_blocks}
 use Rattle.ufmt_parser.proofs.Clauses.{none_clause, only_clause, taken_clause, values_clause}

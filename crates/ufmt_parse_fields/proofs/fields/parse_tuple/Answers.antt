@@ -1,4 +1,4 @@
-use Rattle.ufmt.specs.Document.{documents, tuple_of}
+use Rattle.ufmt_core.specs.Document.{documents, tuple_of}
 use Rattle.ufmt_parser.specs.Taking.{open_blocks}
 use Rattle.ufmt_parser.proofs.Clauses.{none_clause, only_clause, taken_clause, values_clause}
 use Rattle.ufmt_parse_fields.proofs.FieldsInARow.{tuple_row}

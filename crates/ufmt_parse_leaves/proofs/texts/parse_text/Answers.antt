@@ -1,7 +1,7 @@
 use Rattle.std.proofs.Common.{◌++◌, ◌∷◌, ap, subst, sym, ◌∙◌, string_bytes}
 use Rattle.std.proofs.lemmas.Bool.{false≢true}
 use Rattle.std.proofs.lemmas.Str.{IsUtf8-string_bytes}
-use Rattle.ufmt.specs.Quoted.{escaped_bytes}
+use Rattle.ufmt_core.specs.Quoted.{escaped_bytes}
 use Rattle.ufmt_parse_leaves.specs.Spelling.{NeverCloses}
 use Rattle.ufmt_parser.specs.Taking.{open_blocks, rest}
 use Rattle.ufmt_parse_leaves.proofs.QuotedTaken.{never_closed, no_utf8, text_taken}

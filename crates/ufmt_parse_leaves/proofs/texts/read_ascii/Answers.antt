@@ -1,5 +1,5 @@
 use Rattle.std.proofs.Common.{◌++◌, ◌∙◌, ap, sym}
-use Rattle.ufmt.specs.Quoted.{escaped_bytes}
+use Rattle.ufmt_core.specs.Quoted.{escaped_bytes}
 use Rattle.ufmt_parse_leaves.proofs.PlainFronts.{plain_itself}
 use Rattle.ufmt_parse_leaves.proofs.texts.read_ascii.Goals as goal
 

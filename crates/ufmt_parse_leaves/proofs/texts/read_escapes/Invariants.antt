@@ -1,5 +1,5 @@
 use Rattle.std.proofs.Common.{◌≡◌, ◌++◌, length, string_bytes}
-use Rattle.ufmt.specs.Quoted.{escaped_bytes}
+use Rattle.ufmt_core.specs.Quoted.{escaped_bytes}
 use Rattle.ufmt_parse_leaves.proofs.texts.read_escapes.Given as goal
 
 -- the bytes that were read, and what is left to read

@@ -1,5 +1,5 @@
 use Rattle.std.proofs.Common.{codes}
-use Rattle.ufmt.specs.Layout.{layout}
+use Rattle.ufmt_core.specs.Layout.{layout}
 use Rattle.ufmt_parser.specs.Taking.{open_blocks, setting_in}
 use Rattle.ufmt_parser.proofs.Taken.{after_piece, piece_refused}
 use Rattle.ufmt_parser.proofs.entries.NamedEntryParser.parse_entry.Goals as goal

@@ -1,4 +1,4 @@
-use Rattle.ufmt.specs.Layout.{layout}
+use Rattle.ufmt_core.specs.Layout.{layout}
 use Rattle.ufmt_parser.specs.Taking.{Fits, open_blocks, rest, setting_in}
 use Rattle.ufmt_parser.proofs.EntryParts.{failed_key, no_colon, with_value}
 use Rattle.ufmt_parser.proofs.entries.PairEntryParserTuple2.parse_entry.Goals as goal

@@ -1,7 +1,7 @@
 use Rattle.std.proofs.Common.{◌≡◌, subst}
 use Rattle.ufmt_core.specs.Layout.{ending, frame}
 use Rattle.ufmt_core.specs.declared.layout.Count.TheVariants.{Zero}
-use Rattle.ufmt.specs.Reading.{strip}
+use Rattle.ufmt_grammar.specs.Reading.{strip}
 use Rattle.ufmt_parser.specs.Taking.{open_blocks, rest, setting_in}
 use Rattle.ufmt_scan.specs.Rest.{now_of}
 use Rattle.ufmt_parser.proofs.Strips.{shorter, was_there, was_not_there}

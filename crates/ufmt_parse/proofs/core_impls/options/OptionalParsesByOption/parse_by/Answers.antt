@@ -16,9 +16,9 @@ returns-then-eats-clause-takes g c = record {
 pub returns-in-Ok-clause-takes : goal.returns-in-Ok-clause-takes
 returns-in-Ok-clause-takes g c =
     some_taken g.M.ParseMode.mode g.P.ParsesBy.is_value g.T.uDebug.document c.args.parser.now c.eats.new.self (c.if-eats.ensures.stays refl) c.if-eats.ensures.blocks c.if-eats.ensures.eats
-    c.in-Ok.value c.parse_tuple_1_by.new.parser c.in-Ok.ensures.values c.in-Ok.ensures.taken (λ x is. c.in-Ok.ensures.only (codes "Some") x refl is)
+    c.in-Ok.value c.parse_tuple_1.new.parser c.in-Ok.ensures.values c.in-Ok.ensures.taken (λ x is. c.in-Ok.ensures.only (codes "Some") x refl is)
 
 pub returns-in-Err-clause-takes : goal.returns-in-Err-clause-takes
 returns-in-Err-clause-takes g c =
     option_refused g.M.ParseMode.mode g.P.ParsesBy.is_value g.T.uDebug.document c.args.parser.now c.eats.new.self (c.if-eats.ensures.stays refl) c.if-eats.ensures.blocks c.if-eats.ensures.eats
-    c.in-Err.fault (rest c.parse_tuple_1_by.new.parser) (λ is_not x is. c.in-Err.ensures.none is_not (codes "Some") x refl is)
+    c.in-Err.fault (rest c.parse_tuple_1.new.parser) (λ is_not x is. c.in-Err.ensures.none is_not (codes "Some") x refl is)
