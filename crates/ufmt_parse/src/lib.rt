@@ -3,6 +3,17 @@
 //! Values straight from their texts: the mirror of printing. A parser takes a text from the front, piece
 //! by piece, as a formatter writes it. A user names this crate only.
 
+// The value of an `Ok`. An `Err` is returned at once, as by `?`, but without the call that converts the error, of which the
+// check knows too little. Each crate has its own: to a proof the places in another crate's macro have no names.
+macro_rules! tri {
+    ($outcome:expr) => {
+        match $outcome {
+            Err(fault) => return Err(fault),
+            Ok(value) => value,
+        }
+    };
+}
+
 mod by;
 mod core_impls;
 mod error;

@@ -49,12 +49,8 @@ impl<A, M: ParseMode, T: uParse<A>> ParsesBy<A, M, T> for ByType {
 
     #[inline(always)]
     fn parse_by(&self, alloc: A, parser: &mut Parser<'_, M>) -> Result<T, Fault> {
-        match T::parse_from(alloc, parser) {
-            Err(fault) => Err(fault),
-            Ok(value) => {
-                value.prove_value();
-                Ok(value)
-            }
-        }
+        let value = tri!(T::parse_from(alloc, parser));
+        value.prove_value();
+        Ok(value)
     }
 }

@@ -98,13 +98,9 @@ pub fn parse_entries<A: Allocator + Copy, M: ParseMode, E: Drop, P: EntryParser<
     if !parser.opens_block() {
         return Err(Fault::NotText);
     }
-    match parse_some(alloc, parser, kind, by) {
-        Err(fault) => Err(fault),
-        Ok(entries) => {
-            parser.close_block();
-            Ok(entries)
-        }
-    }
+    let entries = tri!(parse_some(alloc, parser, kind, by));
+    parser.close_block();
+    Ok(entries)
 }
 
 // Takes one entry or more of the innermost block, and its end.
@@ -129,14 +125,10 @@ fn parse_some<A: Allocator + Copy, M: ParseMode, E: Drop, P: EntryParser<A, M, E
     }
     let mut entries = Vec::new(alloc);
     'entries: loop {
-        match by.parse_entry(alloc, parser) {
-            Err(fault) => return Err(fault),
-            Ok(entry) => {
-                match entries.push(entry) {
-                    Err(_) => return Err(Fault::OutOfMemory),
-                    Ok(()) => {}
-                }
-            }
+        let entry = tri!(by.parse_entry(alloc, parser));
+        match entries.push(entry) {
+            Err(_) => return Err(Fault::OutOfMemory),
+            Ok(()) => {}
         }
         if !parser.eats(M::mode().trail()) {
             return Err(Fault::NotText);

@@ -112,18 +112,12 @@ fn parse_entry_first<
     if !parser.eats_lead(kind, count) {
         return Err(Fault::NotText);
     }
-    match first.parse_entry(alloc, parser) {
-        Err(fault) => Err(fault),
-        Ok(value) => {
-            if !parser.eats(M::mode().trail()) {
-                return Err(Fault::NotText);
-            }
-            match others.parse_rest(alloc, parser, kind, count.next(), names) {
-                Err(fault) => Err(fault),
-                Ok(values) => Ok((value, values)),
-            }
-        }
+    let value = tri!(first.parse_entry(alloc, parser));
+    if !parser.eats(M::mode().trail()) {
+        return Err(Fault::NotText);
     }
+    let values = tri!(others.parse_rest(alloc, parser, kind, count.next(), names));
+    Ok((value, values))
 }
 
 /// Takes the first of the fields that are left of a block, by its parser, and then the others.
@@ -202,13 +196,9 @@ fn parse_block<A: Copy, M: ParseMode, V: Drop, R: FieldParsers<A, M, V>>(
     if !parser.opens_block() {
         return Err(Fault::NotText);
     }
-    match fields.parse_rest(alloc, parser, kind, Count::Zero, names) {
-        Err(fault) => Err(fault),
-        Ok(values) => {
-            parser.close_block();
-            Ok(values)
-        }
-    }
+    let values = tri!(fields.parse_rest(alloc, parser, kind, Count::Zero, names));
+    parser.close_block();
+    Ok(values)
 }
 
 /// Takes a struct with these fields.

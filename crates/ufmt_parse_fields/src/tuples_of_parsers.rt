@@ -30,10 +30,8 @@ impl<'p, Alloc: Copy, M: ParseMode, A: uDebug + Drop, P: ParsesBy<Alloc, M, A>> 
         count: Count,
         names: &[&str],
     ) -> Result<(A,), Fault> {
-        match parse_first(alloc, parser, kind, count, names, self.0, &()) {
-            Err(fault) => Err(fault),
-            Ok((a, ())) => Ok((a,)),
-        }
+        let (a, ()) = tri!(parse_first(alloc, parser, kind, count, names, self.0, &()));
+        Ok((a,))
     }
 }
 
@@ -63,10 +61,8 @@ impl<
         count: Count,
         names: &[&str],
     ) -> Result<(A, B), Fault> {
-        match parse_first(alloc, parser, kind, count, names, self.0, &(self.1,)) {
-            Err(fault) => Err(fault),
-            Ok((a, (b,))) => Ok((a, b)),
-        }
+        let (a, (b,)) = tri!(parse_first(alloc, parser, kind, count, names, self.0, &(self.1,)));
+        Ok((a, b))
     }
 }
 
@@ -98,10 +94,16 @@ impl<
         count: Count,
         names: &[&str],
     ) -> Result<(A, B, C), Fault> {
-        match parse_first(alloc, parser, kind, count, names, self.0, &(self.1, self.2)) {
-            Err(fault) => Err(fault),
-            Ok((a, (b, c))) => Ok((a, b, c)),
-        }
+        let (a, (b, c)) = tri!(parse_first(
+            alloc,
+            parser,
+            kind,
+            count,
+            names,
+            self.0,
+            &(self.1, self.2)
+        ));
+        Ok((a, b, c))
     }
 }
 
@@ -135,18 +137,16 @@ impl<
         count: Count,
         names: &[&str],
     ) -> Result<(A, B, C, D), Fault> {
-        match parse_first(
+        let (a, (b, c, d)) = tri!(parse_first(
             alloc,
             parser,
             kind,
             count,
             names,
             self.0,
-            &(self.1, self.2, self.3),
-        ) {
-            Err(fault) => Err(fault),
-            Ok((a, (b, c, d))) => Ok((a, b, c, d)),
-        }
+            &(self.1, self.2, self.3)
+        ));
+        Ok((a, b, c, d))
     }
 }
 
@@ -182,18 +182,16 @@ impl<
         count: Count,
         names: &[&str],
     ) -> Result<(A, B, C, D, E), Fault> {
-        match parse_first(
+        let (a, (b, c, d, e)) = tri!(parse_first(
             alloc,
             parser,
             kind,
             count,
             names,
             self.0,
-            &(self.1, self.2, self.3, self.4),
-        ) {
-            Err(fault) => Err(fault),
-            Ok((a, (b, c, d, e))) => Ok((a, b, c, d, e)),
-        }
+            &(self.1, self.2, self.3, self.4)
+        ));
+        Ok((a, b, c, d, e))
     }
 }
 
@@ -231,18 +229,16 @@ impl<
         count: Count,
         names: &[&str],
     ) -> Result<(A, B, C, D, E, F), Fault> {
-        match parse_first(
+        let (a, (b, c, d, e, f)) = tri!(parse_first(
             alloc,
             parser,
             kind,
             count,
             names,
             self.0,
-            &(self.1, self.2, self.3, self.4, self.5),
-        ) {
-            Err(fault) => Err(fault),
-            Ok((a, (b, c, d, e, f))) => Ok((a, b, c, d, e, f)),
-        }
+            &(self.1, self.2, self.3, self.4, self.5)
+        ));
+        Ok((a, b, c, d, e, f))
     }
 }
 
@@ -283,18 +279,16 @@ impl<
         count: Count,
         names: &[&str],
     ) -> Result<(A, B, C, D, E, F, G), Fault> {
-        match parse_first(
+        let (a, (b, c, d, e, f, g)) = tri!(parse_first(
             alloc,
             parser,
             kind,
             count,
             names,
             self.0,
-            &(self.1, self.2, self.3, self.4, self.5, self.6),
-        ) {
-            Err(fault) => Err(fault),
-            Ok((a, (b, c, d, e, f, g))) => Ok((a, b, c, d, e, f, g)),
-        }
+            &(self.1, self.2, self.3, self.4, self.5, self.6)
+        ));
+        Ok((a, b, c, d, e, f, g))
     }
 }
 
@@ -337,18 +331,16 @@ impl<
         count: Count,
         names: &[&str],
     ) -> Result<(A, B, C, D, E, F, G, H), Fault> {
-        match parse_first(
+        let (a, (b, c, d, e, f, g, h)) = tri!(parse_first(
             alloc,
             parser,
             kind,
             count,
             names,
             self.0,
-            &(self.1, self.2, self.3, self.4, self.5, self.6, self.7),
-        ) {
-            Err(fault) => Err(fault),
-            Ok((a, (b, c, d, e, f, g, h))) => Ok((a, b, c, d, e, f, g, h)),
-        }
+            &(self.1, self.2, self.3, self.4, self.5, self.6, self.7)
+        ));
+        Ok((a, b, c, d, e, f, g, h))
     }
 }
 
@@ -403,7 +395,7 @@ impl<
         count: Count,
         names: &[&str],
     ) -> Result<(A, B, C, D, E, F, G, H, I), Fault> {
-        match parse_first(
+        let (a, (b, c, d, e, f, g, h, i)) = tri!(parse_first(
             alloc,
             parser,
             kind,
@@ -411,12 +403,10 @@ impl<
             names,
             self.0,
             &(
-                self.1, self.2, self.3, self.4, self.5, self.6, self.7, self.8,
-            ),
-        ) {
-            Err(fault) => Err(fault),
-            Ok((a, (b, c, d, e, f, g, h, i))) => Ok((a, b, c, d, e, f, g, h, i)),
-        }
+                self.1, self.2, self.3, self.4, self.5, self.6, self.7, self.8
+            )
+        ));
+        Ok((a, b, c, d, e, f, g, h, i))
     }
 }
 
@@ -474,7 +464,7 @@ impl<
         count: Count,
         names: &[&str],
     ) -> Result<(A, B, C, D, E, F, G, H, I, J), Fault> {
-        match parse_first(
+        let (a, (b, c, d, e, f, g, h, i, j)) = tri!(parse_first(
             alloc,
             parser,
             kind,
@@ -482,12 +472,10 @@ impl<
             names,
             self.0,
             &(
-                self.1, self.2, self.3, self.4, self.5, self.6, self.7, self.8, self.9,
-            ),
-        ) {
-            Err(fault) => Err(fault),
-            Ok((a, (b, c, d, e, f, g, h, i, j))) => Ok((a, b, c, d, e, f, g, h, i, j)),
-        }
+                self.1, self.2, self.3, self.4, self.5, self.6, self.7, self.8, self.9
+            )
+        ));
+        Ok((a, b, c, d, e, f, g, h, i, j))
     }
 }
 
@@ -548,7 +536,7 @@ impl<
         count: Count,
         names: &[&str],
     ) -> Result<(A, B, C, D, E, F, G, H, I, J, K), Fault> {
-        match parse_first(
+        let (a, (b, c, d, e, f, g, h, i, j, k)) = tri!(parse_first(
             alloc,
             parser,
             kind,
@@ -556,12 +544,10 @@ impl<
             names,
             self.0,
             &(
-                self.1, self.2, self.3, self.4, self.5, self.6, self.7, self.8, self.9, self.10,
-            ),
-        ) {
-            Err(fault) => Err(fault),
-            Ok((a, (b, c, d, e, f, g, h, i, j, k))) => Ok((a, b, c, d, e, f, g, h, i, j, k)),
-        }
+                self.1, self.2, self.3, self.4, self.5, self.6, self.7, self.8, self.9, self.10
+            )
+        ));
+        Ok((a, b, c, d, e, f, g, h, i, j, k))
     }
 }
 
@@ -625,7 +611,7 @@ impl<
         count: Count,
         names: &[&str],
     ) -> Result<(A, B, C, D, E, F, G, H, I, J, K, L), Fault> {
-        match parse_first(
+        let (a, (b, c, d, e, f, g, h, i, j, k, l)) = tri!(parse_first(
             alloc,
             parser,
             kind,
@@ -634,11 +620,9 @@ impl<
             self.0,
             &(
                 self.1, self.2, self.3, self.4, self.5, self.6, self.7, self.8, self.9, self.10,
-                self.11,
-            ),
-        ) {
-            Err(fault) => Err(fault),
-            Ok((a, (b, c, d, e, f, g, h, i, j, k, l))) => Ok((a, b, c, d, e, f, g, h, i, j, k, l)),
-        }
+                self.11
+            )
+        ));
+        Ok((a, b, c, d, e, f, g, h, i, j, k, l))
     }
 }

@@ -102,17 +102,11 @@ impl<
 
     #[inline(always)]
     fn parse_entry(&self, alloc: A, parser: &mut Parser<'_, M>) -> Result<(T, U), Fault> {
-        match self.0.parse_by(alloc, parser) {
-            Err(fault) => Err(fault),
-            Ok(key) => {
-                if !parser.eats(COLON) {
-                    return Err(Fault::NotText);
-                }
-                match self.1.parse_by(alloc, parser) {
-                    Err(fault) => Err(fault),
-                    Ok(value) => Ok((key, value)),
-                }
-            }
+        let key = tri!(self.0.parse_by(alloc, parser));
+        if !parser.eats(COLON) {
+            return Err(Fault::NotText);
         }
+        let value = tri!(self.1.parse_by(alloc, parser));
+        Ok((key, value))
     }
 }

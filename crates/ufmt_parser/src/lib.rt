@@ -3,6 +3,17 @@
 //! What is left of a text, and what is taken from its front, piece by piece. A user names `ufmt_parse` only, which
 //! re-exports what a user needs of this.
 
+// The value of an `Ok`. An `Err` is returned at once, as by `?`, but without the call that converts the error, of which the
+// check knows too little. Each crate has its own: to a proof the places in another crate's macro have no names.
+macro_rules! tri {
+    ($outcome:expr) => {
+        match $outcome {
+            Err(fault) => return Err(fault),
+            Ok(value) => value,
+        }
+    };
+}
+
 pub mod entries;
 pub mod mode;
 pub mod parser;

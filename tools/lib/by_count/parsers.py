@@ -301,10 +301,8 @@ impl<{", ".join(generics)}> FieldParsers<Alloc, M, {tuple_of(types)}> for {tuple
 
     #[inline(always)]
     fn parse_rest(&self, alloc: Alloc, parser: &mut Parser<'_, M>, kind: Kind, count: Count, names: &[&str]) -> Result<{tuple_of(types)}, Fault> {{
-        match parse_first(alloc, parser, kind, count, names, self.0, &{others}) {{
-            Err(fault) => Err(fault),
-            Ok(({fields[0]}, {tuple_of(fields[1:])})) => Ok({tuple_of(fields)}),
-        }}
+        let ({fields[0]}, {tuple_of(fields[1:])}) = tri!(parse_first(alloc, parser, kind, count, names, self.0, &{others}));
+        Ok({tuple_of(fields)})
     }}
 }}
 """
@@ -323,8 +321,8 @@ use Rattle.ufmt_parse_fields.proofs.tuples_of_parsers.{parsers_name(count)}.pars
 pub returns-in-Err-clause-takes : goal.returns-in-Err-clause-takes
 returns-in-Err-clause-takes g c = {takes} c.in-Err.ensures.takes
 
-pub returns-in-Ok-clause-takes : goal.returns-in-Ok-clause-takes
-returns-in-Ok-clause-takes g c = {takes} c.in-Ok.ensures.takes
+pub returns-clause-takes : goal.returns-clause-takes
+returns-clause-takes g c = {takes} c.in-Ok.ensures.takes
 
 pub returns-in-Err-clause-memory : goal.returns-in-Err-clause-memory
 returns-in-Err-clause-memory g c = c.in-Err.ensures.memory

@@ -19,9 +19,7 @@ impl<A: Copy, T: uParse<A>> uParse<A> for CellValue<T> {
         alloc: A,
         parser: &mut Parser<'_, M>,
     ) -> Result<CellValue<T>, Fault> {
-        match parse_struct_1(alloc, parser, "Cell", "value", &ByType) {
-            Err(fault) => Err(fault),
-            Ok(value) => Ok(CellValue(value)),
-        }
+        let value = tri!(parse_struct_1(alloc, parser, "Cell", "value", &ByType));
+        Ok(CellValue(value))
     }
 }

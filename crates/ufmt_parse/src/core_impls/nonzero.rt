@@ -56,15 +56,13 @@ fn parse_non_zero<A, N: uParse<A>, T: NonZero<A, N>, M: ParseMode>(
 {
     T::prove_number();
     let before = parser.rest();
-    match N::parse_from(alloc, parser) {
-        Err(fault) => Err(fault),
-        Ok(number) => match T::from_number(number) {
-            None => {
-                parser.skip_to(before);
-                Err(Fault::NotText)
-            }
-            Some(value) => Ok(value),
-        },
+    let number = tri!(N::parse_from(alloc, parser));
+    match T::from_number(number) {
+        None => {
+            parser.skip_to(before);
+            Err(Fault::NotText)
+        }
+        Some(value) => Ok(value),
     }
 }
 

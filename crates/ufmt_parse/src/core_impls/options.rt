@@ -44,10 +44,8 @@ impl<A: Copy, M: ParseMode, T: uDebug + Drop, P: ParsesBy<A, M, T>> ParsesBy<A, 
         if parser.eats("None") {
             return Ok(None);
         }
-        match parse_tuple_1(alloc, parser, "Some", &self.0) {
-            Ok(value) => Ok(Some(value)),
-            Err(fault) => Err(fault),
-        }
+        let value = tri!(parse_tuple_1(alloc, parser, "Some", &self.0));
+        Ok(Some(value))
     }
 }
 
@@ -68,14 +66,10 @@ impl<A: Copy, T: uParse<A>, E: uParse<A>> uParse<A> for Result<T, E> {
         parser: &mut Parser<'_, M>,
     ) -> Result<Result<T, E>, Fault> {
         if parser.is_named("Ok") {
-            return match parse_tuple_1(alloc, parser, "Ok", &ByType) {
-                Ok(value) => Ok(Ok(value)),
-                Err(fault) => Err(fault),
-            };
+            let value = tri!(parse_tuple_1(alloc, parser, "Ok", &ByType));
+            return Ok(Ok(value));
         }
-        match parse_tuple_1(alloc, parser, "Err", &ByType) {
-            Ok(error) => Ok(Err(error)),
-            Err(fault) => Err(fault),
-        }
+        let error = tri!(parse_tuple_1(alloc, parser, "Err", &ByType));
+        Ok(Err(error))
     }
 }

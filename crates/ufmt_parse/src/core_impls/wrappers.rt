@@ -20,10 +20,8 @@ impl<A, T: uParse<A>> uParse<A> for Wrapping<T> {
         alloc: A,
         parser: &mut Parser<'_, M>,
     ) -> Result<Wrapping<T>, Fault> {
-        match T::parse_from(alloc, parser) {
-            Err(fault) => Err(fault),
-            Ok(value) => Ok(Wrapping(value)),
-        }
+        let value = tri!(T::parse_from(alloc, parser));
+        Ok(Wrapping(value))
     }
 }
 
@@ -41,10 +39,8 @@ impl<A, T: uParse<A>> uParse<A> for Saturating<T> {
         alloc: A,
         parser: &mut Parser<'_, M>,
     ) -> Result<Saturating<T>, Fault> {
-        match T::parse_from(alloc, parser) {
-            Err(fault) => Err(fault),
-            Ok(value) => Ok(Saturating(value)),
-        }
+        let value = tri!(T::parse_from(alloc, parser));
+        Ok(Saturating(value))
     }
 }
 

@@ -34,12 +34,10 @@ impl<A: Allocator + Copy, M: ParseMode, T: uDebug + Drop, P: ParsesBy<A, M, T>> 
     ghost ready = { λ boxed blocks. P.ready boxed.0 blocks };
 
     fn parse_by(&self, alloc: A, parser: &mut Parser<'_, M>) -> Result<Box<T, A>, Fault> {
-        match self.0.parse_by(alloc, parser) {
-            Err(fault) => Err(fault),
-            Ok(value) => match Box::new(alloc, value) {
-                Err(_) => Err(Fault::OutOfMemory),
-                Ok(boxed) => Ok(boxed),
-            },
+        let value = tri!(self.0.parse_by(alloc, parser));
+        match Box::new(alloc, value) {
+            Err(_) => Err(Fault::OutOfMemory),
+            Ok(boxed) => Ok(boxed),
         }
     }
 }

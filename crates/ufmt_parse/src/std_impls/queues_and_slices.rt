@@ -31,10 +31,8 @@ impl<A: Allocator + Copy, T: uParse<A>> uParse<A> for VecDeque<T, A> {
         alloc: A,
         parser: &mut Parser<'_, M>,
     ) -> Result<VecDeque<T, A>, Fault> {
-        match parse_list(alloc, parser, &Value(ByType)) {
-            Err(fault) => Err(fault),
-            Ok(values) => Ok(VecDeque::from_vec(values)),
-        }
+        let values = tri!(parse_list(alloc, parser, &Value(ByType)));
+        Ok(VecDeque::from_vec(values))
     }
 }
 
@@ -52,12 +50,10 @@ impl<A: Allocator + Copy, T: uParse<A>> uParse<A> for LinkedList<T, A> {
         alloc: A,
         parser: &mut Parser<'_, M>,
     ) -> Result<LinkedList<T, A>, Fault> {
-        match parse_list(alloc, parser, &Value(ByType)) {
-            Err(fault) => Err(fault),
-            Ok(values) => match linked(alloc, values) {
-                Err(_) => Err(Fault::OutOfMemory),
-                Ok(list) => Ok(list),
-            },
+        let values = tri!(parse_list(alloc, parser, &Value(ByType)));
+        match linked(alloc, values) {
+            Err(_) => Err(Fault::OutOfMemory),
+            Ok(list) => Ok(list),
         }
     }
 }
@@ -97,10 +93,8 @@ impl<A: Allocator + Copy, T: uParse<A>> uParse<A> for BoxedSlice<T, A> {
         alloc: A,
         parser: &mut Parser<'_, M>,
     ) -> Result<BoxedSlice<T, A>, Fault> {
-        match <Vec<T, A>>::parse_from(alloc, parser) {
-            Err(fault) => Err(fault),
-            Ok(values) => Ok(values.into_boxed_slice()),
-        }
+        let values = tri!(<Vec<T, A>>::parse_from(alloc, parser));
+        Ok(values.into_boxed_slice())
     }
 }
 
@@ -115,12 +109,10 @@ impl<A: Allocator + Copy, T: uParse<A>> uParse<A> for RcSlice<T, A> {
         alloc: A,
         parser: &mut Parser<'_, M>,
     ) -> Result<RcSlice<T, A>, Fault> {
-        match <Vec<T, A>>::parse_from(alloc, parser) {
-            Err(fault) => Err(fault),
-            Ok(values) => match RcSlice::from_vec(values) {
-                Err(_) => Err(Fault::OutOfMemory),
-                Ok(slice) => Ok(slice),
-            },
+        let values = tri!(<Vec<T, A>>::parse_from(alloc, parser));
+        match RcSlice::from_vec(values) {
+            Err(_) => Err(Fault::OutOfMemory),
+            Ok(slice) => Ok(slice),
         }
     }
 }
@@ -136,12 +128,10 @@ impl<A: Allocator + Copy, T: uParse<A>> uParse<A> for ArcSlice<T, A> {
         alloc: A,
         parser: &mut Parser<'_, M>,
     ) -> Result<ArcSlice<T, A>, Fault> {
-        match <Vec<T, A>>::parse_from(alloc, parser) {
-            Err(fault) => Err(fault),
-            Ok(values) => match ArcSlice::from_vec(values) {
-                Err(_) => Err(Fault::OutOfMemory),
-                Ok(slice) => Ok(slice),
-            },
+        let values = tri!(<Vec<T, A>>::parse_from(alloc, parser));
+        match ArcSlice::from_vec(values) {
+            Err(_) => Err(Fault::OutOfMemory),
+            Ok(slice) => Ok(slice),
         }
     }
 }
@@ -158,9 +148,7 @@ impl<'a, A: Allocator + Copy, T: uParse<A>> uParse<A> for CowSlice<'a, T, A> {
         alloc: A,
         parser: &mut Parser<'_, M>,
     ) -> Result<CowSlice<'a, T, A>, Fault> {
-        match parse_list(alloc, parser, &Value(ByType)) {
-            Err(fault) => Err(fault),
-            Ok(values) => Ok(CowSlice::Owned(values)),
-        }
+        let values = tri!(parse_list(alloc, parser, &Value(ByType)));
+        Ok(CowSlice::Owned(values))
     }
 }

@@ -19,12 +19,10 @@ impl<A: Allocator + Copy, T: uParse<A>> uParse<A> for Rc<T, A> {
     }
 
     fn parse_from<M: ParseMode>(alloc: A, parser: &mut Parser<'_, M>) -> Result<Rc<T, A>, Fault> {
-        match T::parse_from(alloc, parser) {
-            Err(fault) => Err(fault),
-            Ok(value) => match Rc::new(alloc, value) {
-                Err(_) => Err(Fault::OutOfMemory),
-                Ok(shared) => Ok(shared),
-            },
+        let value = tri!(T::parse_from(alloc, parser));
+        match Rc::new(alloc, value) {
+            Err(_) => Err(Fault::OutOfMemory),
+            Ok(shared) => Ok(shared),
         }
     }
 }
@@ -38,12 +36,10 @@ impl<A: Allocator + Copy, T: uParse<A>> uParse<A> for Arc<T, A> {
     }
 
     fn parse_from<M: ParseMode>(alloc: A, parser: &mut Parser<'_, M>) -> Result<Arc<T, A>, Fault> {
-        match T::parse_from(alloc, parser) {
-            Err(fault) => Err(fault),
-            Ok(value) => match Arc::new(alloc, value) {
-                Err(_) => Err(Fault::OutOfMemory),
-                Ok(shared) => Ok(shared),
-            },
+        let value = tri!(T::parse_from(alloc, parser));
+        match Arc::new(alloc, value) {
+            Err(_) => Err(Fault::OutOfMemory),
+            Ok(shared) => Ok(shared),
         }
     }
 }
@@ -59,9 +55,7 @@ impl<'a, A, T: uParse<A>> uParse<A> for Cow<'a, T> {
     }
 
     fn parse_from<M: ParseMode>(alloc: A, parser: &mut Parser<'_, M>) -> Result<Cow<'a, T>, Fault> {
-        match T::parse_from(alloc, parser) {
-            Err(fault) => Err(fault),
-            Ok(value) => Ok(Cow::Owned(value)),
-        }
+        let value = tri!(T::parse_from(alloc, parser));
+        Ok(Cow::Owned(value))
     }
 }

@@ -50,16 +50,14 @@ fn parse_set<A: Allocator + Copy, T: ParseKey<A>, M: ParseMode>(
 {
     T::prove_key();
     let start = parser.rest();
-    match parse_keys(alloc, parser, &Value(ByType)) {
-        Err(fault) => Err(fault),
-        Ok(keys) => match ascending_set(alloc, keys) {
-            Err(_) => Err(Fault::OutOfMemory),
-            Ok(None) => {
-                parser.skip_to(start);
-                Err(Fault::NotText)
-            }
-            Ok(Some(set)) => Ok(set),
-        },
+    let keys = tri!(parse_keys(alloc, parser, &Value(ByType)));
+    match ascending_set(alloc, keys) {
+        Err(_) => Err(Fault::OutOfMemory),
+        Ok(None) => {
+            parser.skip_to(start);
+            Err(Fault::NotText)
+        }
+        Ok(Some(set)) => Ok(set),
     }
 }
 
@@ -100,15 +98,13 @@ fn parse_map<A: Allocator + Copy, K: ParseKey<A>, V: uParse<A>, M: ParseMode>(
 {
     K::prove_key();
     let start = parser.rest();
-    match parse_pairs(alloc, parser, &Pair(ByType, ByType)) {
-        Err(fault) => Err(fault),
-        Ok(entries) => match ascending_map(alloc, entries) {
-            Err(_) => Err(Fault::OutOfMemory),
-            Ok(None) => {
-                parser.skip_to(start);
-                Err(Fault::NotText)
-            }
-            Ok(Some(map)) => Ok(map),
-        },
+    let entries = tri!(parse_pairs(alloc, parser, &Pair(ByType, ByType)));
+    match ascending_map(alloc, entries) {
+        Err(_) => Err(Fault::OutOfMemory),
+        Ok(None) => {
+            parser.skip_to(start);
+            Err(Fault::NotText)
+        }
+        Ok(Some(map)) => Ok(map),
     }
 }

@@ -33,10 +33,8 @@ impl<A: Allocator + Copy> uParse<A> for BoxedStr<A> {
         alloc: A,
         parser: &mut Parser<'_, M>,
     ) -> Result<BoxedStr<A>, Fault> {
-        match String::parse_from(alloc, parser) {
-            Err(fault) => Err(fault),
-            Ok(text) => Ok(text.into_boxed_str()),
-        }
+        let text = tri!(String::parse_from(alloc, parser));
+        Ok(text.into_boxed_str())
     }
 }
 
@@ -46,12 +44,10 @@ impl<A: Allocator + Copy> uParse<A> for RcStr<A> {
     fn prove_value(&self) {}
 
     fn parse_from<M: ParseMode>(alloc: A, parser: &mut Parser<'_, M>) -> Result<RcStr<A>, Fault> {
-        match String::parse_from(alloc, parser) {
-            Err(fault) => Err(fault),
-            Ok(text) => match RcStr::from_string(text) {
-                Err(_) => Err(Fault::OutOfMemory),
-                Ok(shared) => Ok(shared),
-            },
+        let text = tri!(String::parse_from(alloc, parser));
+        match RcStr::from_string(text) {
+            Err(_) => Err(Fault::OutOfMemory),
+            Ok(shared) => Ok(shared),
         }
     }
 }
@@ -62,12 +58,10 @@ impl<A: Allocator + Copy> uParse<A> for ArcStr<A> {
     fn prove_value(&self) {}
 
     fn parse_from<M: ParseMode>(alloc: A, parser: &mut Parser<'_, M>) -> Result<ArcStr<A>, Fault> {
-        match String::parse_from(alloc, parser) {
-            Err(fault) => Err(fault),
-            Ok(text) => match ArcStr::from_string(text) {
-                Err(_) => Err(Fault::OutOfMemory),
-                Ok(shared) => Ok(shared),
-            },
+        let text = tri!(String::parse_from(alloc, parser));
+        match ArcStr::from_string(text) {
+            Err(_) => Err(Fault::OutOfMemory),
+            Ok(shared) => Ok(shared),
         }
     }
 }
@@ -85,9 +79,7 @@ impl<'a, A: Allocator + Copy> uParse<A> for CowStr<'a, A> {
         alloc: A,
         parser: &mut Parser<'_, M>,
     ) -> Result<CowStr<'a, A>, Fault> {
-        match parse_text(alloc, parser) {
-            Err(fault) => Err(fault),
-            Ok(text) => Ok(CowStr::Owned(text)),
-        }
+        let text = tri!(parse_text(alloc, parser));
+        Ok(CowStr::Owned(text))
     }
 }

@@ -73,14 +73,12 @@ fn parse_array<A: Allocator + Copy, T: uParse<A>, const N: usize, M: ParseMode>(
     ensures shrinks { length (rest parser.new) ≤ length (rest parser.old) }
 {
     let start = parser.rest();
-    match parse_list(alloc, parser, &Value(ByType)) {
-        Err(fault) => Err(fault),
-        Ok(values) => match <[T; N]>::try_from(values) {
-            Err(_) => {
-                parser.skip_to(start);
-                Err(Fault::NotText)
-            }
-            Ok(array) => Ok(array),
-        },
+    let values = tri!(parse_list(alloc, parser, &Value(ByType)));
+    match <[T; N]>::try_from(values) {
+        Err(_) => {
+            parser.skip_to(start);
+            Err(Fault::NotText)
+        }
+        Ok(array) => Ok(array),
     }
 }

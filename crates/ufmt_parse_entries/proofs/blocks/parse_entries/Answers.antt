@@ -30,8 +30,8 @@ returns-in-Err-clause-takes g c =
     (subst (λ n. n < 255) same c.if-not-opens_block.ensures.counts.0)
     (in_block fit (g.P.EntryParser.text c.args.by.now) mode c.args.kind blocks (c.if-not-opens_block.ensures.counts.1 ∙ ap suc same) c.in-Err.ensures.takes))
 
-pub returns-in-Ok-clause-takes : goal.returns-in-Ok-clause-takes
-returns-in-Ok-clause-takes g c =
+pub returns-clause-takes : goal.returns-clause-takes
+returns-clause-takes g c =
     let mode = g.M.ParseMode.mode in
     let blocks = open_blocks c.args.parser.now in
     let fit = g.P.EntryParser.fit in

@@ -20,8 +20,8 @@ returns-in-Err-clause-takes g c =
     after_piece c.args.name.now c.if-not-eats.ensures.eats
     (after_piece (frame g.M.ParseMode.mode c.args.kind).opening (rw (c.opening.ensures g.M.ParseMode.mode) at c.if-not-eats-2.ensures.eats) (taken_with few takes))
 
-pub returns-in-Ok-clause-takes : goal.returns-in-Ok-clause-takes
-returns-in-Ok-clause-takes g c =
+pub returns-clause-takes : goal.returns-clause-takes
+returns-clause-takes g c =
     let same : open_blocks c.eats-2.new.self ≡ open_blocks c.args.parser.now = c.eats-2.ensures.blocks ∙ c.eats.ensures.blocks in
     let inside : open_blocks c.opens_block.new.self ≡ suc (open_blocks c.args.parser.now) = c.if-not-opens_block.ensures.counts.1 ∙ ap suc same in
     let outside : suc (open_blocks c.args.parser.now) - 1 ≡ open_blocks c.args.parser.now = omega arith in

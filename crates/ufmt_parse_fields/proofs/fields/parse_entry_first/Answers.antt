@@ -38,8 +38,8 @@ returns-in-Err-parse_rest-clause-takes g c =
     {here = rest c.eats_lead.new.self} c.if-not-eats_lead.ensures.eats {after = rest c.parse_entry.new.parser} (rw c.eats_lead.ensures.blocks at c.in-Ok.ensures.takes)
     {further = rest c.eats.new.self} (rw (c.trail.ensures, c.mode.ensures) at c.if-not-eats.ensures.eats) {new = rest c.parse_rest.new.parser} same
 
-pub returns-in-Ok-parse_rest-clause-takes : goal.returns-in-Ok-parse_rest-clause-takes
-returns-in-Ok-parse_rest-clause-takes g c =
+pub returns-clause-takes : goal.returns-clause-takes
+returns-clause-takes g c =
     let blocks = open_blocks c.args.parser.now in
     let same = rw (c.eats.ensures.blocks, c.in-Ok.ensures.blocks, c.eats_lead.ensures.blocks, c.next.ensures) at c.in-Ok-parse_rest.ensures.takes in
     with_others g.M.ParseMode.mode c.args.kind c.args.count blocks c.requires.opened c.eats_lead.ensures.counted

@@ -5,8 +5,8 @@ use Rattle.ufmt_parse_fields.proofs.tuples_of_parsers.Tuple1RefFieldParsersTuple
 pub returns-in-Err-clause-takes : goal.returns-in-Err-clause-takes
 returns-in-Err-clause-takes g c = viewed (λ v. (v.0, tt)) c.in-Err.ensures.takes
 
-pub returns-in-Ok-clause-takes : goal.returns-in-Ok-clause-takes
-returns-in-Ok-clause-takes g c = viewed (λ v. (v.0, tt)) c.in-Ok.ensures.takes
+pub returns-clause-takes : goal.returns-clause-takes
+returns-clause-takes g c = viewed (λ v. (v.0, tt)) c.in-Ok.ensures.takes
 
 pub returns-in-Err-clause-memory : goal.returns-in-Err-clause-memory
 returns-in-Err-clause-memory g c = c.in-Err.ensures.memory

@@ -22,13 +22,13 @@ returns-in-Err-parse_by-clause-takes g c =
     let blocks = open_blocks c.args.parser.now in
     with_value (λ v. g.K.ParsesBy.is_value v × Fits blocks (g.T.uDebug.document v)) (λ v. layout (setting_in g.M.ParseMode.mode blocks) (g.T.uDebug.document v))
     (λ v. g.P.ParsesBy.is_value v × Fits blocks (g.U.uDebug.document v)) (λ v. layout (setting_in g.M.ParseMode.mode blocks) (g.U.uDebug.document v))
-    {after = rest c.parse_by.new.parser} c.in-Ok.ensures.takes {further = rest c.eats.new.self} c.if-not-eats.ensures.eats {new = rest c.parse_by-in-Ok.new.parser}
+    {after = rest c.parse_by.new.parser} c.in-Ok.ensures.takes {further = rest c.eats.new.self} c.if-not-eats.ensures.eats {new = rest c.parse_by-2.new.parser}
     (rw (c.eats.ensures.blocks, c.in-Ok.ensures.blocks) at c.in-Err-parse_by.ensures.takes)
 
-pub returns-in-Ok-parse_by-clause-takes : goal.returns-in-Ok-parse_by-clause-takes
-returns-in-Ok-parse_by-clause-takes g c =
+pub returns-clause-takes : goal.returns-clause-takes
+returns-clause-takes g c =
     let blocks = open_blocks c.args.parser.now in
     with_value (λ v. g.K.ParsesBy.is_value v × Fits blocks (g.T.uDebug.document v)) (λ v. layout (setting_in g.M.ParseMode.mode blocks) (g.T.uDebug.document v))
     (λ v. g.P.ParsesBy.is_value v × Fits blocks (g.U.uDebug.document v)) (λ v. layout (setting_in g.M.ParseMode.mode blocks) (g.U.uDebug.document v))
-    {after = rest c.parse_by.new.parser} c.in-Ok.ensures.takes {further = rest c.eats.new.self} c.if-not-eats.ensures.eats {new = rest c.parse_by-in-Ok.new.parser}
+    {after = rest c.parse_by.new.parser} c.in-Ok.ensures.takes {further = rest c.eats.new.self} c.if-not-eats.ensures.eats {new = rest c.parse_by-2.new.parser}
     (rw (c.eats.ensures.blocks, c.in-Ok.ensures.blocks) at c.in-Ok-parse_by.ensures.takes)

@@ -13,8 +13,8 @@ returns-then-eats-clause-takes g c = record {
   );
 }
 
-pub returns-in-Ok-clause-takes : goal.returns-in-Ok-clause-takes
-returns-in-Ok-clause-takes g c =
+pub returns-clause-takes : goal.returns-clause-takes
+returns-clause-takes g c =
     some_taken g.M.ParseMode.mode g.P.ParsesBy.is_value g.T.uDebug.document c.args.parser.now c.eats.new.self (c.if-eats.ensures.stays refl) c.if-eats.ensures.blocks c.if-eats.ensures.eats
     c.in-Ok.value c.parse_tuple_1.new.parser c.in-Ok.ensures.values c.in-Ok.ensures.taken (λ x is. c.in-Ok.ensures.only (codes "Some") x refl is)
 

@@ -7,14 +7,14 @@ use Rattle.ufmt_parser.proofs.Clauses.{none_clause, only_clause, taken_clause}
 use Rattle.ufmt_parser.proofs.Views.{viewed}
 use Rattle.ufmt_parse.proofs.std_impls.queues_and_slices.CowSliceuParse.parse_from.Goals as goal
 
-pub returns-in-Ok-clause-taken : goal.returns-in-Ok-clause-taken
-returns-in-Ok-clause-taken g c =
+pub returns-clause-taken : goal.returns-clause-taken
+returns-clause-taken g c =
     taken_clause g.M.ParseMode.mode (λ slice. All g.T.uParse.is_value (cow_slice_items slice))
     (λ slice. list_of (documents (map g.T.uDebug.document (cow_slice_items slice))))
     c.args.parser.now c.parse_list.new.parser (Ok (Owned c.in-Ok.values)) (viewed cow_slice_items c.in-Ok.ensures.takes)
 
-pub returns-in-Ok-clause-only : goal.returns-in-Ok-clause-only
-returns-in-Ok-clause-only g c =
+pub returns-clause-only : goal.returns-clause-only
+returns-clause-only g c =
     only_clause g.M.ParseMode.mode (λ slice. All g.T.uParse.is_value (cow_slice_items slice))
     (λ slice. list_of (documents (map g.T.uDebug.document (cow_slice_items slice))))
     c.args.parser.now c.parse_list.new.parser (Ok (Owned c.in-Ok.values)) (viewed cow_slice_items c.in-Ok.ensures.takes)

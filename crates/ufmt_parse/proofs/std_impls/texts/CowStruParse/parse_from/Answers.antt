@@ -8,13 +8,13 @@ use Rattle.ufmt_parse_leaves.proofs.QuotedTaken.{quoted_bytes}
 use Rattle.ufmt_parser.proofs.Views.{viewed}
 use Rattle.ufmt_parse.proofs.std_impls.texts.CowStruParse.parse_from.Goals as goal
 
-pub returns-in-Ok-clause-taken : goal.returns-in-Ok-clause-taken
-returns-in-Ok-clause-taken g c =
+pub returns-clause-taken : goal.returns-clause-taken
+returns-clause-taken g c =
     taken_clause g.M.ParseMode.mode (λ text. IsUtf8 (cow_str_bytes text)) (λ text. leaf (quoted_bytes (cow_str_bytes text)))
     c.args.parser.now c.parse_text.new.parser (Ok (Owned c.in-Ok.text)) (viewed cow_str_bytes c.in-Ok.ensures.takes)
 
-pub returns-in-Ok-clause-only : goal.returns-in-Ok-clause-only
-returns-in-Ok-clause-only g c =
+pub returns-clause-only : goal.returns-clause-only
+returns-clause-only g c =
     only_clause g.M.ParseMode.mode (λ text. IsUtf8 (cow_str_bytes text)) (λ text. leaf (quoted_bytes (cow_str_bytes text)))
     c.args.parser.now c.parse_text.new.parser (Ok (Owned c.in-Ok.text)) (viewed cow_str_bytes c.in-Ok.ensures.takes)
 
