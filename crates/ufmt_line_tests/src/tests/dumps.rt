@@ -4,7 +4,6 @@ ghost use Rattle.std.specs.Prelude.{[], ⊤};
 
 use super::asserts::{has_wanted_rows, same};
 use std::alloc::{AllocError, Global};
-use std::test::Fail;
 use ufmt::{Formatter, HexDump, hex_dump_into, laws, uWrite, write_hex_dump};
 use ufmt_print_examples::show_packet;
 use ufmt_test_rows::piece_rows::pieces_of;
@@ -57,69 +56,101 @@ fn in_rows(per_row: usize, group: usize) -> HexDump {
     }
 }
 
-// How many of the bytes are dumped, how many a row has, and how many a group. Those in a row print one dump.
-const FORMS: [&[(usize, usize, usize)]; 14] = [
-    &[(0, 16, 1)],
-    &[(1, 16, 1)],
-    &[(15, 16, 1)],
-    &[(16, 16, 1)],
-    &[(17, 16, 1)],
-    &[(33, 16, 1), (33, 0, 1)],
-    &[(33, 16, 0), (33, 16, 16), (33, 16, 20)],
-    &[(33, 16, 2)],
-    &[(33, 16, 3)],
-    &[(33, 16, 4)],
-    &[(33, 8, 1)],
-    &[(33, 8, 2)],
-    &[(33, 5, 2)],
-    &[(33, 32, 4)],
-];
+/// How many of the bytes are dumped, how many a row has, and how many a group.
+type Form = (usize, usize, usize);
 
-// `xxd -g1` of so many bytes, and then `xxd` of all with `-g0`, `-g2`, `-g3`, `-g4`, `-c8 -g1`, `-c8`, `-c5 -g2` and
-// `-c32 -g4`
-const DUMPS: &str = "\
-;
+// Forms, with the one dump that they print: `xxd -g1` of so many bytes, and then `xxd` of all with `-g0`, `-g2`, `-g3`,
+// `-g4`, `-c8 -g1`, `-c8`, `-c5 -g2` and `-c32 -g4`.
+const DUMPS: [(&[Form], &str); 14] = [
+    (&[(0, 16, 1)], ""),
+    (
+        &[(1, 16, 1)],
+        "\
 00000000: 0b                                               .
-;
+",
+    ),
+    (
+        &[(15, 16, 1)],
+        "\
 00000000: 0b 30 55 7a 9f c4 e9 0e 33 58 7d a2 c7 ec 11     .0Uz....3X}....
-;
+",
+    ),
+    (
+        &[(16, 16, 1)],
+        "\
 00000000: 0b 30 55 7a 9f c4 e9 0e 33 58 7d a2 c7 ec 11 36  .0Uz....3X}....6
-;
+",
+    ),
+    (
+        &[(17, 16, 1)],
+        "\
 00000000: 0b 30 55 7a 9f c4 e9 0e 33 58 7d a2 c7 ec 11 36  .0Uz....3X}....6
 00000010: 5b                                               [
-;
+",
+    ),
+    (
+        &[(33, 16, 1), (33, 0, 1)],
+        "\
 00000000: 0b 30 55 7a 9f c4 e9 0e 33 58 7d a2 c7 ec 11 36  .0Uz....3X}....6
 00000010: 5b 80 a5 ca ef 14 39 5e 83 a8 cd f2 17 3c 61 86  [.....9^.....<a.
 00000020: ab                                               .
-;
+",
+    ),
+    (
+        &[(33, 16, 0), (33, 16, 16), (33, 16, 20)],
+        "\
 00000000: 0b30557a9fc4e90e33587da2c7ec1136  .0Uz....3X}....6
 00000010: 5b80a5caef14395e83a8cdf2173c6186  [.....9^.....<a.
 00000020: ab                                .
-;
+",
+    ),
+    (
+        &[(33, 16, 2)],
+        "\
 00000000: 0b30 557a 9fc4 e90e 3358 7da2 c7ec 1136  .0Uz....3X}....6
 00000010: 5b80 a5ca ef14 395e 83a8 cdf2 173c 6186  [.....9^.....<a.
 00000020: ab                                       .
-;
+",
+    ),
+    (
+        &[(33, 16, 3)],
+        "\
 00000000: 0b3055 7a9fc4 e90e33 587da2 c7ec11 36  .0Uz....3X}....6
 00000010: 5b80a5 caef14 395e83 a8cdf2 173c61 86  [.....9^.....<a.
 00000020: ab                                     .
-;
+",
+    ),
+    (
+        &[(33, 16, 4)],
+        "\
 00000000: 0b30557a 9fc4e90e 33587da2 c7ec1136  .0Uz....3X}....6
 00000010: 5b80a5ca ef14395e 83a8cdf2 173c6186  [.....9^.....<a.
 00000020: ab                                   .
-;
+",
+    ),
+    (
+        &[(33, 8, 1)],
+        "\
 00000000: 0b 30 55 7a 9f c4 e9 0e  .0Uz....
 00000008: 33 58 7d a2 c7 ec 11 36  3X}....6
 00000010: 5b 80 a5 ca ef 14 39 5e  [.....9^
 00000018: 83 a8 cd f2 17 3c 61 86  .....<a.
 00000020: ab                       .
-;
+",
+    ),
+    (
+        &[(33, 8, 2)],
+        "\
 00000000: 0b30 557a 9fc4 e90e  .0Uz....
 00000008: 3358 7da2 c7ec 1136  3X}....6
 00000010: 5b80 a5ca ef14 395e  [.....9^
 00000018: 83a8 cdf2 173c 6186  .....<a.
 00000020: ab                   .
-;
+",
+    ),
+    (
+        &[(33, 5, 2)],
+        "\
 00000000: 0b30 557a 9f  .0Uz.
 00000005: c4e9 0e33 58  ...3X
 0000000a: 7da2 c7ec 11  }....
@@ -127,11 +158,16 @@ const DUMPS: &str = "\
 00000014: ef14 395e 83  ..9^.
 00000019: a8cd f217 3c  ....<
 0000001e: 6186 ab       a..
-;
+",
+    ),
+    (
+        &[(33, 32, 4)],
+        "\
 00000000: 0b30557a 9fc4e90e 33587da2 c7ec1136 5b80a5ca ef14395e 83a8cdf2 173c6186  .0Uz....3X}....6[.....9^.....<a.
 00000020: ab                                                                       .
-;
-";
+",
+    ),
+];
 
 // The pieces of a dump with these columns: its rows, with a bar after each.
 fn rows_with(
@@ -157,7 +193,7 @@ fn rows_with(
 // The first pieces that aren't rows of this dump: with offsets or without, and with texts or without.
 fn wrong_pieces(
     alloc: Global,
-    (length, per_row, group): (usize, usize, usize),
+    (length, per_row, group): Form,
     dump: &str,
 ) -> Result<Option<String>, AllocError> {
     let bytes = BYTES.get(..length).unwrap_or(&[]);
@@ -186,48 +222,68 @@ fn wrong_pieces(
 
 #[test]
 fn dumps_have_the_rows_groups_and_columns_that_are_asked_for(rt: HostRuntime) {
-    let mut dumps = DUMPS.split(";\n");
-    for forms in FORMS {
-        let dump = dumps.next().unwrap_or("no dump");
+    for (forms, dump) in DUMPS {
         for form in forms {
             same(&rt, wrong_pieces(rt.alloc(), *form, dump), Ok(None), dump);
         }
     }
-    same(&rt, dumps.next(), Some(""), "after the last dump");
 }
 
-// `xxd -g1` of all bytes, with `-o 0x10` and so on: the rows differ in their offsets.
+// `xxd -g1` of all bytes, with `-o 0x10` and so on.
 #[test]
-fn offsets_count_from_the_first(rt: HostRuntime) -> Result<(), Fail> {
-    let dump = DUMPS.split(";\n").nth(5).unwrap_or("no dump");
-    for (first, offsets) in [
-        (0x10, ["00000010", "00000020", "00000030"]),
-        (0x123_4567, ["01234567", "01234577", "01234587"]),
-        (0xffff_ffe0, ["ffffffe0", "fffffff0", "100000000"]),
-        (0xffff_fff8, ["fffffff8", "100000008", "100000018"]),
-        (0xffff_ffff, ["ffffffff", "10000000f", "10000001f"]),
+fn offsets_count_from_the_first(rt: HostRuntime) {
+    for (first, dump) in [
+        (
+            0x10,
+            "\
+00000010: 0b 30 55 7a 9f c4 e9 0e 33 58 7d a2 c7 ec 11 36  .0Uz....3X}....6
+00000020: 5b 80 a5 ca ef 14 39 5e 83 a8 cd f2 17 3c 61 86  [.....9^.....<a.
+00000030: ab                                               .
+",
+        ),
+        (
+            0x123_4567,
+            "\
+01234567: 0b 30 55 7a 9f c4 e9 0e 33 58 7d a2 c7 ec 11 36  .0Uz....3X}....6
+01234577: 5b 80 a5 ca ef 14 39 5e 83 a8 cd f2 17 3c 61 86  [.....9^.....<a.
+01234587: ab                                               .
+",
+        ),
+        (
+            0xffff_ffe0,
+            "\
+ffffffe0: 0b 30 55 7a 9f c4 e9 0e 33 58 7d a2 c7 ec 11 36  .0Uz....3X}....6
+fffffff0: 5b 80 a5 ca ef 14 39 5e 83 a8 cd f2 17 3c 61 86  [.....9^.....<a.
+100000000: ab                                               .
+",
+        ),
+        (
+            0xffff_fff8,
+            "\
+fffffff8: 0b 30 55 7a 9f c4 e9 0e 33 58 7d a2 c7 ec 11 36  .0Uz....3X}....6
+100000008: 5b 80 a5 ca ef 14 39 5e 83 a8 cd f2 17 3c 61 86  [.....9^.....<a.
+100000018: ab                                               .
+",
+        ),
+        (
+            0xffff_ffff,
+            "\
+ffffffff: 0b 30 55 7a 9f c4 e9 0e 33 58 7d a2 c7 ec 11 36  .0Uz....3X}....6
+10000000f: 5b 80 a5 ca ef 14 39 5e 83 a8 cd f2 17 3c 61 86  [.....9^.....<a.
+10000001f: ab                                               .
+",
+        ),
     ] {
-        let mut wanted = String::new(rt.alloc());
-        for (offset, row) in offsets.iter().zip(dump.lines()) {
-            let (_, columns) = row.split_once(':').unwrap_or(("", row));
-            wanted.push_str(offset)?;
-            wanted.push(':')?;
-            wanted.push_str(columns)?;
-            wanted.push_str("\n|")?;
-        }
-        let dump = HexDump {
-            offset: Some(first),
-            ..HexDump::XXD
+        let dumped = Dumped {
+            bytes: &BYTES,
+            dump: HexDump {
+                offset: Some(first),
+                ..HexDump::XXD
+            },
         };
-        let bytes = &BYTES;
-        same(
-            &rt,
-            pieces_of(rt.alloc(), &Dumped { bytes, dump }),
-            Ok(wanted),
-            offsets[0],
-        );
+        let wanted = rows_with(rt.alloc(), dump, true, true);
+        same(&rt, pieces_of(rt.alloc(), &dumped), wanted, dump);
     }
-    Ok(())
 }
 
 fn dump_of(alloc: Global, bytes: &[u8], dump: &HexDump) -> Result<String, AllocError> {

@@ -17,19 +17,15 @@ fn are_converted(alloc: Global, plain: &[u8], pretty: &[u8]) -> bool {
 #[test]
 fn texts_are_read_and_converted(rt: HostRuntime) {
     let alloc = rt.alloc();
-    let mut count = 0usize;
-    for row in TEXTS.split("\n\n") {
-        let (plain, pretty) = row.split_once('\n').unwrap_or((row, ""));
-        let (plain, pretty) = (plain.as_bytes(), pretty.as_bytes());
+    for (text, other) in TEXTS {
+        let (plain, pretty) = (text.as_bytes(), other.as_bytes());
         let given = (
             verdict_on(alloc, Mode::Plain, plain),
             verdict_on(alloc, Mode::Pretty, pretty),
             are_converted(alloc, plain, pretty),
         );
-        same(&rt, given, (Verdict::Taken, Verdict::Taken, true), row);
-        count = count.saturating_add(1);
+        same(&rt, given, (Verdict::Taken, Verdict::Taken, true), text);
     }
-    same(&rt, count, 44, "documents");
 }
 
 #[test]

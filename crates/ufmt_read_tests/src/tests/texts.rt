@@ -1,249 +1,72 @@
 //! Texts of documents, and inputs that are no text.
 
-/// The texts of 44 documents: the plain text in a line, the pretty text below it, and then an empty
-/// line. They are one literal, because an array of pairs takes the check four times as long.
-pub const TEXTS: &str = "\
-x
-x
-
--
--
-
-_
-_
-
-()
-()
-
-[]
-[]
-
-{}
-{}
-
-[a, b]
-[
-    a,
-    b,
-]
-
-[a, [b], c]
-[
-    a,
-    [
-        b,
-    ],
-    c,
-]
-
-(x,)
-(
-    x,
-)
-
-(x, y)
-(
-    x,
-    y,
-)
-
-(a, b)
-(
-    a,
-    b,
-)
-
-n(x)
-n(
-    x,
-)
-
-n(x, y)
-n(
-    x,
-    y,
-)
-
-n(a, b)
-n(
-    a,
-    b,
-)
-
-n(a, {b}, c)
-n(
-    a,
-    {
-        b,
-    },
-    c,
-)
-
-{x}
-{
-    x,
-}
-
-{a, b}
-{
-    a,
-    b,
-}
-
-{a, {}}
-{
-    a,
-    {},
-}
-
-{a: b, c: d}
-{
-    a: b,
-    c: d,
-}
-
-{a: b, (c,): d, e: f}
-{
-    a: b,
+/// The texts of 44 documents: the plain text, and beside it the pretty text.
+pub const TEXTS: [(&str, &str); 44] = [
+    ("x", "x"),
+    ("-", "-"),
+    ("_", "_"),
+    ("()", "()"),
+    ("[]", "[]"),
+    ("{}", "{}"),
+    ("[a, b]", "[\n    a,\n    b,\n]"),
     (
-        c,
-    ): d,
-    e: f,
-}
-
-{(x,): ()}
-{
-    (
-        x,
-    ): (),
-}
-
-{[x]: y}
-{
-    [
-        x,
-    ]: y,
-}
-
-{S { a: b }}
-{
-    S {
-        a: b,
-    },
-}
-
-{S { a: b }: c}
-{
-    S {
-        a: b,
-    }: c,
-}
-
-S { x: y }
-S {
-    x: y,
-}
-
-S { a: [b] }
-S {
-    a: [
-        b,
-    ],
-}
-
-S { a: b, c: [] }
-S {
-    a: b,
-    c: [],
-}
-
-S { a: [b], c: {d: ()} }
-S {
-    a: [
-        b,
-    ],
-    c: {
-        d: (),
-    },
-}
-
-{a: S { b: -1 }, c: ()}
-{
-    a: S {
-        b: -1,
-    },
-    c: (),
-}
-
-Node { value: 1, next: Some(Node { value: 0, next: None }) }
-Node {
-    value: 1,
-    next: Some(
-        Node {
-            value: 0,
-            next: None,
-        },
+        "[a, [b], c]",
+        "[\n    a,\n    [\n        b,\n    ],\n    c,\n]",
     ),
-}
+    ("(x,)", "(\n    x,\n)"),
+    ("(x, y)", "(\n    x,\n    y,\n)"),
+    ("(a, b)", "(\n    a,\n    b,\n)"),
+    ("n(x)", "n(\n    x,\n)"),
+    ("n(x, y)", "n(\n    x,\n    y,\n)"),
+    ("n(a, b)", "n(\n    a,\n    b,\n)"),
+    (
+        "n(a, {b}, c)",
+        "n(\n    a,\n    {\n        b,\n    },\n    c,\n)",
+    ),
+    ("{x}", "{\n    x,\n}"),
+    ("{a, b}", "{\n    a,\n    b,\n}"),
+    ("{a, {}}", "{\n    a,\n    {},\n}"),
+    ("{a: b, c: d}", "{\n    a: b,\n    c: d,\n}"),
+    (
+        "{a: b, (c,): d, e: f}",
+        "{\n    a: b,\n    (\n        c,\n    ): d,\n    e: f,\n}",
+    ),
+    ("{(x,): ()}", "{\n    (\n        x,\n    ): (),\n}"),
+    ("{[x]: y}", "{\n    [\n        x,\n    ]: y,\n}"),
+    ("{S { a: b }}", "{\n    S {\n        a: b,\n    },\n}"),
+    ("{S { a: b }: c}", "{\n    S {\n        a: b,\n    }: c,\n}"),
+    ("S { x: y }", "S {\n    x: y,\n}"),
+    ("S { a: [b] }", "S {\n    a: [\n        b,\n    ],\n}"),
+    ("S { a: b, c: [] }", "S {\n    a: b,\n    c: [],\n}"),
+    (
+        "S { a: [b], c: {d: ()} }",
+        "S {\n    a: [\n        b,\n    ],\n    c: {\n        d: (),\n    },\n}",
+    ),
+    (
+        "{a: S { b: -1 }, c: ()}",
+        "{\n    a: S {\n        b: -1,\n    },\n    c: (),\n}",
+    ),
+    (NODE_PLAIN, NODE_PRETTY),
+    ("\"\"", "\"\""),
+    ("\"\\u{1b}\"", "\"\\u{1b}\""),
+    ("\"a\\\"b\\n\"", "\"a\\\"b\\n\""),
+    ("\"é\"", "\"é\""),
+    ("\"'\"", "\"'\""),
+    ("'\"'", "'\"'"),
+    ("'\\''", "'\\''"),
+    ("'€'", "'€'"),
+    ("[\"a, b\", 'c']", "[\n    \"a, b\",\n    'c',\n]"),
+    ("[\"]\", '}']", "[\n    \"]\",\n    '}',\n]"),
+    ("{\"a\": \"b: c, d\"}", "{\n    \"a\": \"b: c, d\",\n}"),
+    ("{\"k\": ()}", "{\n    \"k\": (),\n}"),
+    (
+        "S { text: \"\\0\\t\\n\\r\\\\\\\"\\u{1}\\u{7f}{(\", quote: '\\\\' }",
+        "S {\n    text: \"\\0\\t\\n\\r\\\\\\\"\\u{1}\\u{7f}{(\",\n    quote: '\\\\',\n}",
+    ),
+    ("Some(\"x\")", "Some(\n    \"x\",\n)"),
+];
 
-\"\"
-\"\"
-
-\"\\u{1b}\"
-\"\\u{1b}\"
-
-\"a\\\"b\\n\"
-\"a\\\"b\\n\"
-
-\"é\"
-\"é\"
-
-\"'\"
-\"'\"
-
-'\"'
-'\"'
-
-'\\''
-'\\''
-
-'€'
-'€'
-
-[\"a, b\", 'c']
-[
-    \"a, b\",
-    'c',
-]
-
-[\"]\", '}']
-[
-    \"]\",
-    '}',
-]
-
-{\"a\": \"b: c, d\"}
-{
-    \"a\": \"b: c, d\",
-}
-
-{\"k\": ()}
-{
-    \"k\": (),
-}
-
-S { text: \"\\0\\t\\n\\r\\\\\\\"\\u{1}\\u{7f}{(\", quote: '\\\\' }
-S {
-    text: \"\\0\\t\\n\\r\\\\\\\"\\u{1}\\u{7f}{(\",
-    quote: '\\\\',
-}
-
-Some(\"x\")
-Some(
-    \"x\",
-)";
-
-// Inputs that are no text, with a bar between each two. The first is empty.
+// Inputs that are no text. The first is empty.
 pub const NOT_PLAIN: [&str; 43] = [
     "",
     "\n",

@@ -1,7 +1,7 @@
 //! Tests of what `fields!` evaluates.
 use super::super::asserts::has_wanted_rows;
 use super::Turns;
-use std::alloc::{AllocError, Global};
+use std::alloc::AllocError;
 use ufmt::{Formatter, fields};
 use ufmt_test_rows::rows::Table;
 
@@ -36,132 +36,131 @@ macro_rules! unnamed {
     };
 }
 
+/// A form's result, and what is wanted of its row: its turns and the text that it prints.
+type Evaluated = (Result<(), AllocError>, &'static str);
+
 // Forms with no field, with one and with two.
-fn print_few(
-    number: usize,
-    f: &mut Formatter<String>,
-    turns: &mut Turns,
-) -> Result<(), AllocError> {
+fn print_few(number: usize, f: &mut Formatter<String>, turns: &mut Turns) -> Evaluated {
     let (a, b) = (1u8, 2u8);
     match number {
-        0 => fields!(turns.formatter(f), S),
-        1 => fields!(turns.formatter(f), S {}),
-        2 => fields!(turns.formatter(f), S()),
-        3 => named!(f, turns; a 1),
-        4 => unnamed!(f, turns; 1),
-        5 => named!(f, turns; a 1 b 2),
-        6 => unnamed!(f, turns; 1 2),
-        _ => fields!(turns.formatter(f), S { a, b }),
+        0 => (fields!(turns.formatter(f), S), "F=S"),
+        1 => (fields!(turns.formatter(f), S {}), "F=S"),
+        2 => (fields!(turns.formatter(f), S()), "F=S"),
+        3 => (named!(f, turns; a 1), "Fa=S { a: 1 }"),
+        4 => (unnamed!(f, turns; 1), "Fa=S(1)"),
+        5 => (named!(f, turns; a 1 b 2), "Fab=S { a: 1, b: 2 }"),
+        6 => (unnamed!(f, turns; 1 2), "Fab=S(1, 2)"),
+        _ => (
+            fields!(turns.formatter(f), S { a, b }),
+            "F=S { a: 1, b: 2 }",
+        ),
     }
 }
 
 // Forms that take a value apart.
-fn print_apart(
-    number: usize,
-    f: &mut Formatter<String>,
-    turns: &mut Turns,
-) -> Result<(), AllocError> {
+fn print_apart(number: usize, f: &mut Formatter<String>, turns: &mut Turns) -> Evaluated {
     let (unit, pair, two) = (Unit, Pair { a: 1, b: 2 }, Two(1, 2));
     match number {
-        8 => fields!(turns.formatter(f), unit, Unit),
-        9 => fields!(turns.formatter(f), pair, Pair { b, a }),
-        _ => fields!(turns.formatter(f), two, Two(a, b)),
+        8 => (fields!(turns.formatter(f), unit, Unit), "F=Unit"),
+        9 => (
+            fields!(turns.formatter(f), pair, Pair { b, a }),
+            "F=Pair { b: 2, a: 1 }",
+        ),
+        _ => (fields!(turns.formatter(f), two, Two(a, b)), "F=Two(1, 2)"),
     }
 }
 
 // Twelve fields, which one call takes, and thirteen, which make a chain.
-fn print_many(
-    number: usize,
-    f: &mut Formatter<String>,
-    turns: &mut Turns,
-) -> Result<(), AllocError> {
+fn print_many(number: usize, f: &mut Formatter<String>, turns: &mut Turns) -> Evaluated {
     match number {
-        11 => named!(f, turns; a 1 b 2 c 3 d 4 e 5 f 6 g 7 h 8 i 9 j 10 k 11 l 12),
-        12 => named!(f, turns; a 1 b 2 c 3 d 4 e 5 f 6 g 7 h 8 i 9 j 10 k 11 l 12 m 13),
-        13 => unnamed!(f, turns; 1 2 3 4 5 6 7 8 9 10 11 12),
-        _ => unnamed!(f, turns; 1 2 3 4 5 6 7 8 9 10 11 12 13),
+        11 => (
+            named!(f, turns; a 1 b 2 c 3 d 4 e 5 f 6 g 7 h 8 i 9 j 10 k 11 l 12),
+            "Fabcdefghijkl=S { a: 1, b: 2, c: 3, d: 4, e: 5, f: 6, g: 7, h: 8, i: 9, j: 10, k: 11, l: 12 }",
+        ),
+        12 => (
+            named!(f, turns; a 1 b 2 c 3 d 4 e 5 f 6 g 7 h 8 i 9 j 10 k 11 l 12 m 13),
+            "Fabcdefghijklm=S { a: 1, b: 2, c: 3, d: 4, e: 5, f: 6, g: 7, h: 8, i: 9, j: 10, k: 11, l: 12, m: 13 }",
+        ),
+        13 => (
+            unnamed!(f, turns; 1 2 3 4 5 6 7 8 9 10 11 12),
+            "Fabcdefghijkl=S(1, 2, 3, 4, 5, 6, 7, 8, 9, 10, 11, 12)",
+        ),
+        _ => (
+            unnamed!(f, turns; 1 2 3 4 5 6 7 8 9 10 11 12 13),
+            "Fabcdefghijklm=S(1, 2, 3, 4, 5, 6, 7, 8, 9, 10, 11, 12, 13)",
+        ),
     }
 }
 
 // Forms with dots: with no field, with one and with two, and a value taken apart.
-fn print_few_with_dots(
-    number: usize,
-    f: &mut Formatter<String>,
-    turns: &mut Turns,
-) -> Result<(), AllocError> {
+fn print_few_with_dots(number: usize, f: &mut Formatter<String>, turns: &mut Turns) -> Evaluated {
     let (a, b) = (1u8, 2u8);
     let pair = Pair { a, b };
     match number {
-        15 => fields!(turns.formatter(f), S { .. }),
-        16 => with_dots!(f, turns; a 1),
-        17 => with_dots!(f, turns; a 1 b 2),
-        18 => fields!(turns.formatter(f), S { a, b, .. }),
-        19 => fields!(turns.formatter(f), pair, Pair { .. }),
-        _ => fields!(turns.formatter(f), pair, Pair { b, .. }),
+        15 => (fields!(turns.formatter(f), S { .. }), "F=S { .. }"),
+        16 => (with_dots!(f, turns; a 1), "Fa=S { a: 1, .. }"),
+        17 => (with_dots!(f, turns; a 1 b 2), "Fab=S { a: 1, b: 2, .. }"),
+        18 => (
+            fields!(turns.formatter(f), S { a, b, .. }),
+            "F=S { a: 1, b: 2, .. }",
+        ),
+        19 => (
+            fields!(turns.formatter(f), pair, Pair { .. }),
+            "F=Pair { .. }",
+        ),
+        _ => (
+            fields!(turns.formatter(f), pair, Pair { b, .. }),
+            "F=Pair { b: 2, .. }",
+        ),
     }
 }
 
 // Twelve and thirteen fields, and dots.
-fn print_many_with_dots(
-    number: usize,
-    f: &mut Formatter<String>,
-    turns: &mut Turns,
-) -> Result<(), AllocError> {
+fn print_many_with_dots(number: usize, f: &mut Formatter<String>, turns: &mut Turns) -> Evaluated {
     match number {
-        21 => with_dots!(f, turns; a 1 b 2 c 3 d 4 e 5 f 6 g 7 h 8 i 9 j 10 k 11 l 12),
-        _ => with_dots!(f, turns; a 1 b 2 c 3 d 4 e 5 f 6 g 7 h 8 i 9 j 10 k 11 l 12 m 13),
+        21 => (
+            with_dots!(f, turns; a 1 b 2 c 3 d 4 e 5 f 6 g 7 h 8 i 9 j 10 k 11 l 12),
+            "Fabcdefghijkl=S { a: 1, b: 2, c: 3, d: 4, e: 5, f: 6, g: 7, h: 8, i: 9, j: 10, k: 11, l: 12, .. }",
+        ),
+        _ => (
+            with_dots!(f, turns; a 1 b 2 c 3 d 4 e 5 f 6 g 7 h 8 i 9 j 10 k 11 l 12 m 13),
+            "Fabcdefghijklm=S { a: 1, b: 2, c: 3, d: 4, e: 5, f: 6, g: 7, h: 8, i: 9, j: 10, k: 11, l: 12, m: 13, .. }",
+        ),
     }
 }
 
 // The turns, and the text that is printed.
-fn row(alloc: Global, number: usize) -> Result<String, AllocError> {
-    let mut turns = Turns::new(alloc);
-    let mut f = Formatter::new(String::new(alloc));
-    match number {
-        0..=7 => print_few(number, &mut f, &mut turns)?,
-        8..=10 => print_apart(number, &mut f, &mut turns)?,
-        11..=14 => print_many(number, &mut f, &mut turns)?,
-        15..=20 => print_few_with_dots(number, &mut f, &mut turns)?,
-        _ => print_many_with_dots(number, &mut f, &mut turns)?,
-    }
-    turns.noted.push('=')?;
-    turns.noted.push_str(f.into_inner().as_str())?;
-    Ok(turns.noted)
+fn row(
+    outcome: Result<(), AllocError>,
+    turns: Turns,
+    f: Formatter<String>,
+) -> Result<String, AllocError> {
+    outcome?;
+    let mut row = turns.noted;
+    row.push('=')?;
+    row.push_str(f.into_inner().as_str())?;
+    Ok(row)
 }
 
-// What each form evaluates and prints, in the order of the forms' numbers.
-const FIELDS: [&str; 23] = [
-    "F=S",
-    "F=S",
-    "F=S",
-    "Fa=S { a: 1 }",
-    "Fa=S(1)",
-    "Fab=S { a: 1, b: 2 }",
-    "Fab=S(1, 2)",
-    "F=S { a: 1, b: 2 }",
-    "F=Unit",
-    "F=Pair { b: 2, a: 1 }",
-    "F=Two(1, 2)",
-    "Fabcdefghijkl=S { a: 1, b: 2, c: 3, d: 4, e: 5, f: 6, g: 7, h: 8, i: 9, j: 10, k: 11, l: 12 }",
-    "Fabcdefghijklm=S { a: 1, b: 2, c: 3, d: 4, e: 5, f: 6, g: 7, h: 8, i: 9, j: 10, k: 11, l: 12, m: 13 }",
-    "Fabcdefghijkl=S(1, 2, 3, 4, 5, 6, 7, 8, 9, 10, 11, 12)",
-    "Fabcdefghijklm=S(1, 2, 3, 4, 5, 6, 7, 8, 9, 10, 11, 12, 13)",
-    "F=S { .. }",
-    "Fa=S { a: 1, .. }",
-    "Fab=S { a: 1, b: 2, .. }",
-    "F=S { a: 1, b: 2, .. }",
-    "F=Pair { .. }",
-    "F=Pair { b: 2, .. }",
-    "Fabcdefghijkl=S { a: 1, b: 2, c: 3, d: 4, e: 5, f: 6, g: 7, h: 8, i: 9, j: 10, k: 11, l: 12, .. }",
-    "Fabcdefghijklm=S { a: 1, b: 2, c: 3, d: 4, e: 5, f: 6, g: 7, h: 8, i: 9, j: 10, k: 11, l: 12, m: 13, .. }",
-];
+fn put_row(table: &mut Table, number: usize) {
+    let mut turns = Turns::new(table.alloc());
+    let mut f = Formatter::new(String::new(table.alloc()));
+    let (outcome, wanted) = match number {
+        0..=7 => print_few(number, &mut f, &mut turns),
+        8..=10 => print_apart(number, &mut f, &mut turns),
+        11..=14 => print_many(number, &mut f, &mut turns),
+        15..=20 => print_few_with_dots(number, &mut f, &mut turns),
+        _ => print_many_with_dots(number, &mut f, &mut turns),
+    };
+    table.put_made(row(outcome, turns, f));
+    table.wants(wanted);
+}
 
 #[test]
 fn fields_evaluates_in_order(rt: HostRuntime) {
     let mut table = Table::new(rt.alloc());
-    for (number, wanted) in FIELDS.iter().enumerate() {
-        table.put_made(row(rt.alloc(), number));
-        table.wants(wanted);
+    for number in 0..23usize {
+        put_row(&mut table, number);
     }
     has_wanted_rows(&rt, &table);
 }

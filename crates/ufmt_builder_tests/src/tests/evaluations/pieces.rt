@@ -5,123 +5,125 @@ use ufmt::pieces;
 use ufmt::pieces::Line;
 use ufmt_test_rows::rows::Table;
 
-// The line is made, and not written.
-fn take<L: Line>(_line: &L) {}
+// The line is made, and not written. Returns which turns are wanted.
+fn evaluates<L: Line>(_line: &L, wanted: &'static str) -> &'static str {
+    wanted
+}
 
 // Each kind of piece by itself.
 macro_rules! one_piece {
     ($number:expr, $turns:expr $(, $end:tt)?) => {
         match $number {
-            0 => take(&pieces!(text $turns.text(1, "x") $($end)?)),
-            1 => take(&pieces!(display $turns.number(1) $($end)?)),
-            2 => take(&pieces!(debug $turns.number(1) $($end)?)),
-            3 => take(&pieces!(pretty $turns.number(1) $($end)?)),
-            4 => take(&pieces!(hex ($turns.number(1)) with $turns.options() $($end)?)),
-            5 => take(&pieces!(each display ($turns.items(1)) between $turns.separator() $($end)?)),
-            6 => take(&pieces!(each debug ($turns.items(1)) between $turns.separator() $($end)?)),
-            7 => take(&pieces!(each pretty ($turns.items(1)) between $turns.separator() $($end)?)),
-            8 => take(&pieces!(each hex ($turns.items(1)) with ($turns.options()) between $turns.separator() $($end)?)),
-            9 => take(&pieces!(display ($turns.number(1)) in $turns.column() $($end)?)),
-            10 => take(&pieces!(hex ($turns.number(1)) with ($turns.options()) in $turns.column() $($end)?)),
-            11 => take(&pieces!(each debug ($turns.items(1)) in ($turns.column()) between $turns.separator() $($end)?)),
-            12 => take(&pieces!(each hex ($turns.items(1)) with ($turns.options()) in ($turns.column()) between $turns.separator() $($end)?)),
-            13 => take(&pieces!(each ($turns.items(1)) by ($turns.mark()) between $turns.separator() $($end)?)),
-            14 => take(&pieces!(bin ($turns.number(1)) with $turns.options() $($end)?)),
-            15 => take(&pieces!(oct ($turns.number(1)) with $turns.options() $($end)?)),
-            16 => take(&pieces!(zeros ($turns.number(1)) to $turns.width() $($end)?)),
-            17 => take(&pieces!(each zeros ($turns.items(1)) to ($turns.width()) between $turns.separator() $($end)?)),
-            _ => take(&pieces!(zeros ($turns.number(1)) to ($turns.width()) in $turns.column() $($end)?)),
+            0 => evaluates(&pieces!(text $turns.text(1, "x") $($end)?), "a"),
+            1 => evaluates(&pieces!(display $turns.number(1) $($end)?), "a"),
+            2 => evaluates(&pieces!(debug $turns.number(1) $($end)?), "a"),
+            3 => evaluates(&pieces!(pretty $turns.number(1) $($end)?), "a"),
+            4 => evaluates(&pieces!(hex ($turns.number(1)) with $turns.options() $($end)?), "aO"),
+            5 => evaluates(&pieces!(each display ($turns.items(1)) between $turns.separator() $($end)?), "aS"),
+            6 => evaluates(&pieces!(each debug ($turns.items(1)) between $turns.separator() $($end)?), "aS"),
+            7 => evaluates(&pieces!(each pretty ($turns.items(1)) between $turns.separator() $($end)?), "aS"),
+            8 => evaluates(&pieces!(each hex ($turns.items(1)) with ($turns.options()) between $turns.separator() $($end)?), "aOS"),
+            9 => evaluates(&pieces!(display ($turns.number(1)) in $turns.column() $($end)?), "aC"),
+            10 => evaluates(&pieces!(hex ($turns.number(1)) with ($turns.options()) in $turns.column() $($end)?), "aOC"),
+            11 => evaluates(&pieces!(each debug ($turns.items(1)) in ($turns.column()) between $turns.separator() $($end)?), "aCS"),
+            12 => evaluates(&pieces!(each hex ($turns.items(1)) with ($turns.options()) in ($turns.column()) between $turns.separator() $($end)?), "aOCS"),
+            13 => evaluates(&pieces!(each ($turns.items(1)) by ($turns.mark()) between $turns.separator() $($end)?), "aMS"),
+            14 => evaluates(&pieces!(bin ($turns.number(1)) with $turns.options() $($end)?), "aO"),
+            15 => evaluates(&pieces!(oct ($turns.number(1)) with $turns.options() $($end)?), "aO"),
+            16 => evaluates(&pieces!(zeros ($turns.number(1)) to $turns.width() $($end)?), "aW"),
+            17 => evaluates(&pieces!(each zeros ($turns.items(1)) to ($turns.width()) between $turns.separator() $($end)?), "aWS"),
+            _ => evaluates(&pieces!(zeros ($turns.number(1)) to ($turns.width()) in $turns.column() $($end)?), "aWC"),
         }
     };
 }
 
-fn make_one(number: usize, turns: &mut Turns) {
+fn make_one(number: usize, turns: &mut Turns) -> &'static str {
     one_piece!(number, turns)
 }
 
-fn make_one_with_comma(number: usize, turns: &mut Turns) {
+fn make_one_with_comma(number: usize, turns: &mut Turns) -> &'static str {
     one_piece!(number, turns, ,)
 }
 
 // Each kind of piece as the first, in the middle and as the last.
-fn make_three(number: usize, turns: &mut Turns) {
+fn make_three(number: usize, turns: &mut Turns) -> &'static str {
     match number {
-        0 => take(
+        0 => evaluates(
             &pieces!(text turns.text(1, "x"), pretty turns.number(2), each debug (turns.items(3)) between turns.separator()),
+            "abcS",
         ),
-        1 => take(
+        1 => evaluates(
             &pieces!(display turns.number(1), hex (turns.number(2)) with turns.options(), each pretty (turns.items(3)) between turns.separator()),
+            "abOcS",
         ),
-        2 => take(
+        2 => evaluates(
             &pieces!(debug turns.number(1), each display (turns.items(2)) between turns.separator(), each hex (turns.items(3)) with (turns.options()) between turns.separator()),
+            "abScOS",
         ),
-        3 => take(
+        3 => evaluates(
             &pieces!(pretty turns.number(1), each debug (turns.items(2)) between turns.separator(), each (turns.items(3)) by (turns.mark()) between turns.separator()),
+            "abScMS",
         ),
-        4 => take(
+        4 => evaluates(
             &pieces!(hex (turns.number(1)) with turns.options(), each pretty (turns.items(2)) between turns.separator(), text turns.text(3, "x")),
+            "aObSc",
         ),
-        5 => take(
+        5 => evaluates(
             &pieces!(each display (turns.items(1)) between turns.separator(), each hex (turns.items(2)) with (turns.options()) between turns.separator(), display turns.number(3)),
+            "aSbOSc",
         ),
-        6 => take(
+        6 => evaluates(
             &pieces!(each debug (turns.items(1)) between turns.separator(), each (turns.items(2)) by (turns.mark()) between turns.separator(), debug turns.number(3)),
+            "aSbMSc",
         ),
-        7 => take(
+        7 => evaluates(
             &pieces!(each pretty (turns.items(1)) between turns.separator(), text turns.text(2, "x"), pretty turns.number(3)),
+            "aSbc",
         ),
-        8 => take(
+        8 => evaluates(
             &pieces!(each hex (turns.items(1)) with (turns.options()) between turns.separator(), display turns.number(2), hex (turns.number(3)) with turns.options()),
+            "aOSbcO",
         ),
-        _ => take(
+        _ => evaluates(
             &pieces!(each (turns.items(1)) by (turns.mark()) between turns.separator(), debug turns.number(2), each display (turns.items(3)) between turns.separator()),
+            "aMSbcS",
         ),
     }
 }
 
-// What each form evaluates, in the order of the forms' numbers: by itself, also with a comma after it, and among three.
-const OF_ONE: [&str; 19] = [
-    "a,a",
-    "a,a",
-    "a,a",
-    "a,a",
-    "aO,aO",
-    "aS,aS",
-    "aS,aS",
-    "aS,aS",
-    "aOS,aOS",
-    "aC,aC",
-    "aOC,aOC",
-    "aCS,aCS",
-    "aOCS,aOCS",
-    "aMS,aMS",
-    "aO,aO",
-    "aO,aO",
-    "aW,aW",
-    "aWS,aWS",
-    "aWC,aWC",
-];
+/// How many pieces, and whether a comma follows the last.
+#[derive(Clone, Copy)]
+enum Form {
+    One,
+    OneWithComma,
+    Three,
+}
 
-const OF_THREE: [&str; 10] = [
-    "abcS", "abOcS", "abScOS", "abScMS", "aObSc", "aSbOSc", "aSbMSc", "aSbc", "aOSbcO", "aMSbcS",
-];
+impl Form {
+    fn make(self, number: usize, turns: &mut Turns) -> &'static str {
+        match self {
+            Form::One => make_one(number, turns),
+            Form::OneWithComma => make_one_with_comma(number, turns),
+            Form::Three => make_three(number, turns),
+        }
+    }
+}
 
+fn put_rows(table: &mut Table, form: Form, count: usize) {
+    for number in 0..count {
+        let mut turns = Turns::new(table.alloc());
+        let wanted = form.make(number, &mut turns);
+        table.put(turns.noted.as_str());
+        table.wants(wanted);
+    }
+}
+
+// A comma at the end changes nothing.
 #[test]
 fn pieces_evaluates_in_order(rt: HostRuntime) {
     let mut table = Table::new(rt.alloc());
-    for (number, wanted) in OF_ONE.iter().enumerate() {
-        let mut turns = Turns::new(rt.alloc());
-        make_one(number, &mut turns);
-        turns.note(',');
-        make_one_with_comma(number, &mut turns);
-        table.put_made(Ok(turns.noted));
-        table.wants(wanted);
-    }
-    for (number, wanted) in OF_THREE.iter().enumerate() {
-        let mut turns = Turns::new(rt.alloc());
-        make_three(number, &mut turns);
-        table.put_made(Ok(turns.noted));
-        table.wants(wanted);
-    }
+    put_rows(&mut table, Form::One, 19);
+    put_rows(&mut table, Form::OneWithComma, 19);
+    put_rows(&mut table, Form::Three, 10);
     has_wanted_rows(&rt, &table);
 }
