@@ -2,8 +2,8 @@
 use Rattle.std.proofs.Common.{◌≡◌, ◌⊎◌, inl, inr, refl, ap, sym, subst, ◌∙◌, ℕ, ◌==◌, ◌||◌, ◌&&◌, not, Bool, true, false, cond, List, [], ◌∷◌, ◌++◌, Option, Some, None, eqb-true, arith}
 use Rattle.std.specs.Prelude.{⊤}
 use Rattle.std.proofs.lemmas.Bool.Decides.{nat_tests}
-use Rattle.ufmt_core.specs.Bytes.{apostrophe, backslash, closing_brace, closing_parenthesis, colon, opening_parenthesis, quotation_mark, space}
-use Rattle.ufmt_grammar.specs.Leaves.{is_quote, is_ender, is_debug_byte, begins_with, begins_quote, is_spaced, is_in_word, Place, outside, after_quotes, in_parentheses, between, after_backslash, is_outside, place_outside, place_after, EndsLeaf, has_name_bytes, ends_in_colon, IsDebugFollower}
+use Rattle.ufmt_core.specs.Bytes.{apostrophe, backslash, closing_parenthesis, colon, opening_parenthesis, quotation_mark, space}
+use Rattle.ufmt_grammar.specs.Leaves.{is_quote, is_ender, is_debug_byte, begins_with, begins_quote, is_spaced, is_in_word, Place, outside, after_quotes, in_parentheses, between, after_backslash, is_outside, place_outside, place_after, EndsLeaf, ends_in_colon, IsDebugFollower}
 use Rattle.ufmt_grammar.specs.Parse.{choose}
 use Rattle.ufmt_grammar.specs.Reading.{leaf_from, after_leaf, last_place}
 use Rattle.ufmt_grammar.proofs.ReadingWords.{each_ender}
