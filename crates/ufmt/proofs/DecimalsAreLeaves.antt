@@ -1,5 +1,5 @@
 -- The text of a fixed-point number is a leaf of a debug document, so it can be read again.
-use Rattle.std.proofs.Common.{inl, refl, sym, subst, ℕ, ◌<◌, ℤ, pos, negsuc, List, [], ◌∷◌, ◌++◌, map, length, arith}
+use Rattle.std.proofs.Common.{refl, sym, subst, ℕ, ◌<◌, ℤ, pos, negsuc, List, [], ◌∷◌, ◌++◌, map, length, arith}
 use Rattle.std.specs.Prelude.{⊤}
 use Rattle.std.specs.List.{All}
 use Rattle.std.specs.Str.{IsAscii}
@@ -8,8 +8,8 @@ use Rattle.std.proofs.lemmas.Str.{IsUtf8-from_ascii, is_utf8-from_IsUtf8}
 use Rattle.std.proofs.lemmas.Str.Ascii.{IsAscii-cons, IsAscii-nil}
 use Rattle.ufmt_core.specs.Decimal.{decimal_byte, sign_of}
 use Rattle.ufmt.specs.FixedPoint.{fixed, fixed_digits, point_and}
-use Rattle.ufmt_grammar.specs.Leaves.{EndsLeaf, IsDebugLeaf, IsDebugText, outside}
-use Rattle.ufmt_grammar.proofs.ClassTokens.{IsPlainByte, word_byte_is_plain}
+use Rattle.ufmt_grammar.specs.Leaves.{EndsLeaf, IsDebugLeaf, outside}
+use Rattle.ufmt_grammar.proofs.ClassTokens.{IsPlainByte, plain_byte_in_word, word_byte_is_plain}
 use Rattle.ufmt.proofs.FixedPoint.{fixed-denotes}
 use Rattle.ufmt_grammar.proofs.NumbersAreWords.{decimal_byte_is_word}
 
@@ -19,13 +19,13 @@ ArePlain (c ∷ text) = IsPlainByte c × ArePlain text
 
 plain_ends : (text : List ℕ) → ArePlain text → EndsLeaf outside text
 plain_ends [] plain = refl
-plain_ends (c ∷ text) plain = (outside, rw plain.0.word refl, plain_ends text plain.1)
+plain_ends (c ∷ text) plain = (outside, rw (plain_byte_in_word c text plain.0) refl, plain_ends text plain.1)
 
 plain_is_ascii : (text : List ℕ) → ArePlain text → IsAscii text
 plain_is_ascii [] plain = IsAscii-nil
 plain_is_ascii (c ∷ text) plain = IsAscii-cons c text plain.0.ascii (plain_is_ascii text plain.1)
 
-plain_is_text : (c : ℕ) (text : List ℕ) → ArePlain (c ∷ text) → IsDebugText (c ∷ text)
+plain_is_text : (c : ℕ) (text : List ℕ) → ArePlain (c ∷ text) → IsDebugLeaf (c ∷ text)
 plain_is_text c text plain = record {
   some = λ none. absurd (cc);
   pieces = plain_ends (c ∷ text) plain;
@@ -36,10 +36,10 @@ digit_is_plain : (digit : ℕ) → digit < 10 → IsPlainByte (decimal_byte digi
 digit_is_plain digit low = word_byte_is_plain (decimal_byte digit) (decimal_byte_is_word digit low)
 
 point_is_plain : IsPlainByte 46
-point_is_plain = record { word = refl; ascii = omega arith; no_quote = refl }
+point_is_plain = record { word = refl; ascii = omega arith; no_backslash = refl; no_colon = refl }
 
 minus_is_plain : IsPlainByte 45
-minus_is_plain = record { word = refl; ascii = omega arith; no_quote = refl }
+minus_is_plain = record { word = refl; ascii = omega arith; no_backslash = refl; no_colon = refl }
 
 digits_are_plain : (digits : List ℕ) → All (λ digit. digit < 10) digits → ArePlain (map decimal_byte digits)
 digits_are_plain [] below = tt
@@ -55,7 +55,7 @@ fixed_is_plain (digit ∷ before) after below = (
 )
 
 signed_is_text : (z : ℤ) (before after : List ℕ) → 0 < length before → All (λ digit. digit < 10) (before ++ after)
-    → IsDebugText (sign_of z ++ (map decimal_byte before ++ point_and after))
+    → IsDebugLeaf (sign_of z ++ (map decimal_byte before ++ point_and after))
 signed_is_text (pos n) [] after some below = absurd (omega arith)
 signed_is_text (pos n) (digit ∷ before) after some below =
     plain_is_text (decimal_byte digit) (map decimal_byte before ++ point_and after) (fixed_is_plain (digit ∷ before) after below)
@@ -71,4 +71,4 @@ IsAscii-fixed_digits places n =
 pub fixed_is_leaf : (places : ℕ) (z : ℤ) → IsDebugLeaf (fixed places z)
 fixed_is_leaf places z =
     let denotes = fixed-denotes places z in
-    inl (subst IsDebugText (sym denotes.bytes) (signed_is_text z denotes.before denotes.after denotes.some_digit denotes.below_ten))
+    subst IsDebugLeaf (sym denotes.bytes) (signed_is_text z denotes.before denotes.after denotes.some_digit denotes.below_ten)

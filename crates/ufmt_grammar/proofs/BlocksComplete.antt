@@ -170,6 +170,6 @@ module _ (class : Class) where
       → IsRead key a name → IsRead p value text → IsRead (read_pair key p) (a, value) (name ++ (codes ": " ++ text))
   read_pair_complete key p a value name text h hv = record {
     begins = Begins-append h.begins (codes ": " ++ text);
-    reads = λ u follows. rw (append_assoc name (codes ": " ++ text) u, h.reads (codes ": " ++ (text ++ u)) (colon_follows class (text ++ u)))
+    reads = λ u follows. rw (append_assoc name (codes ": " ++ text) u, h.reads (codes ": " ++ (text ++ u)) (colon_follows class (text ++ u) (Begins-append hv.begins u)))
         (read_value_complete p a value text u hv follows);
   }

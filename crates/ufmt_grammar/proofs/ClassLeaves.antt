@@ -1,21 +1,21 @@
 -- Names and leaves of each class: how they begin, that each is read, and that only they are read as names and leaves.
-use Rattle.std.proofs.Common.{◌≡◌, ◌≢◌, ◌⊎◌, inl, inr, refl, ap, sym, ◌∙◌, subst, ℕ, ◌&&◌, not, Bool, true, false, cond, List, [], ◌∷◌, ◌++◌, Option, Some, None, codes, append_assoc}
+use Rattle.std.proofs.Common.{◌≡◌, ◌≢◌, ◌⊎◌, inl, inr, refl, ap, sym, ◌∙◌, subst, ℕ, ◌==◌, ◌&&◌, not, Bool, true, false, cond, List, [], ◌∷◌, ◌++◌, Option, Some, None, codes, append_assoc, eqb-true, arith}
 use Rattle.std.specs.Str.{is_utf8}
 use Rattle.std.proofs.lemmas.Str.{IsUtf8-from_ascii, is_utf8-from_IsUtf8}
-use Rattle.std.proofs.lemmas.Str.Ascii.{IsAscii-nil}
-use Rattle.ufmt_core.specs.Bytes.{apostrophe, closing_brace, colon, opening_brace, opening_bracket, opening_parenthesis, quotation_mark, space}
+use Rattle.std.proofs.lemmas.Str.Ascii.{IsAscii-cons, IsAscii-nil}
+use Rattle.ufmt_core.specs.Bytes.{apostrophe, closing_brace, closing_parenthesis, colon, opening_brace, opening_bracket, opening_parenthesis, quotation_mark, space}
 use Rattle.ufmt_core.specs.Document.{Document, leaf}
 use Rattle.ufmt_core.specs.Layout.{inside, brace_space, new_line}
 use Rattle.ufmt_core.specs.Quoted.{IsQuoted, escaped_all}
 use Rattle.ufmt_core.specs.declared.layout.Setting.{Setting}
-use Rattle.ufmt_grammar.specs.Leaves.{Class, Token, Debug, is_word_byte, IsWordOrEmpty, IsWord, IsSymbol, IsFollower, IsDebugFollower, IsDebugText, outside, has_quote, IsTokenLeaf, IsName, IsLeaf, MayFollow, is_ender}
-use Rattle.ufmt_grammar.specs.Reading.{Parse, choose, strip, strip_only_dots, front_of, after_front, leaf_from, last_place, is_outside, is_whole, is_name, if_name, read_name, read_symbol, read_without_name, read_named, read_unnamed, read_with, word_of}
+use Rattle.ufmt_grammar.specs.Leaves.{Class, Token, Debug, is_word_byte, IsWordOrEmpty, IsWord, IsSymbol, IsFollower, IsDebugFollower, IsDebugLeaf, outside, in_parentheses, is_outside, begins_with, is_spaced, has_name_bytes, ends_in_colon, IsTokenLeaf, IsName, IsLeaf, MayFollow, is_ender}
+use Rattle.ufmt_grammar.specs.Reading.{Parse, choose, strip, strip_only_dots, front_of, after_front, leaf_from, last_place, is_whole, is_name, if_name, read_name, read_symbol, read_without_name, read_named, read_unnamed, read_with, word_of}
 use Rattle.ufmt_grammar.specs.ReadingQuoted.{read_quoted}
 use Rattle.ufmt_grammar.proofs.Parsing.{chosen_from, same_parts, strip_found}
 use Rattle.ufmt_grammar.proofs.QuotedComplete.{read_quoted-complete}
 use Rattle.ufmt_grammar.proofs.QuotedSound.{read_quoted-sound}
 use Rattle.ufmt_grammar.proofs.ReadingWords.{StopsWord, each_closer, each_ender, no_ender, ender_closes, follower_stops, words_whole, word_of_bytes, word_of-append, after_word-append, word_bytes}
-use Rattle.ufmt_grammar.proofs.DebugLeaves.{StopsLeaf, follower_stops_leaf, leaf_from-append, after_leaf-append, leaves_whole, last_is_outside, front_ends_leaf, leaf_no_ender}
+use Rattle.ufmt_grammar.proofs.DebugLeaves.{StopsLeaf, follower_stops_leaf, follower_unspaced, leaf_from-append, after_leaf-append, leaves_whole, last_is_outside, front_ends_leaf, leaf_no_ender}
 
 -- the text has a first byte, which is no comma and no closing bracket
 pub record Begins (text : List ℕ) : Type 0 where
@@ -40,7 +40,7 @@ token_begins text h = go h.shape
     go (inr (inr (inl of_text))) = record { first = quotation_mark; tail = escaped_all quotation_mark of_text.0 ++ (quotation_mark ∷ []); is = of_text.2; no_ender = refl }
     go (inr (inr (inr of_char))) = record { first = apostrophe; tail = escaped_all apostrophe (of_char.0 ∷ []) ++ (apostrophe ∷ []); is = of_char.2; no_ender = refl }
 
-debug_begins : (text : List ℕ) → IsDebugText text → Begins text
+debug_begins : (text : List ℕ) → IsDebugLeaf text → Begins text
 debug_begins [] h = absurd (h.some refl)
 debug_begins (c ∷ text) h = record { first = c; tail = text; is = refl; no_ender = leaf_no_ender c text h.pieces.0 h.pieces.1 }
 
@@ -50,8 +50,15 @@ name_begins Debug w h = debug_begins w h.whole
 
 pub leaf_begins : (class : Class) (text : List ℕ) → IsLeaf class text → Begins text
 leaf_begins Token text h = token_begins text h
-leaf_begins Debug text (inl h) = debug_begins text h
-leaf_begins Debug text (inr e) = record { first = opening_parenthesis; tail = codes ")"; is = e; no_ender = refl }
+leaf_begins Debug text h = debug_begins text h
+
+-- so it begins with no given one of these
+pub begins_no : {t : List ℕ} → Begins t → (c : ℕ) → is_ender c ≡ true → begins_with c t ≡ false
+begins_no {t} b c ends = ap (begins_with c) b.is ∙ go (b.first == c) refl
+  where
+    go : (same : Bool) → (b.first == c) ≡ same → (b.first == c) ≡ false
+    go false e = e
+    go true e = let ender = subst (λ x. is_ender x ≡ true) (sym (eqb-true b.first c e)) ends in let none = b.no_ender in absurd (cc)
 
 pub name_some : (class : Class) → IsName class [] → ⊥
 name_some Token h = h
@@ -59,11 +66,11 @@ name_some Debug h = h.whole.some refl
 
 pub name_leaf : (class : Class) (w : List ℕ) → IsName class w → IsLeaf class w
 name_leaf Token w h = record { shape = inl h }
-name_leaf Debug w h = inl h.whole
+name_leaf Debug w h = h.whole
 
 pub unit_leaf : (class : Class) → IsLeaf class (codes "()")
 unit_leaf Token = record { shape = inr (inl refl) }
-unit_leaf Debug = inr refl
+unit_leaf Debug = record { some = λ none. absurd (cc); pieces = (in_parentheses, refl, (outside, refl, refl)); utf8 = is_utf8-from_IsUtf8 (codes "()") (IsUtf8-from_ascii (codes "()") (IsAscii-cons 40 (codes ")") (omega arith) (IsAscii-cons 41 [] (omega arith) IsAscii-nil))) }
 
 -- ---- what may follow
 
@@ -73,9 +80,10 @@ ender_follows Token c (b ∷ u) h = inl (ender_closes c h)
 ender_follows Debug c [] h = h
 ender_follows Debug c (b ∷ u) h = inl h
 
-pub colon_follows : (class : Class) (u : List ℕ) → MayFollow class (colon ∷ space ∷ u)
-colon_follows Token u = inl refl
-colon_follows Debug u = inr (inl (refl, refl))
+-- a colon and a space, before a text that begins with no closing bracket
+pub colon_follows : (class : Class) (u : List ℕ) → Begins u → MayFollow class (colon ∷ space ∷ u)
+colon_follows Token u begins = inl refl
+colon_follows Debug u begins = inr (inl (refl, refl, begins_no begins closing_brace refl))
 
 pub brace_follows : (class : Class) (u : List ℕ) → MayFollow class (space ∷ closing_brace ∷ u)
 brace_follows Token u = inr (refl, refl)
@@ -116,7 +124,7 @@ follower_no_only_dots Debug u h = follower_no_struct Debug u (codes " .. }") h
 
 -- ---- the longest name or leaf at the front of a text
 
--- the text does not begin with a byte that a name or a leaf before it would have
+-- the text does not begin with a byte that a name before it would have
 abbrev pub Stops : Class → List ℕ → Type 0
 Stops Token u = StopsWord u
 Stops Debug u = StopsLeaf u
@@ -125,46 +133,47 @@ pub follower_ends_front : (class : Class) (u : List ℕ) → MayFollow class u �
 follower_ends_front Token u h = follower_stops u h
 follower_ends_front Debug u h = follower_stops_leaf u h
 
--- an opening parenthesis and a space stop a name
-pub stops_at_parenthesis : (class : Class) (u : List ℕ) → Stops class (opening_parenthesis ∷ u)
-stops_at_parenthesis Token u = refl
-stops_at_parenthesis Debug u = refl
+-- an opening parenthesis that isn't closed at once and a space stop a name
+pub stops_at_parenthesis : (class : Class) (u : List ℕ) → Begins u → Stops class (opening_parenthesis ∷ u)
+stops_at_parenthesis Token u begins = refl
+stops_at_parenthesis Debug u begins = rw (begins_no begins closing_parenthesis refl) (refl, refl)
 
 pub stops_at_space : (class : Class) (u : List ℕ) → Stops class (space ∷ u)
 stops_at_space Token u = refl
-stops_at_space Debug u = refl
+stops_at_space Debug u = (refl, refl)
 
 pub fronts_whole : (class : Class) (t : List ℕ) → t ≡ front_of class t ++ after_front class t
 fronts_whole Token t = words_whole t
 fronts_whole Debug t = leaves_whole outside t
 
--- bytes that are the longest front, whatever follows that stops them
-pub record IsFront (class : Class) (w : List ℕ) : Type 0 where
-  pub front : (u : List ℕ) → Stops class u → front_of class (w ++ u) ≡ w
-  pub after : (u : List ℕ) → Stops class u → after_front class (w ++ u) ≡ u
+-- bytes that are the longest front before this text
+pub record IsFront (class : Class) (w u : List ℕ) : Type 0 where
+  pub front : front_of class (w ++ u) ≡ w
+  pub after : after_front class (w ++ u) ≡ u
   pub whole : is_whole class w ≡ true
 
-word_fronts : (w : List ℕ) → IsWord w → IsFront Token w
-word_fronts w h = record {
-  front = λ u stops. word_of-append w u (word_bytes w h) stops;
-  after = λ u stops. after_word-append w u (word_bytes w h) stops;
+word_fronts : (w u : List ℕ) → IsWord w → StopsWord u → IsFront Token w u
+word_fronts w u h stops = record {
+  front = word_of-append w u (word_bytes w h) stops;
+  after = after_word-append w u (word_bytes w h) stops;
   whole = refl;
 }
 
-text_fronts : (w : List ℕ) → IsDebugText w → IsFront Debug w
-text_fronts w h = record {
-  front = λ u stops. leaf_from-append outside w u h.pieces stops;
-  after = λ u stops. after_leaf-append outside w u h.pieces stops;
+-- a leaf's bytes, if no colon at its end is before a space
+text_fronts : (w u : List ℕ) → IsDebugLeaf w → StopsLeaf u → (ends_in_colon w ≡ true → is_spaced u ≡ false) → IsFront Debug w u
+text_fronts w u h stops seam = record {
+  front = leaf_from-append outside w u h.pieces stops seam;
+  after = after_leaf-append outside w u h.pieces stops seam;
   whole = rw (last_is_outside outside w h.pieces, h.utf8) refl;
 }
 
-pub name_fronts : (class : Class) (w : List ℕ) → IsName class w → IsFront class w
-name_fronts Token w h = word_fronts w h
-name_fronts Debug w h = text_fronts w h.whole
+pub name_fronts : (class : Class) (w u : List ℕ) → IsName class w → Stops class u → IsFront class w u
+name_fronts Token w u h stops = word_fronts w u h stops
+name_fronts Debug w u h stops = text_fronts w u h.whole stops (λ ends. absurd (cc (ends, h.ends)))
 
 name_is_name : (class : Class) (w : List ℕ) → IsName class w → is_name class w ≡ true
 name_is_name Token w h = refl
-name_is_name Debug w h = ap not h.no_quotes
+name_is_name Debug w h = rw (h.bytes, h.ends) refl
 
 -- the front of a text, if it is whole, is a leaf, and a name if it is one
 pub record IsFrontOf (class : Class) (w : List ℕ) : Type 0 where
@@ -184,19 +193,24 @@ front_is Token t = record {
   leaf = λ some whole. record { shape = inl (bytes_are_word (word_of t) (word_of_bytes t) some) };
   name = λ some whole name. bytes_are_word (word_of t) (word_of_bytes t) some;
 }
-front_is Debug t = record { leaf = λ some whole. inl (text some whole); name = λ some whole name. record { whole = text some whole; no_quotes = no_quotes (has_quote front) refl name } }
+front_is Debug t = record {
+  leaf = λ some whole. text some whole;
+  name = λ some whole name.
+      let parts = both (has_name_bytes front) (not (ends_in_colon front)) name in
+      record { whole = text some whole; bytes = parts.0; ends = ends (ends_in_colon front) refl parts.1 };
+}
   where
     front : List ℕ
     front = leaf_from outside t
 
-    text : front ≢ [] → is_whole Debug front ≡ true → IsDebugText front
+    text : front ≢ [] → is_whole Debug front ≡ true → IsDebugLeaf front
     text some whole =
         let parts = both (is_outside (last_place outside front)) (is_utf8 front) whole in
         record { some = some; pieces = front_ends_leaf outside t parts.0; utf8 = parts.1 }
 
-    no_quotes : (b : Bool) → has_quote front ≡ b → not (has_quote front) ≡ true → has_quote front ≡ false
-    no_quotes false e h = e
-    no_quotes true e h = absurd (cc)
+    ends : (b : Bool) → ends_in_colon front ≡ b → not (ends_in_colon front) ≡ true → ends_in_colon front ≡ false
+    ends false e h = e
+    ends true e h = absurd (cc)
 
 pub nothing_is_whole : (class : Class) → is_whole class [] ≡ true
 nothing_is_whole Token = refl
@@ -206,12 +220,12 @@ nothing_is_whole Debug = is_utf8-from_IsUtf8 [] (IsUtf8-from_ascii [] IsAscii-ni
 
 if_name_complete : (class : Class) (w u : List ℕ) → IsName class w → if_name class w u ≡ Some (w, u)
 if_name_complete class [] u h = absurd (name_some class h)
-if_name_complete class (c ∷ w) u h = rw ((name_fronts class (c ∷ w) h).whole, name_is_name class (c ∷ w) h) refl
+if_name_complete class (c ∷ w) u h = rw ((name_fronts class (c ∷ w) [] h (follower_ends_front class [] (nothing_follows class))).whole, name_is_name class (c ∷ w) h) refl
 
 pub read_name_complete : (class : Class) (w u : List ℕ) → IsName class w → Stops class u → read_name class (w ++ u) ≡ Some (w, u)
 read_name_complete class w u h stops =
-    let fronts = name_fronts class w h in
-    rw (fronts.front u stops, fronts.after u stops) (if_name_complete class w u h)
+    let fronts = name_fronts class w u h stops in
+    rw (fronts.front, fronts.after) (if_name_complete class w u h)
 
 if_name_sound : (class : Class) (a b w u : List ℕ) → IsFrontOf class a → if_name class a b ≡ Some (w, u) → IsName class w × (a ++ b ≡ w ++ u)
 if_name_sound class [] b w u front h = absurd (cc)
@@ -239,8 +253,8 @@ at_name : (class : Class) (s : Setting) (p : Parse Document) (w u : List ℕ) �
     → read_with class s p (w ++ u) ≡ read_named class s p w u
 at_name class s p [] u h stops = absurd (name_some class h)
 at_name class s p (c ∷ w) u h stops =
-    let fronts = name_fronts class (c ∷ w) h in
-    rw (fronts.front u stops, fronts.after u stops) (rw (fronts.whole, name_is_name class (c ∷ w) h) refl)
+    let fronts = name_fronts class (c ∷ w) u h stops in
+    rw (fronts.front, fronts.after) (rw (fronts.whole, name_is_name class (c ∷ w) h) refl)
 
 -- the same holds of a text in two parts
 pub name_leads : (class : Class) (s : Setting) (p : Parse Document) (w t u : List ℕ) → IsName class w → Stops class (t ++ u)
@@ -256,9 +270,10 @@ pub at_brace : (class : Class) (s : Setting) (p : Parse Document) (u : List ℕ)
 at_brace Token s p u = refl
 at_brace Debug s p u = refl
 
-pub at_parenthesis : (class : Class) (s : Setting) (p : Parse Document) (u : List ℕ) → read_with class s p (opening_parenthesis ∷ u) ≡ read_without_name class s p (opening_parenthesis ∷ u)
-at_parenthesis Token s p u = refl
-at_parenthesis Debug s p u = refl
+pub at_parenthesis : (class : Class) (s : Setting) (p : Parse Document) (u : List ℕ) → Begins u
+    → read_with class s p (opening_parenthesis ∷ u) ≡ read_without_name class s p (opening_parenthesis ∷ u)
+at_parenthesis Token s p u begins = refl
+at_parenthesis Debug s p u begins = rw (begins_no begins closing_parenthesis refl) refl
 
 -- a name before what may follow is read as a leaf
 only_name : (class : Class) (s : Setting) (p : Parse Document) (w u : List ℕ) → w ≢ [] → MayFollow class u → read_named class s p w u ≡ Some (leaf w, u)
@@ -293,13 +308,12 @@ token_complete s p text u h follows = go h.shape
     go (inr symbol) = symbol_first s p text u symbol
         ∙ ap (λ o. choose o (λ x. Some (leaf x.0, x.1)) (read_unnamed s p (text ++ u))) (read_symbol_complete text u symbol)
 
-debug_complete : (s : Setting) (p : Parse Document) (text u : List ℕ) → IsDebugText text → IsDebugFollower u
+debug_complete : (s : Setting) (p : Parse Document) (text u : List ℕ) → IsDebugLeaf text → IsDebugFollower u
     → read_with Debug s p (text ++ u) ≡ Some (leaf text, u)
 debug_complete s p [] u h follows = absurd (h.some refl)
 debug_complete s p (c ∷ text) u h follows =
-    let fronts = text_fronts (c ∷ text) h in
-    let stops = follower_stops_leaf u follows in
-    rw (fronts.front u stops, fronts.after u stops) (rw fronts.whole (go (is_name Debug (c ∷ text))))
+    let fronts = text_fronts (c ∷ text) u h (follower_stops_leaf u follows) (λ ends. follower_unspaced u follows) in
+    rw (fronts.front, fronts.after) (rw fronts.whole (go (is_name Debug (c ∷ text))))
   where
     go : (b : Bool) → cond b (read_named Debug s p (c ∷ text) u) (Some (leaf (c ∷ text), u)) ≡ Some (leaf (c ∷ text), u)
     go true = only_name Debug s p (c ∷ text) u h.some follows
@@ -308,8 +322,7 @@ debug_complete s p (c ∷ text) u h follows =
 pub leaf_complete : (class : Class) (s : Setting) (p : Parse Document) (text u : List ℕ) → IsLeaf class text → MayFollow class u
     → read_with class s p (text ++ u) ≡ Some (leaf text, u)
 leaf_complete Token s p text u h follows = token_complete s p text u h follows
-leaf_complete Debug s p text u (inl h) follows = debug_complete s p text u h follows
-leaf_complete Debug s p text u (inr unit) follows = rw unit refl
+leaf_complete Debug s p text u h follows = debug_complete s p text u h follows
 
 -- an opening parenthesis before an entry is not read as a symbol
 pub no_symbol : (class : Class) (t : List ℕ) → strip (codes ")") t ≡ None → read_symbol class (opening_parenthesis ∷ t) ≡ None
@@ -344,4 +357,4 @@ symbol_is_leaf Debug t text u h = go (strip (codes "()") t) refl h
     go None e h = absurd (cc)
     go (Some v) e h =
         let parts = same_parts {A = List ℕ} {B = List ℕ} (codes "()", v) (text, u) h in
-        (inr (sym parts.0), strip_found (codes "()") t v e ∙ ap (λ w. codes "()" ++ w) parts.1 ∙ ap (λ w. w ++ u) parts.0)
+        (subst IsDebugLeaf parts.0 (unit_leaf Debug), strip_found (codes "()") t v e ∙ ap (λ w. codes "()" ++ w) parts.1 ∙ ap (λ w. w ++ u) parts.0)

@@ -7,57 +7,69 @@ use Rattle.std.proofs.lemmas.Bool.{agree_below_at}
 use Rattle.std.proofs.lemmas.Bool.Decides.{nat_tests}
 use Rattle.std.proofs.lemmas.Str.{IsUtf8-from_ascii, is_utf8-from_IsUtf8}
 use Rattle.std.proofs.lemmas.Str.Ascii.{IsAscii-cons, IsAscii-nil}
-use Rattle.ufmt_core.specs.Bytes.{apostrophe, backslash, closing_brace, opening_brace, quotation_mark}
+use Rattle.ufmt_core.specs.Bytes.{apostrophe, backslash, closing_brace, colon, opening_brace, quotation_mark}
 use Rattle.ufmt_core.specs.Quoted.{IsQuote, escaped_byte, escaped_bytes, hex_digits, quoted}
 use Rattle.ufmt_core.specs.Document.{Document, leaf, joined, list_of, set_of, map_of, struct_of, non_exhaustive_of, tuple_of, pretty_part, Documents, no_documents, first_document, Pairs, no_pairs, first_pair, Fields, no_fields, first_field}
 use Rattle.ufmt_grammar.specs.Token.{Token, Debug, IsWord, IsWordOrEmpty, OrEmpty, IsName, IsLeaf, IsBuilt, AreBuilt, PairsAreBuilt, FieldsAreBuilt}
-use Rattle.ufmt_grammar.specs.Leaves.{is_word_byte, is_debug_byte, is_quote, is_control, has_quote, outside, between, after_backslash, place_after, EndsLeaf, IsSymbol, IsTokenLeaf, IsDebugText, IsDebugWord}
+use Rattle.ufmt_grammar.specs.Leaves.{is_word_byte, is_debug_byte, is_control, is_in_word, has_name_bytes, ends_in_colon, outside, after_quotes, between, after_backslash, place_after, EndsLeaf, IsSymbol, IsTokenLeaf, IsDebugLeaf, IsDebugWord}
 use Rattle.ufmt_grammar.specs.ReadingLaws.{TokensAreDebug}
+use Rattle.ufmt_grammar.proofs.ClassLeaves.{unit_leaf}
 use Rattle.ufmt_grammar.proofs.QuotedComplete.{quoted-bytes}
 use Rattle.ufmt_grammar.proofs.QuotedDecoded.{each_row}
 use Rattle.ufmt_grammar.proofs.QuotedUtf8.{quoted-utf8}
 use Rattle.ufmt_grammar.proofs.ReadingWords.{word_bytes}
 
--- a word byte is a byte of a debug document's words, in ASCII, and no quote
+-- a word byte is a byte of a debug document's words, in ASCII, and no backslash and no colon
 pub record IsPlainByte (c : ℕ) : Type 0 where
   pub word : is_debug_byte c ≡ true
   pub ascii : c < 128
-  pub no_quote : is_quote c ≡ false
+  pub no_backslash : (c == backslash) ≡ false
+  pub no_colon : (c == colon) ≡ false
 
 word_byte_below : (c : ℕ) → is_word_byte c ≡ true → c < 128
 word_byte_below c h = grind (arith, nat_tests)
 
 -- whether each word byte is so
 is_plain : ℕ → Bool
-is_plain c = not (is_word_byte c) || is_debug_byte c && not (is_quote c)
+is_plain c = not (is_word_byte c) || is_debug_byte c && not (c == backslash) && not (c == colon)
 
 pub word_byte_is_plain : (c : ℕ) → is_word_byte c ≡ true → IsPlainByte c
 unfolding is_plain
 word_byte_is_plain c h =
     let low = word_byte_below c h in
     let checked = agree_below_at is_plain (λ b. true) 128 c refl low in
-    parts (is_debug_byte c) (is_quote c) refl refl (sym (ap (λ b. not b || is_debug_byte c && not (is_quote c)) h) ∙ checked) low
+    parts (is_debug_byte c) (c == backslash) (c == colon) refl refl refl (sym (ap (λ b. not b || is_debug_byte c && not (c == backslash) && not (c == colon)) h) ∙ checked) low
   where
-    parts : (word quote : Bool) → is_debug_byte c ≡ word → is_quote c ≡ quote → word && not quote ≡ true → c < 128 → IsPlainByte c
-    parts true true e f k low = absurd (cc)
-    parts true false e f k low = record { word = e; ascii = low; no_quote = f }
-    parts false quote e f k low = absurd (cc)
+    parts : (word escapes ends : Bool) → is_debug_byte c ≡ word → (c == backslash) ≡ escapes → (c == colon) ≡ ends → word && not escapes && not ends ≡ true → c < 128 → IsPlainByte c
+    parts true true ends e f g k low = absurd (cc)
+    parts true false true e f g k low = absurd (cc)
+    parts true false false e f g k low = record { word = e; ascii = low; no_backslash = f; no_colon = g }
+    parts false escapes ends e f g k low = absurd (cc)
+
+-- such a byte is in a word, whatever follows
+pub plain_byte_in_word : (c : ℕ) (t : List ℕ) → IsPlainByte c → is_in_word c t ≡ true
+plain_byte_in_word c t h = rw (h.word, h.no_colon, h.no_backslash) refl
 
 -- ---- words
 
 word_ends : (w : List ℕ) → IsWordOrEmpty w → EndsLeaf outside w
 word_ends [] h = refl
-word_ends (c ∷ w) h = (outside, rw (word_byte_is_plain c h.0).word refl, word_ends w h.1)
+word_ends (c ∷ w) h = (outside, rw (plain_byte_in_word c w (word_byte_is_plain c h.0)) refl, word_ends w h.1)
 
-word_has_no_quote : (w : List ℕ) → IsWordOrEmpty w → has_quote w ≡ false
-word_has_no_quote [] h = refl
-word_has_no_quote (c ∷ w) h = rw ((word_byte_is_plain c h.0).no_quote, word_has_no_quote w h.1) refl
+word_has_name_bytes : (w : List ℕ) → IsWordOrEmpty w → has_name_bytes w ≡ true
+word_has_name_bytes [] h = refl
+word_has_name_bytes (c ∷ w) h = rw ((word_byte_is_plain c h.0).word, word_has_name_bytes w h.1) refl
+
+word_ends_in_no_colon : (w : List ℕ) → IsWordOrEmpty w → ends_in_colon w ≡ false
+word_ends_in_no_colon [] h = refl
+word_ends_in_no_colon (c ∷ []) h = (word_byte_is_plain c h.0).no_colon
+word_ends_in_no_colon (c ∷ b ∷ w) h = word_ends_in_no_colon (b ∷ w) h.1
 
 word_is_ascii : (w : List ℕ) → IsWordOrEmpty w → IsAscii w
 word_is_ascii [] h = IsAscii-nil
 word_is_ascii (c ∷ w) h = IsAscii-cons c w (word_byte_is_plain c h.0).ascii (word_is_ascii w h.1)
 
-word_is_text : (w : List ℕ) → IsWord w → IsDebugText w
+word_is_text : (w : List ℕ) → IsWord w → IsDebugLeaf w
 word_is_text w h = record {
   some = λ none. absurd (subst IsWord none h);
   pieces = word_ends w (word_bytes w h);
@@ -65,7 +77,7 @@ word_is_text w h = record {
 }
 
 word_is_name : (w : List ℕ) → IsWord w → IsDebugWord w
-word_is_name w h = record { whole = word_is_text w h; no_quotes = word_has_no_quote w (word_bytes w h) }
+word_is_name w h = record { whole = word_is_text w h; bytes = word_has_name_bytes w (word_bytes w h); ends = word_ends_in_no_colon w (word_bytes w h) }
 
 -- ---- texts and characters in quotes
 
@@ -129,11 +141,11 @@ module _ (q : ℕ) (quote : IsQuote q) where
       (λ no_control itself. stays b t (plain_stays b no_control itself) rest)
 
   bytes_inside : (bs : List ℕ) → EndsLeaf (between q) (escaped_bytes q bs ++ (q ∷ []))
-  bytes_inside [] = (outside, of_quote (λ c. place_after (between c) c [] ≡ Some outside) refl refl, refl)
+  bytes_inside [] = (after_quotes, of_quote (λ c. place_after (between c) c [] ≡ Some after_quotes) refl refl, refl)
   bytes_inside (b ∷ bs) = rw (append_assoc (escaped_byte q b) (escaped_bytes q bs) (q ∷ [])) (byte_inside b (escaped_bytes q bs ++ (q ∷ [])) (bytes_inside bs))
 
   -- characters in quotes are the text of a leaf
-  quoted_is_text : (cs : List ℕ) → all_scalars cs ≡ true → IsDebugText (quoted q cs)
+  quoted_is_text : (cs : List ℕ) → all_scalars cs ≡ true → IsDebugLeaf (quoted q cs)
   quoted_is_text cs scalars = record {
     some = λ none. absurd (cc);
     pieces = subst (EndsLeaf outside) (sym (quoted-bytes q cs quote)) (between q, of_quote (λ c. place_after outside c (escaped_bytes q bytes ++ (q ∷ [])) ≡ Some (between c)) refl refl, bytes_inside bytes);
@@ -149,10 +161,10 @@ leaf_is_debug : (text : List ℕ) → IsTokenLeaf text → IsLeaf Debug text
 leaf_is_debug text h = go h.shape
   where
     go : IsWord text ⊎ IsSymbol text → IsLeaf Debug text
-    go (inl w) = inl (word_is_text text w)
-    go (inr (inl unit)) = inr unit
-    go (inr (inr (inl of_text))) = inl (subst IsDebugText (sym of_text.2) (quoted_is_text quotation_mark (inl refl) of_text.0 of_text.1))
-    go (inr (inr (inr of_char))) = inl (subst IsDebugText (sym of_char.2) (quoted_is_text apostrophe (inr refl) (of_char.0 ∷ []) (rw of_char.1 refl)))
+    go (inl w) = word_is_text text w
+    go (inr (inl unit)) = subst IsDebugLeaf (sym unit) (unit_leaf Debug)
+    go (inr (inr (inl of_text))) = subst IsDebugLeaf (sym of_text.2) (quoted_is_text quotation_mark (inl refl) of_text.0 of_text.1)
+    go (inr (inr (inr of_char))) = subst IsDebugLeaf (sym of_char.2) (quoted_is_text apostrophe (inr refl) (of_char.0 ∷ []) (rw of_char.1 refl))
 
 name_is_debug : (w : List ℕ) → OrEmpty (IsName Token) w → OrEmpty (IsName Debug) w
 name_is_debug [] h = tt

@@ -135,29 +135,29 @@ colon_no_line_feed : (a b : List ℕ) → colon ∷ a ≢ line_feed ∷ b
 colon_no_line_feed a b = λ e. absurd (cc)
 
 -- after a name, a colon and a space come, and no dots
-no_dots_at : (mode : Mode) (k : ℕ) (name v u : List ℕ) → IsName Debug name → name ++ (colon ∷ space ∷ v) ≢ last_dots (setting mode k) ++ u
-no_dots_at mode k name v u h = λ same. go mode (ap (after_front Debug) same)
+no_dots_at : (mode : Mode) (k : ℕ) (name v u : List ℕ) → IsName Debug name → Begins v → name ++ (colon ∷ space ∷ v) ≢ last_dots (setting mode k) ++ u
+no_dots_at mode k name v u h begins = λ same. go mode (ap (after_front Debug) same)
   where
     after : after_front Debug (name ++ (colon ∷ space ∷ v)) ≡ colon ∷ space ∷ v
-    after = (name_fronts Debug name h).after (colon ∷ space ∷ v) (follower_ends_front Debug (colon ∷ space ∷ v) (colon_follows Debug v))
+    after = (name_fronts Debug name (colon ∷ space ∷ v) h (follower_ends_front Debug (colon ∷ space ∷ v) (colon_follows Debug v begins))).after
 
     go : (mode : Mode) → after_front Debug (name ++ (colon ∷ space ∷ v)) ≡ after_front Debug (last_dots (setting mode k) ++ u) → ⊥
     go Plain other = colon_no_space (space ∷ v) (closing_brace ∷ u) (sym after ∙ other)
     go Pretty other = colon_no_line_feed (space ∷ v) _ (sym after ∙ other)
 
 -- no field begins with dots
-pub name_no_dots : (class : Class) (s : Setting) (name v : List ℕ) → IsName class name → strip_dots class s (name ++ (colon ∷ space ∷ v)) ≡ None
-name_no_dots Token s name v h = refl
-name_no_dots Debug s name v h = strip_of_none (last_dots s) (name ++ (colon ∷ space ∷ v)) (λ u. no_dots_at s.mode s.depth name v u h)
+pub name_no_dots : (class : Class) (s : Setting) (name v : List ℕ) → IsName class name → Begins v → strip_dots class s (name ++ (colon ∷ space ∷ v)) ≡ None
+name_no_dots Token s name v h begins = refl
+name_no_dots Debug s name v h begins = strip_of_none (last_dots s) (name ++ (colon ∷ space ∷ v)) (λ u. no_dots_at s.mode s.depth name v u h begins)
 
 -- a struct with fields has not only dots
-pub field_no_only_dots : (class : Class) (s : Setting) (name v : List ℕ) → IsName class name
+pub field_no_only_dots : (class : Class) (s : Setting) (name v : List ℕ) → IsName class name → Begins v
     → strip_only_dots class (lead (frame s.mode Struct) (inside s) Zero ++ (name ++ (colon ∷ space ∷ v))) ≡ None
-field_no_only_dots Token s name v h = refl
-field_no_only_dots Debug s name v h = go s.mode
+field_no_only_dots Token s name v h begins = refl
+field_no_only_dots Debug s name v h begins = go s.mode
   where
     go : (mode : Mode) → strip (codes " { .. }") (lead (frame mode Struct) (inside (setting mode s.depth)) Zero ++ (name ++ (colon ∷ space ∷ v))) ≡ None
-    go Plain = name_no_dots Debug (setting Plain 0) name v h
+    go Plain = name_no_dots Debug (setting Plain 0) name v h begins
     go Pretty = refl
 
 -- where structs may end in dots, they are stripped

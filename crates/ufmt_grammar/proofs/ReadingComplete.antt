@@ -123,7 +123,7 @@ module _ (class : Class) where
       )
       (rw (
         append_assoc (layout (inside s) key) (codes ": " ++ layout (inside s) value) (trail s.mode ++ (left ++ u)),
-        first.reads (codes ": " ++ (layout (inside s) value ++ (trail s.mode ++ (left ++ u)))) (colon_follows class _),
+        first.reads (codes ": " ++ (layout (inside s) value ++ (trail s.mode ++ (left ++ u)))) (colon_follows class _ (Begins-append second.begins (trail s.mode ++ (left ++ u)))),
       )
       (rw (read_value_complete class p (normal key) (normal value) (layout (inside s) value) (trail s.mode ++ (left ++ u)) second
       (tail_follows class (frame s.mode Braces) s close Zero (pair_texts (inside s) ps) u))
@@ -135,7 +135,7 @@ module _ (class : Class) where
   no_field_begins : (s i : Setting) (fs : Fields) → FieldsAreBuilt class fs → NoDotsIn class (strip_dots class s) (field_texts i fs)
   no_field_begins s i no_fields h = tt
   no_field_begins s i (first_field name value fs) h = (
-    λ u. ap (strip_dots class s) (append_assoc name (codes ": " ++ layout i value) u) ∙ name_no_dots class s name (layout i value ++ u) h.0,
+    λ u. ap (strip_dots class s) (append_assoc name (codes ": " ++ layout i value) u) ∙ name_no_dots class s name (layout i value ++ u) h.0 (Begins-append (document_begins class i value h.1) u),
     no_field_begins s i fs h.2,
   )
 
@@ -158,7 +158,7 @@ module _ (class : Class) where
       let close = closes class s Struct (fits_less s 1 n (omega arith) fits) in
       let left : List ℕ = rest_text f s (last_dots s) One (field_texts (inside s) fs) b in
       let start : List ℕ = lead f (inside s) Zero in
-      let some_field : strip_only_dots class ((start ++ (entry ++ (trail s.mode ++ left))) ++ u) ≡ None = ap (strip_only_dots class) (struct_assoc start field_name (layout (inside s) value) (trail s.mode) left u) ∙ field_no_only_dots class s field_name (layout (inside s) value ++ (trail s.mode ++ (left ++ u))) hl in
+      let some_field : strip_only_dots class ((start ++ (entry ++ (trail s.mode ++ left))) ++ u) ≡ None = ap (strip_only_dots class) (struct_assoc start field_name (layout (inside s) value) (trail s.mode) left u) ∙ field_no_only_dots class s field_name (layout (inside s) value ++ (trail s.mode ++ (left ++ u))) hl (Begins-append (document_begins class (inside s) value hv) (trail s.mode ++ (left ++ u))) in
       name_leads class s p (c ∷ name) (start ++ (entry ++ (trail s.mode ++ left))) u hn (stops_at_space class _)
       ∙ (ap (λ o. choose o (λ v. Some (non_exhaustive_of (c ∷ name) no_fields, v)) (choose (strip start ((start ++ (entry ++ (trail s.mode ++ left))) ++ u)) (read_struct class s p (c ∷ name)) (Some (leaf (c ∷ name), (start ++ (entry ++ (trail s.mode ++ left))) ++ u)))) some_field
       ∙ (lead_chosen start entry (trail s.mode) left u (read_struct class s p (c ∷ name)) (Some (leaf (c ∷ name), (start ++ (entry ++ (trail s.mode ++ left))) ++ u))
@@ -196,9 +196,10 @@ module _ (class : Class) where
       let first : IsRead class p (normal d) (layout (inside s) d) = below.reads d h (omega arith) in
       let more : AreRead class p (listed (normal_all ds)) (texts (inside s) ds) = documents_complete p (inside s) n below ds hs (omega arith) in
       let close = closes class s Unnamed (fits_less s 1 n (omega arith) fits) in
+      let begins = entries_begin s first.begins (trail s.mode ++ block_tail (frame s.mode Unnamed) s One (texts (inside s) ds)) u in
       at_parenthesis class s p ((new_line (inside s).mode (inside s).depth
-      ++ (layout (inside s) d ++ (trail s.mode ++ block_tail (frame s.mode Unnamed) s One (texts (inside s) ds)))) ++ u)
-      ∙ rw (no_symbol class _ (ender_begins_none closing_parenthesis [] refl (entries_begin s first.begins (trail s.mode ++ block_tail (frame s.mode Unnamed) s One (texts (inside s) ds)) u)))
+      ++ (layout (inside s) d ++ (trail s.mode ++ block_tail (frame s.mode Unnamed) s One (texts (inside s) ds)))) ++ u) begins
+      ∙ rw (no_symbol class _ (ender_begins_none closing_parenthesis [] refl begins))
       (rw (block_complete class p (frame s.mode Unnamed) s (tuple_with []) close (normal d) (listed (normal_all ds))
       (layout (inside s) d) (texts (inside s) ds) u first more)
       (ap (λ es. Some (tuple_of [] (first_document (normal d) es), u)) (documents-listed (normal_all ds))))
@@ -208,7 +209,7 @@ module _ (class : Class) where
       let close = closes class s Tuple (fits_less s 1 n (omega arith) fits) in
       let left : List ℕ = block_tail (frame s.mode Tuple) s One (texts (inside s) ds) in
       let start : List ℕ = lead (frame s.mode Tuple) (inside s) Zero in
-      name_leads class s p (c ∷ name) (start ++ (layout (inside s) d ++ (trail s.mode ++ left))) u hn (stops_at_parenthesis class _)
+      name_leads class s p (c ∷ name) (start ++ (layout (inside s) d ++ (trail s.mode ++ left))) u hn (stops_at_parenthesis class _ (entries_begin s first.begins (trail s.mode ++ left) u))
       ∙ (lead_chosen start (layout (inside s) d) (trail s.mode) left u (read_tuple s p (c ∷ name))
       _
       ∙ (entries_complete class p (frame s.mode Tuple) s (tuple_with (c ∷ name)) close (normal d) (listed (normal_all ds))

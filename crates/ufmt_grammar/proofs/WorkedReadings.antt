@@ -123,11 +123,31 @@ no_tokens : map (read_text Token Plain) (codes "-2.5" ∷ codes "a::b" ∷ codes
 unfolding read read_rest read_quoted read_inside is_utf8 chars lib.Utf8.encode
 no_tokens = refl
 
--- a colon at the end, or before a space but no value; a quote that nothing closes; a quote in a name; a control, in quotes too; an escape at the end, or of
+-- calls without arguments, and colons at the end; a colon before a space ends a key, but not before a space and a closing brace
+debug_calls : map (read_text Debug Plain) (codes "f()" ∷ codes "a::b()?.c()" ∷ codes "()()" ∷ codes "fe80::" ∷ codes "::" ∷ codes "a:()" ∷ codes "\\" ∷ [])
+    ≡ map (λ text. Some (leaf text)) (codes "f()" ∷ codes "a::b()?.c()" ∷ codes "()()" ∷ codes "fe80::" ∷ codes "::" ∷ codes "a:()" ∷ codes "\\" ∷ [])
+unfolding read read_rest read_quoted is_utf8 chars lib.Utf8.encode
+debug_calls = refl
+
+debug_colons : map (read_text Debug Plain) (codes "S { a: : }" ∷ codes "S { a: :: }" ∷ codes "{a:: b}" ∷ codes "{\"a\": b}" ∷ codes "Ok(())" ∷ [])
+    ≡ map Some (struct_of (codes "S") (first_field (codes "a") (leaf (codes ":")) no_fields) ∷ struct_of (codes "S") (first_field (codes "a") (leaf (codes "::")) no_fields)
+    ∷ map_of (first_pair (leaf (codes "a:")) (leaf (codes "b")) no_pairs) ∷ map_of (first_pair (leaf (codes "\"a\"")) (leaf (codes "b")) no_pairs)
+    ∷ tuple_of (codes "Ok") (lone (leaf (codes "()"))) ∷ [])
+unfolding read read_rest read_quoted is_utf8 chars lib.Utf8.encode
+debug_colons = refl
+
+-- a name that ends in a colon, or has `()`; a backslash before a quote; a colon after a closing quote; a name before `()`
+debug_no_names : map (read_text Debug Plain) (codes "a: { b: 1 }" ∷ codes "a:(b)" ∷ codes "S { a:: 1 }" ∷ codes "f()(a)" ∷ codes "f() { a: 1 }" ∷ codes "\\\"a\"" ∷ codes "\"a\":b"
+    ∷ codes "\"a\"::b" ∷ codes "'a':" ∷ codes "(a)" ∷ codes "f()a(b)" ∷ [])
+    ≡ replicate 11 None
+unfolding read read_rest read_quoted is_utf8 chars lib.Utf8.encode
+debug_no_names = refl
+
+-- a colon before a space but no value; a quote that nothing closes; a quote in a name; a control, in quotes too; an escape at the end, or of
 -- a character past ASCII; bytes that are no UTF-8; a space in a leaf
-refused_by_debug : map (read_text Debug Plain) (codes "a:" ∷ codes "a:: b" ∷ codes "{a:1}, " ∷ codes "\"a" ∷ codes "a'b" ∷ codes "\"S\"(x)" ∷ codes "a\"b\"(x)"
+refused_by_debug : map (read_text Debug Plain) (codes "a:: b" ∷ codes "{a:1}, " ∷ codes "\"a" ∷ codes "a'b" ∷ codes "\"S\"(x)" ∷ codes "a\"b\"(x)"
     ∷ codes "a\tb" ∷ codes "\"\t\"" ∷ codes "\"\\\"" ∷ (quotation_mark ∷ backslash ∷ 194 ∷ 181 ∷ quotation_mark ∷ []) ∷ (97 ∷ 255 ∷ []) ∷ (quotation_mark ∷ 255 ∷ quotation_mark ∷ []) ∷ codes "a b" ∷ codes "" ∷ [])
-    ≡ replicate 15 None
+    ≡ replicate 14 None
 unfolding read read_rest read_quoted is_utf8 chars lib.Utf8.encode
 refused_by_debug = refl
 

@@ -1,6 +1,6 @@
 -- Examples of words, token documents, normal forms and followers, computed.
 use Rattle.std.proofs.Common.{◌≡◌, ℕ, zero, suc, map, true, false, codes, refl, inl, inr, arith}
-use Rattle.std.proofs.lemmas.Bool.{false≢true}
+use Rattle.std.proofs.lemmas.Bool.{false≢true, true≢false}
 use Rattle.ufmt_core.specs.Document.{Document, leaf, joined, list_of, set_of, map_of, struct_of, tuple_of, pretty_part, Documents, no_documents, first_document, no_pairs, first_pair, no_fields, first_field, nest}
 use Rattle.ufmt_grammar.specs.Leaves.{is_debug_byte}
 use Rattle.ufmt_grammar.specs.Token.{is_word_byte, IsWord, Token, Debug, IsBuilt, IsTokenDocument, normal, is_closer, IsFollower, MayFollow}
@@ -160,7 +160,11 @@ other-debug-bytes : map is_debug_byte (codes "\0\n\u{1f}\u{7f} \"'(),:[]{}") ≡
 other-debug-bytes = refl
 
 MayFollow-colon : MayFollow Debug (codes ": 1")
-MayFollow-colon = inr (inl (refl, refl))
+MayFollow-colon = inr (inl (refl, refl, refl))
 
 MayFollow-not-colon : MayFollow Debug (codes ":1") → ⊥
 MayFollow-not-colon h = elim h [ inl e ↦ false≢true e | inr k ↦ elim k [ inl e ↦ omega (arith, e.1) | inr e ↦ omega (arith, e.0) ] ]
+
+-- the colon of `a:` in `S { n: a: }` belongs to the leaf
+MayFollow-not-brace : MayFollow Debug (codes ": }") → ⊥
+MayFollow-not-brace h = elim h [ inl e ↦ false≢true e | inr k ↦ elim k [ inl e ↦ true≢false e.2 | inr e ↦ omega (arith, e.0) ] ]

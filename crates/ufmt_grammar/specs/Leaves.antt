@@ -67,52 +67,85 @@ is_ender c = c == comma || c == closing_bracket || c == closing_parenthesis || c
 abbrev pub is_debug_byte : ℕ → Bool
 is_debug_byte c = nat_le c 255 && not (is_control c || c == space || is_quote c || is_opening c || is_ender c || c == colon)
 
--- whether a byte of a word or a quote comes next, perhaps after colons. Then a colon before it belongs to the leaf
-abbrev pub leads_on : List ℕ → Bool
-leads_on [] = false
-leads_on (c ∷ t) = if c == colon then leads_on t else is_debug_byte c || is_quote c
+-- whether the text begins with this byte
+abbrev pub begins_with : ℕ → List ℕ → Bool
+begins_with byte [] = false
+begins_with byte (c ∷ t) = c == byte
 
--- a place in a leaf: outside of quotes, between two of these quotes, or there after a backslash
+abbrev pub begins_quote : List ℕ → Bool
+begins_quote [] = false
+begins_quote (c ∷ t) = is_quote c
+
+-- a space comes next, and no closing brace after it. Then a colon before it ends a leaf
+abbrev pub is_spaced : List ℕ → Bool
+is_spaced [] = false
+is_spaced (c ∷ t) = c == space && not (begins_with closing_brace t)
+
+-- whether a byte outside of quotes is one of a leaf's words, before this rest of the text: a colon, but for the one that ends a key, or a byte of a word, but for a backslash before a quote
+abbrev pub is_in_word : ℕ → List ℕ → Bool
+is_in_word c t = if c == colon then not (is_spaced t) else is_debug_byte c && not (c == backslash && begins_quote t)
+
+-- a place in a leaf: outside of quotes, right after a closing quote, between the parentheses of `()`, between two of these quotes, or there after a backslash
 pub data Place : Type 0 where
   outside : Place
+  after_quotes : Place
+  in_parentheses : Place
   between : ℕ → Place
   after_backslash : ℕ → Place
 
--- the place after a byte of a leaf; None if the byte, with the rest of the text after it, doesn't belong to the leaf
+-- whether a leaf may end at this place
+abbrev pub is_outside : Place → Bool
+is_outside outside = true
+is_outside after_quotes = true
+is_outside in_parentheses = false
+is_outside (between quote) = false
+is_outside (after_backslash quote) = false
+
+-- the place after a byte that is outside of quotes: in a word, in quotes, or in `()`
+abbrev pub place_outside : ℕ → List ℕ → Option Place
+place_outside c t =
+    if is_in_word c t then Some outside else if is_quote c then Some (between c) else if c == opening_parenthesis && begins_with closing_parenthesis t then Some in_parentheses else None
+
+-- the place after a byte of a leaf; None if the byte, with the rest of the text after it, doesn't belong to the leaf. No colon belongs to it right after a closing quote
 abbrev pub place_after : Place → ℕ → List ℕ → Option Place
-place_after outside c t = if is_debug_byte c || c == colon && leads_on t then Some outside else if is_quote c then Some (between c) else None
-place_after (between quote) c t = if is_control c then None else if c == quote then Some outside else if c == backslash then Some (after_backslash quote) else Some (between quote)
+place_after outside c t = place_outside c t
+place_after after_quotes c t = if c == colon then None else place_outside c t
+place_after in_parentheses c t = if c == closing_parenthesis then Some outside else None
+place_after (between quote) c t = if is_control c then None else if c == quote then Some after_quotes else if c == backslash then Some (after_backslash quote) else Some (between quote)
 place_after (after_backslash quote) c t = if is_control c || nat_le 128 c then None else Some (between quote)
 
 -- these bytes are the rest of a leaf from this place on, and its quotes are closed
 abbrev pub EndsLeaf : Place → List ℕ → Type 0
-EndsLeaf place [] = place ≡ outside
+EndsLeaf place [] = is_outside place ≡ true
 EndsLeaf place (c ∷ t) = (next : Place) × (place_after place c t ≡ Some next) × EndsLeaf next t
 
-abbrev pub has_quote : List ℕ → Bool
-has_quote [] = false
-has_quote (c ∷ t) = is_quote c || has_quote t
-
--- one or more word bytes and texts in quotes in a row, in UTF-8
-pub record IsDebugText (text : List ℕ) : Type 0 where
+-- a debug leaf, which can be read again: one or more words, texts in quotes and `()` in a row, in UTF-8
+pub record IsDebugLeaf (text : List ℕ) : Type 0 where
   pub some : text ≢ []
   pub pieces : EndsLeaf outside text
   pub utf8 : is_utf8 text ≡ true
 
--- a word is such a text without quotes
+-- only bytes of words and colons
+abbrev pub has_name_bytes : List ℕ → Bool
+has_name_bytes [] = true
+has_name_bytes (c ∷ t) = (is_debug_byte c || c == colon) && has_name_bytes t
+
+abbrev pub ends_in_colon : List ℕ → Bool
+ends_in_colon [] = false
+ends_in_colon (c ∷ []) = c == colon
+ends_in_colon (c ∷ b ∷ t) = ends_in_colon (b ∷ t)
+
+-- a debug word, which may be a name, is such a leaf of bytes of words and colons that doesn't end in a colon
 pub record IsDebugWord (text : List ℕ) : Type 0 where
-  pub whole : IsDebugText text
-  pub no_quotes : has_quote text ≡ false
+  pub whole : IsDebugLeaf text
+  pub bytes : has_name_bytes text ≡ true
+  pub ends : ends_in_colon text ≡ false
 
--- a debug leaf, which can be read again, is such a text or `()`
-abbrev pub IsDebugLeaf : List ℕ → Type 0
-IsDebugLeaf text = IsDebugText text ⊎ (text ≡ codes "()")
-
--- a follower of a debug document: a colon only with a space after it
+-- a follower of a debug document: a colon only with a space after it, and no closing brace after that
 abbrev pub IsDebugFollower : List ℕ → Type 0
 IsDebugFollower [] = ⊤
 IsDebugFollower (c ∷ []) = is_ender c ≡ true
-IsDebugFollower (c ∷ b ∷ text) = (is_ender c ≡ true) ⊎ ((c ≡ colon) × (b ≡ space)) ⊎ ((c ≡ space) × (b ≡ closing_brace))
+IsDebugFollower (c ∷ b ∷ text) = (is_ender c ≡ true) ⊎ ((c ≡ colon) × (b ≡ space) × (begins_with closing_brace text ≡ false)) ⊎ ((c ≡ space) × (b ≡ closing_brace))
 
 -- ---- by class
 

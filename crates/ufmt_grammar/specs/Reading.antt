@@ -10,7 +10,7 @@ use Rattle.ufmt_core.specs.declared.layout.Kind.TheVariants.{Brackets, Braces, S
 use Rattle.ufmt_core.specs.declared.layout.Count.{Count}
 use Rattle.ufmt_core.specs.declared.layout.Count.TheVariants.{Zero, One}
 use Rattle.ufmt_grammar.specs.ReadingQuoted.{read_quoted}
-use Rattle.ufmt_grammar.specs.Leaves.{Class, Token, Debug, is_word_byte, Place, outside, between, after_backslash, place_after, has_quote}
+use Rattle.ufmt_grammar.specs.Leaves.{Class, Token, Debug, is_word_byte, Place, outside, is_outside, place_after, has_name_bytes, ends_in_colon}
 pub use Rattle.ufmt_grammar.specs.Parse.{Parse, choose, parse_map, strip}
 
 -- the word bytes at the front of a text
@@ -38,11 +38,6 @@ abbrev pub last_place : Place → List ℕ → Place
 last_place place [] = place
 last_place place (c ∷ t) = choose (place_after place c t) (λ next. last_place next t) place
 
-abbrev pub is_outside : Place → Bool
-is_outside outside = true
-is_outside (between quote) = false
-is_outside (after_backslash quote) = false
-
 -- the name or the leaf at the front of a text, as long as it may be; of a token document only a word
 abbrev pub front_of : Class → List ℕ → List ℕ
 front_of Token t = word_of t
@@ -61,7 +56,7 @@ is_whole Debug front = is_outside (last_place outside front) && is_utf8 front
 -- whether such a leaf is a name
 abbrev pub is_name : Class → List ℕ → Bool
 is_name Token front = true
-is_name Debug front = not (has_quote front)
+is_name Debug front = has_name_bytes front && not (ends_in_colon front)
 
 -- this name and what follows it; None if it is no name
 abbrev pub if_name : Class → List ℕ → List ℕ → Option (List ℕ × List ℕ)
@@ -77,7 +72,7 @@ abbrev pub read_quotes : Class → Parse (List ℕ)
 read_quotes Token t = read_quoted t
 read_quotes Debug t = None
 
--- reads a leaf that doesn't begin as a name does: `()`, or a quoted text or character
+-- reads a leaf that no front begins: `()`, or a quoted text or character. A debug document's leaves are all fronts
 abbrev pub read_symbol : Class → Parse (List ℕ)
 read_symbol class t = choose (strip (codes "()") t) (λ u. Some (codes "()", u)) (read_quotes class t)
 

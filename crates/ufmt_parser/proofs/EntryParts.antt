@@ -7,6 +7,7 @@ use Rattle.ufmt_core.specs.declared.layout.Mode.{Mode}
 use Rattle.ufmt_core.specs.declared.layout.Kind.{Kind}
 use Rattle.ufmt_core.specs.declared.layout.Count.{Count}
 use Rattle.ufmt_grammar.proofs.BlocksComplete.{tail_follows}
+use Rattle.ufmt_grammar.proofs.ClassLeaves.{Begins, Begins-append, colon_follows as colon_and_value}
 use Rattle.ufmt_grammar.proofs.FramesClose.{closes}
 use Rattle.ufmt_parser.specs.declared.parser.Fault.{Fault}
 use Rattle.ufmt_parser.specs.declared.parser.Fault.TheVariants.{NotText}
@@ -53,9 +54,9 @@ module _ (mode : Mode) (kind : Kind) (count : Count) (blocks : ℕ) (some : 0 < 
         (inside_lead old here lead_is) entry trail_is takes
 
 -- a key comes first, and its value after a colon
-module _ {A B : Type 0} (is_a : A → Type 0) (text_a : A → List ℕ) (is_b : B → Type 0) (text_b : B → List ℕ) where
+module _ {A B : Type 0} (is_a : A → Type 0) (text_a : A → List ℕ) (is_b : B → Type 0) (text_b : B → List ℕ) (begins : (b : B) → is_b b → Begins (text_b b)) where
   colon_follows : (b : B) (u : List ℕ) → is_b b → MayFollow Debug u → MayFollow Debug (codes ": " ++ (text_b b ++ u))
-  colon_follows b u is may = inr (inl (refl, refl))
+  colon_follows b u is may = colon_and_value Debug (text_b b ++ u) (Begins-append (begins b is) u)
 
   abbrev pub PairTaken : List ℕ → Result (A × B) Fault → List ℕ → Type 0
   PairTaken old outcome new = Takes (λ p. is_a p.0 × is_b p.1) (λ p. text_a p.0 ++ (codes ": " ++ text_b p.1)) old outcome new

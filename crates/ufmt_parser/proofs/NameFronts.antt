@@ -1,21 +1,23 @@
 -- The name at the front of a document's text is found byte by byte.
-use Rattle.std.proofs.Common.{◌≡◌, ◌≢◌, ◌⊎◌, inl, inr, refl, sym, ap, ◌∙◌, subst, ℕ, ◌==◌, ◌||◌, ◌&&◌, Bool, true, false, List, [], ◌∷◌, ◌++◌, append_assoc, None, eqb-true}
+use Rattle.std.proofs.Common.{◌≡◌, ◌≢◌, ◌⊎◌, inl, inr, refl, sym, ap, ◌∙◌, subst, ℕ, ◌==◌, ◌||◌, ◌&&◌, not, cond, Bool, true, false, List, [], ◌∷◌, ◌++◌, append_assoc, None, eqb-true}
 use Rattle.std.specs.Str.{bytes_eq}
 use Rattle.std.proofs.lemmas.Slice.Eq.{bytes_eq-Decides}
 use Rattle.std.proofs.lemmas.List.{append_cancel_left}
 use Rattle.ufmt_core.specs.Document.{Document, leaf, joined, list_of, set_of, map_of, struct_of, non_exhaustive_of, tuple_of, pretty_part, no_documents, first_document, no_fields, first_field}
-use Rattle.ufmt_core.specs.Layout.{layout}
+use Rattle.ufmt_core.specs.Layout.{inside, layout}
 use Rattle.ufmt_core.specs.declared.layout.Setting.{Setting}
 use Rattle.ufmt_grammar.specs.declared.class.Class.TheVariants.{Debug}
-use Rattle.ufmt_grammar.specs.Leaves.{EndsLeaf, IsDebugFollower, MayFollow, is_debug_byte, is_ender, outside, place_after}
+use Rattle.ufmt_grammar.specs.Leaves.{EndsLeaf, IsDebugFollower, IsName, MayFollow, begins_with, ends_in_colon, is_debug_byte, is_ender, is_quote, is_spaced, outside, place_outside}
 use Rattle.ufmt_grammar.specs.Reading.{leaf_from}
 use Rattle.ufmt_grammar.specs.Token.{IsBuilt}
-use Rattle.ufmt_grammar.proofs.ClassLeaves.{name_some}
-use Rattle.ufmt_grammar.proofs.DebugLeaves.{StopsLeaf, leaf_from-append}
+use Rattle.ufmt_grammar.proofs.ClassLeaves.{Begins, Begins-append, begins_no, name_some}
+use Rattle.ufmt_grammar.proofs.FramesClose.{begins_after}
+use Rattle.ufmt_grammar.proofs.TextsBegin.{document_begins as text_begins}
+use Rattle.ufmt_grammar.proofs.DebugLeaves.{StopsLeaf, follower_unspaced, leaf_from-append}
 use Rattle.ufmt_grammar.proofs.ReadingWords.{each_ender}
-use Rattle.ufmt_parser.specs.Naming.{begins_space, document_name, ends_name, is_debug_name, is_past_name}
+use Rattle.ufmt_parser.specs.Naming.{document_name, ends_name, is_debug_name, is_past_name}
 use Rattle.ufmt_parser.specs.Taking.{DoesNotBegin}
-use Rattle.ufmt_parser.proofs.Words.{begins_name, name_ends}
+use Rattle.ufmt_parser.proofs.Words.{begins_name, name_ends, name_ends_in_no_colon}
 
 -- ---- where a name is over
 
@@ -33,33 +35,37 @@ each_end P space parenthesis bracket brace comma closing_bracket closing_parenth
     go false false false true ha hb hd he k = at 123 he brace
     go false false false false ha hb hd he k = each_ender P comma closing_bracket closing_parenthesis closing_brace c k
 
-end_stops : (c : ℕ) (t : List ℕ) → ends_name c ≡ true → StopsLeaf (c ∷ t)
-end_stops c t h = each_end (λ b. place_after outside b t ≡ None) refl refl refl refl refl refl refl refl c h
-
 -- no byte of a name comes where one is over
 past_name_stops : (u : List ℕ) → is_past_name u ≡ true → StopsLeaf u
 past_name_stops [] h = tt
-past_name_stops (c ∷ u) h = go (ends_name c) (c == 58) refl refl h
+past_name_stops (c ∷ u) h = go (c == 58) (c == 40) refl refl h
   where
-    at_space : (u : List ℕ) → begins_space u ≡ true → place_after outside 58 u ≡ None
-    at_space [] is_space = absurd (cc)
-    at_space (b ∷ u) is_space = rw (eqb-true b 32 is_space) refl
+    opens : (closes : Bool) → begins_with 41 u ≡ closes → not closes ≡ true → StopsLeaf (40 ∷ u)
+    opens true e k = absurd (cc)
+    opens false e k = rw e (refl, refl)
 
-    go : (end colon : Bool) → ends_name c ≡ end → (c == 58) ≡ colon → (end || colon && begins_space u) ≡ true → place_after outside c u ≡ None
-    go true colon is_end is_colon k = end_stops c u is_end
-    go false true is_end is_colon k = rw (eqb-true c 58 is_colon) (at_space u k)
-    go false false is_end is_colon k = absurd (cc)
+    other : ends_name c ≡ true → (c == 40) ≡ false → StopsLeaf (c ∷ u)
+    other is = each_end (λ b. (b == 40) ≡ false → StopsLeaf (b ∷ u)) (λ e. (refl, refl)) (λ e. absurd (cc)) (λ e. (refl, refl)) (λ e. (refl, refl)) (λ e. (refl, refl)) (λ e. (refl, refl)) (λ e. (refl, refl)) (λ e. (refl, refl)) c is
 
-ender_ends : (c : ℕ) → is_ender c ≡ true → ends_name c ≡ true
-ender_ends c h = each_ender (λ b. ends_name b ≡ true) refl refl refl refl c h
+    go : (colon parenthesis : Bool) → (c == 58) ≡ colon → (c == 40) ≡ parenthesis → cond colon (is_spaced u) (cond parenthesis (not (begins_with 41 u)) (ends_name c)) ≡ true → StopsLeaf (c ∷ u)
+    go true parenthesis e f k = subst (λ b. StopsLeaf (b ∷ u)) (sym (eqb-true c 58 e)) (rw k (refl, refl))
+    go false true e f k = subst (λ b. StopsLeaf (b ∷ u)) (sym (eqb-true c 40 f)) (opens (begins_with 41 u) refl k)
+    go false false e f k = other k f
+
+ender_past : (c : ℕ) (u : List ℕ) → is_ender c ≡ true → is_past_name (c ∷ u) ≡ true
+ender_past c u h = each_ender (λ b. is_past_name (b ∷ u) ≡ true) refl refl refl refl c h
 
 -- what may follow a document is past its name
 follower_is_past : (u : List ℕ) → IsDebugFollower u → is_past_name u ≡ true
 follower_is_past [] h = refl
-follower_is_past (c ∷ []) h = rw (ender_ends c h) refl
-follower_is_past (c ∷ b ∷ u) (inl h) = rw (ender_ends c h) refl
-follower_is_past (c ∷ b ∷ u) (inr (inl h)) = rw (h.0, h.1) refl
+follower_is_past (c ∷ []) h = ender_past c [] h
+follower_is_past (c ∷ b ∷ u) (inl h) = ender_past c (b ∷ u) h
+follower_is_past (c ∷ b ∷ u) (inr (inl h)) = rw (h.0, h.1, h.2) refl
 follower_is_past (c ∷ b ∷ u) (inr (inr h)) = rw h.0 refl
+
+-- what may follow a block's name in a text, before an entry
+parenthesis_past : {t : List ℕ} → Begins t → is_past_name (40 ∷ t) ≡ true
+parenthesis_past begins = rw (begins_no begins 41 refl) refl
 
 -- ---- how a text begins
 
@@ -69,6 +75,7 @@ pub record IsNamed (name text : List ℕ) : Type 0 where
   pub is : text ≡ name ++ tail
   pub ends : EndsLeaf outside name
   pub past : is_past_name tail ≡ true
+  pub seam : ends_in_colon name ≡ true → is_spaced tail ≡ false
 
 -- no name begins with the byte
 abbrev pub begins_none : ℕ → Type 0
@@ -87,30 +94,28 @@ pub record IsBracketed (name text : List ℕ) : Type 0 where
   pub no_byte : begins_none bracket
   pub no_name : BeginsNoName name
 
+named : (name tail text : List ℕ) → IsName Debug name → text ≡ name ++ tail → is_past_name tail ≡ true → IsNamed name text
+named name tail text is whole past = record { tail = tail; is = whole; ends = is.whole.pieces; past = past; seam = λ colon. absurd (cc (colon, is.ends)) }
+
 -- a document's text begins with its name or with a bracket
 pub document_begins : (s : Setting) (d : Document) (u : List ℕ) → IsBuilt Debug d → MayFollow Debug u
     → IsNamed (document_name d) (layout s d ++ u) ⊎ IsBracketed (document_name d) (layout s d ++ u)
-document_begins s (leaf text) u (inl is) may = inl (record { tail = u; is = refl; ends = is.pieces; past = follower_is_past u may })
-document_begins s (leaf text) u (inr unit) may =
-    inr (record { bracket = 40; tail = 41 ∷ u; is = ap (λ t. t ++ u) unit; no_byte = refl; no_name = subst BeginsNoName (sym unit) refl })
+document_begins s (leaf text) u is may = inl (record { tail = u; is = refl; ends = is.pieces; past = follower_is_past u may; seam = λ colon. follower_unspaced u may })
 document_begins s (joined ds) u is may = absurd is
 document_begins s (pretty_part d) u is may = absurd is
 document_begins s (list_of ds) u is may = inr (record { bracket = 91; tail = _; is = refl; no_byte = refl; no_name = tt })
 document_begins s (set_of ds) u is may = inr (record { bracket = 123; tail = _; is = refl; no_byte = refl; no_name = tt })
 document_begins s (map_of ps) u is may = inr (record { bracket = 123; tail = _; is = refl; no_byte = refl; no_name = tt })
-document_begins s (struct_of name no_fields) u is may =
-    inl (record { tail = u; is = append_assoc name [] u; ends = is.0.whole.pieces; past = follower_is_past u may })
-document_begins s (struct_of name (first_field field value fs)) u is may =
-    inl (record { tail = _; is = append_assoc name _ u; ends = is.0.whole.pieces; past = refl })
-document_begins s (non_exhaustive_of name no_fields) u is may = inl (record { tail = _; is = append_assoc name _ u; ends = is.1.whole.pieces; past = refl })
-document_begins s (non_exhaustive_of name (first_field field value fs)) u is may =
-    inl (record { tail = _; is = append_assoc name _ u; ends = is.1.whole.pieces; past = refl })
+document_begins s (struct_of name no_fields) u is may = inl (named name u _ is.0 (append_assoc name [] u) (follower_is_past u may))
+document_begins s (struct_of name (first_field field value fs)) u is may = inl (named name _ _ is.0 (append_assoc name _ u) refl)
+document_begins s (non_exhaustive_of name no_fields) u is may = inl (named name _ _ is.1 (append_assoc name _ u) refl)
+document_begins s (non_exhaustive_of name (first_field field value fs)) u is may = inl (named name _ _ is.1 (append_assoc name _ u) refl)
 document_begins s (tuple_of [] no_documents) u is may = absurd (name_some Debug is)
-document_begins s (tuple_of (c ∷ name) no_documents) u is may =
-    inl (record { tail = u; is = append_assoc (c ∷ name) [] u; ends = is.whole.pieces; past = follower_is_past u may })
+document_begins s (tuple_of (c ∷ name) no_documents) u is may = inl (named (c ∷ name) u _ is (append_assoc (c ∷ name) [] u) (follower_is_past u may))
 document_begins s (tuple_of [] (first_document d ds)) u is may = inr (record { bracket = 40; tail = _; is = refl; no_byte = refl; no_name = tt })
 document_begins s (tuple_of (c ∷ name) (first_document d ds)) u is may =
-    inl (record { tail = _; is = append_assoc (c ∷ name) _ u; ends = is.0.whole.pieces; past = refl })
+    inl (named (c ∷ name) _ _ is.0 (append_assoc (c ∷ name) _ u)
+    (parenthesis_past (Begins-append (begins_after (inside s).mode (inside s).depth (Begins-append (text_begins Debug (inside s) d is.1) _)) u)))
 
 -- ---- the test of a name
 
@@ -137,9 +142,9 @@ pub name_is_next : (name other text after : List ℕ) → is_debug_name name ≡
 name_is_next name other text after is (inl named) at = go (is_past_name after) refl
   where
     whole : is_past_name after ≡ true → other ≡ name
-    whole past = sym (leaf_from-append outside other named.tail named.ends (past_name_stops named.tail named.past))
+    whole past = sym (leaf_from-append outside other named.tail named.ends (past_name_stops named.tail named.past) named.seam)
         ∙ ap (leaf_from outside) (sym named.is ∙ at)
-        ∙ leaf_from-append outside name after (name_ends name is) (past_name_stops after past)
+        ∙ leaf_from-append outside name after (name_ends name is) (past_name_stops after past) (λ colon. absurd (cc (colon, name_ends_in_no_colon name is)))
 
     longer : is_past_name after ≡ false → other ≢ name
     longer past same =

@@ -1,10 +1,11 @@
 -- Words as leaves of debug documents, and names that pass the test of a name.
-use Rattle.std.proofs.Common.{◌≡◌, refl, subst, sym, ℕ, ◌==◌, ◌||◌, ◌&&◌, Bool, true, false, cond, List, [], ◌∷◌, Some, None, inl, arith, eqb-true}
+use Rattle.std.proofs.Common.{◌≡◌, refl, ℕ, ◌==◌, ◌||◌, ◌&&◌, not, Bool, true, false, List, [], ◌∷◌, inl, arith}
+use Rattle.std.proofs.lemmas.Bool.Decides.{nat_tests}
 use Rattle.std.specs.Str.{IsUtf8}
 use Rattle.std.proofs.lemmas.Str.{is_utf8-from_IsUtf8}
 use Rattle.ufmt_core.specs.Document.{leaf}
 use Rattle.ufmt_grammar.specs.declared.class.Class.TheVariants.{Debug}
-use Rattle.ufmt_grammar.specs.Leaves.{EndsLeaf, IsName, IsWord, OrEmpty, Place, between, has_quote, is_debug_byte, is_quote, leads_on, outside}
+use Rattle.ufmt_grammar.specs.Leaves.{EndsLeaf, IsName, IsWord, OrEmpty, begins_quote, ends_in_colon, has_name_bytes, is_debug_byte, is_in_word, is_quote, is_spaced, outside}
 use Rattle.ufmt_grammar.specs.Token.{IsBuilt}
 use Rattle.ufmt_grammar.proofs.ClassTokens.{tokens_are_debug}
 use Rattle.ufmt_parser.specs.Naming.{are_debug_names, is_debug_name, is_debug_name_or_empty}
@@ -19,48 +20,58 @@ both : (a b : Bool) → a && b ≡ true → (a ≡ true) × (b ≡ true)
 both true b h = (refl, h)
 both false b h = absurd (cc)
 
--- the first byte, and what is known of the bytes after it
-first_and_others : (c : ℕ) (name : List ℕ) → is_debug_name_or_empty (c ∷ name) ≡ true
-    → (is_debug_byte c || c == 58 && leads_on name ≡ true) × (is_debug_name_or_empty name ≡ true)
-first_and_others c name h = both (is_debug_byte c || c == 58 && leads_on name) (is_debug_name_or_empty name) h
+-- its bytes, and its end
+name_parts : (name : List ℕ) → is_debug_name_or_empty name ≡ true → (has_name_bytes name ≡ true) × (ends_in_colon name ≡ false)
+name_parts name h = let parts = both (has_name_bytes name) (not (ends_in_colon name)) h in (parts.0, no_colon (ends_in_colon name) refl parts.1)
+  where
+    no_colon : (ends : Bool) → ends_in_colon name ≡ ends → not (ends_in_colon name) ≡ true → ends_in_colon name ≡ false
+    no_colon true e h = absurd (cc)
+    no_colon false e h = e
 
 -- such a byte is no bracket, for one
 pub begins_name : (c : ℕ) (name : List ℕ) → is_debug_name (c ∷ name) ≡ true → is_debug_byte c || c == 58 ≡ true
-begins_name c name h = go (is_debug_byte c) (c == 58) (leads_on name) (first_and_others c name h).0
-  where
-    go : (byte colon on : Bool) → byte || colon && on ≡ true → byte || colon ≡ true
-    go true colon on h = refl
-    go false true on h = refl
-    go false false on h = absurd (cc)
+begins_name c name h = (both (is_debug_byte c || c == 58) (has_name_bytes name) (name_parts (c ∷ name) h).0).0
 
-bytes_end : (name : List ℕ) → is_debug_name_or_empty name ≡ true → EndsLeaf outside name
+pub name_ends_in_no_colon : (name : List ℕ) → is_debug_name name ≡ true → ends_in_colon name ≡ false
+name_ends_in_no_colon [] h = refl
+name_ends_in_no_colon (c ∷ name) h = (name_parts (c ∷ name) h).1
+
+-- such a byte begins no space and no quotes
+name_byte_next : (b : ℕ) (t : List ℕ) → is_debug_byte b || b == 58 ≡ true → (is_spaced (b ∷ t) ≡ false) × (begins_quote (b ∷ t) ≡ false)
+name_byte_next b t h = (rw none.0 refl, none.1)
+  where
+    none : ((b == 32) ≡ false) × (is_quote b ≡ false)
+    none = (grind (arith, nat_tests), grind (arith, nat_tests))
+
+bytes_end : (name : List ℕ) → has_name_bytes name ≡ true → EndsLeaf outside name
 bytes_end [] h = refl
-bytes_end (c ∷ name) h = let parts = first_and_others c name h in (outside, rw parts.0 refl, bytes_end name parts.1)
+bytes_end (c ∷ name) h =
+    let parts = both (is_debug_byte c || c == 58) (has_name_bytes name) h in
+    (outside, rw (in_word name parts.1 (is_debug_byte c) (c == 58) refl refl parts.0) refl, bytes_end name parts.1)
+  where
+    next : (name : List ℕ) → has_name_bytes name ≡ true → (is_spaced name ≡ false) × (begins_quote name ≡ false)
+    next [] h = (refl, refl)
+    next (b ∷ t) h = name_byte_next b t (both (is_debug_byte b || b == 58) (has_name_bytes t) h).0
+
+    and-false : (b : Bool) → b && false ≡ false
+    and-false true = refl
+    and-false false = refl
+
+    in_word : (name : List ℕ) → has_name_bytes name ≡ true → (word colon : Bool) → is_debug_byte c ≡ word → (c == 58) ≡ colon → word || colon ≡ true → is_in_word c name ≡ true
+    in_word name named word true e f h = rw (f, (next name named).0) refl
+    in_word name named true false e f h = rw (e, f, (next name named).1, and-false (c == 92)) refl
+    in_word name named false false e f h = absurd (cc)
 
 pub name_ends : (name : List ℕ) → is_debug_name name ≡ true → EndsLeaf outside name
 name_ends [] h = refl
-name_ends (c ∷ name) h = bytes_end (c ∷ name) h
-
-no_quote : (c : ℕ) (on : Bool) → is_debug_byte c || c == 58 && on ≡ true → is_quote c ≡ false
-no_quote c on h = go (c == 34) (c == 39) refl refl
-  where
-    is_not : (k : ℕ) → is_debug_byte k || k == 58 && on ≡ false → (c == k) ≡ true → ⊥
-    is_not k none e = let other = subst (λ b. is_debug_byte b || b == 58 && on ≡ false) (sym (eqb-true c k e)) none in absurd (cc (h, other))
-
-    go : (mark apostrophe : Bool) → (c == 34) ≡ mark → (c == 39) ≡ apostrophe → mark || apostrophe ≡ false
-    go true apostrophe e f = absurd (is_not 34 refl e)
-    go false true e f = absurd (is_not 39 refl f)
-    go false false e f = refl
-
-bytes_unquoted : (name : List ℕ) → is_debug_name_or_empty name ≡ true → has_quote name ≡ false
-bytes_unquoted [] h = refl
-bytes_unquoted (c ∷ name) h = let parts = first_and_others c name h in rw (no_quote c (leads_on name) parts.0, bytes_unquoted name parts.1) refl
+name_ends (c ∷ name) h = bytes_end (c ∷ name) (name_parts (c ∷ name) h).0
 
 pub name_is : (name : List ℕ) → IsUtf8 name → is_debug_name name ≡ true → IsName Debug name
 name_is [] utf8 h = absurd (cc)
 name_is (c ∷ name) utf8 h = record {
-  whole = record { some = λ none. absurd (cc); pieces = bytes_end (c ∷ name) h; utf8 = is_utf8-from_IsUtf8 (c ∷ name) utf8 };
-  no_quotes = bytes_unquoted (c ∷ name) h;
+  whole = record { some = λ none. absurd (cc); pieces = bytes_end (c ∷ name) (name_parts (c ∷ name) h).0; utf8 = is_utf8-from_IsUtf8 (c ∷ name) utf8 };
+  bytes = (name_parts (c ∷ name) h).0;
+  ends = (name_parts (c ∷ name) h).1;
 }
 
 -- a tuple's name may be empty
@@ -78,18 +89,6 @@ names_are (name ∷ names) utf8 h = let parts = both (is_debug_name name) (are_d
 
 -- ---- each name of a debug document passes it, for a caller that knows only that
 
-bytes_pass : (name : List ℕ) → EndsLeaf outside name → has_quote name ≡ false → is_debug_name_or_empty name ≡ true
-bytes_pass [] ends unquoted = refl
-bytes_pass (c ∷ name) ends unquoted =
-    go (is_debug_byte c || c == 58 && leads_on name) (is_quote c) ends.0 ends.1 ends.2 unquoted (λ ends unquoted. bytes_pass name ends unquoted)
-  where
-    go : (byte quote : Bool) (next : Place) → cond byte (Some outside) (cond quote (Some (between c)) None) ≡ Some next → EndsLeaf next name
-        → quote || has_quote name ≡ false → (EndsLeaf outside name → has_quote name ≡ false → is_debug_name_or_empty name ≡ true)
-        → byte && is_debug_name_or_empty name ≡ true
-    go byte true next e ends unquoted others = absurd (cc)
-    go true false next e ends unquoted others = let same : next ≡ outside = cc in others (subst (λ p. EndsLeaf p name) same ends) unquoted
-    go false false next e ends unquoted others = absurd (cc)
-
 pub passes : (name : List ℕ) → IsName Debug name → is_debug_name name ≡ true
 passes [] is = absurd (is.whole.some refl)
-passes (c ∷ name) is = bytes_pass (c ∷ name) is.whole.pieces is.no_quotes
+passes (c ∷ name) is = rw (is.bytes, is.ends) refl

@@ -1,9 +1,9 @@
 -- The name at the front of a document's text, where a name is over, and which names a document may have.
-use Rattle.std.specs.Prelude.{ℕ, ◌&&◌, ◌||◌, ◌==◌, List, [], ◌∷◌, Bool, true, false}
+use Rattle.std.specs.Prelude.{ℕ, ◌&&◌, ◌||◌, ◌==◌, not, if◌then◌else◌, List, [], ◌∷◌, Bool, true, false}
 use Rattle.std.specs.Str.{bytes_eq}
-use Rattle.ufmt_core.specs.Bytes.{colon, space}
+use Rattle.ufmt_core.specs.Bytes.{closing_parenthesis, colon, opening_parenthesis, space}
 use Rattle.ufmt_core.specs.Document.{Document, leaf, joined, list_of, set_of, map_of, struct_of, non_exhaustive_of, tuple_of, pretty_part, no_documents, first_document, no_fields, first_field}
-use Rattle.ufmt_grammar.specs.Leaves.{is_debug_byte, is_ender, is_opening, leads_on}
+use Rattle.ufmt_grammar.specs.Leaves.{begins_with, ends_in_colon, has_name_bytes, is_ender, is_opening, is_spaced}
 
 -- the text of a leaf, or the name of a struct or a tuple; other documents have none
 abbrev pub document_name : Document → List ℕ
@@ -38,10 +38,9 @@ same_names [] (name ∷ names) = false
 same_names (other ∷ others) [] = false
 same_names (other ∷ others) (name ∷ names) = bytes_eq other name && same_names others names
 
--- each byte is one that a name of a debug document may have: a colon only where a byte that is no colon comes after it
+-- a name of a debug document may have each byte, and the last is no colon
 abbrev pub is_debug_name_or_empty : List ℕ → Bool
-is_debug_name_or_empty [] = true
-is_debug_name_or_empty (c ∷ text) = (is_debug_byte c || c == colon && leads_on text) && is_debug_name_or_empty text
+is_debug_name_or_empty text = has_name_bytes text && not (ends_in_colon text)
 
 -- a text, which is UTF-8, may be a name of a debug document: a test, which is computed where the text is known
 abbrev pub is_debug_name : List ℕ → Bool
@@ -57,11 +56,7 @@ are_debug_names (name ∷ names) = is_debug_name name && are_debug_names names
 abbrev pub ends_name : ℕ → Bool
 ends_name c = c == space || is_opening c || is_ender c
 
-abbrev pub begins_space : List ℕ → Bool
-begins_space [] = false
-begins_space (c ∷ text) = c == space
-
--- whether a name before this text is over: a colon ends it only with a space after it
+-- whether a name before this text is over: a colon ends it only as the end of a key, and an opening parenthesis only if it isn't closed at once
 abbrev pub is_past_name : List ℕ → Bool
 is_past_name [] = true
-is_past_name (c ∷ text) = ends_name c || c == colon && begins_space text
+is_past_name (c ∷ text) = if c == colon then is_spaced text else if c == opening_parenthesis then not (begins_with closing_parenthesis text) else ends_name c

@@ -4,6 +4,7 @@ ghost use Rattle.std.specs.Str.{bytes_eq};
 ghost use Rattle.ufmt_core.specs.Layout.{ending, frame, lead};
 ghost use Rattle.ufmt_core.specs.declared.layout.Count.TheVariants.{Zero};
 ghost use Rattle.ufmt_core.specs.Document.{Document};
+ghost use Rattle.ufmt_grammar.specs.Leaves.{begins_with, is_spaced};
 ghost use Rattle.ufmt_parser.specs.Naming.{document_name, ends_name, is_debug_name, is_past_name};
 ghost use Rattle.ufmt_parser.specs.Next.{IsNotNext, NextLeaves};
 ghost use Rattle.ufmt_parser.specs.Taking.{Eats, open_blocks, rest, setting_in};
@@ -188,14 +189,37 @@ impl<'t, M: ParseMode> Parser<'t, M> {
     }
 }
 
-// Whether a name before this text is over: no more bytes of it come.
+// Whether a name before this text is over: no more bytes of it come, and no `()`.
 #[inline(always)]
 fn is_past_name(after: &[u8]) -> bool
     ensures { result ≡ is_past_name after.now }
 {
     match after.split_first() {
         None => true,
-        Some((&first, after)) => ends_name(first) || first == b':' && matches!(after, [b' ', ..]),
+        Some((b':', after)) => is_spaced(after),
+        Some((b'(', after)) => !begins_with(b')', after),
+        Some((&first, _)) => ends_name(first),
+    }
+}
+
+// Whether a space comes next, and no closing brace after it.
+#[inline(always)]
+fn is_spaced(text: &[u8]) -> bool
+    ensures { result ≡ is_spaced text.now }
+{
+    match text.split_first() {
+        Some((b' ', after)) => !begins_with(b'}', after),
+        _ => false,
+    }
+}
+
+#[inline(always)]
+fn begins_with(byte: u8, text: &[u8]) -> bool
+    ensures { result ≡ begins_with byte text.now }
+{
+    match text.split_first() {
+        Some((&first, _)) => first == byte,
+        None => false,
     }
 }
 

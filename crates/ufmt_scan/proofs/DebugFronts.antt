@@ -1,56 +1,57 @@
 -- Leaves of debug documents, byte by byte: what the scanner passes belongs to the leaf at the front.
 use Rattle.std.proofs.Common.{◌≡◌, inl, inr, refl, ap, sym, subst, ◌∙◌, ℕ, zero, suc, ◌<◌, ◌≤◌, ◌==◌, ◌&&◌, ◌||◌, not, nat_le, nat_lt, Bool, true, false, cond, List, [], ◌∷◌, ◌++◌, append_assoc, append-nil, length, length-append, length-drop, take, drop, Option, Some, None, eq-eqb, eqb-true, arith}
 use Rattle.std.specs.Prelude.{⊤, ◌≢◌, ◌-◌, slice_index_or}
-use Rattle.std.specs.Str.{IsAscii, IsUtf8, is_utf8}
+use Rattle.std.specs.Str.{IsAscii, IsUtf8, encode_utf8_all, is_utf8}
 use Rattle.std.proofs.lemmas.Bool.Decides.{nat_tests}
 use Rattle.std.proofs.lemmas.Str.{IsUtf8-from_ascii, IsUtf8-from_is_utf8, is_utf8-from_IsUtf8}
 use Rattle.std.proofs.lemmas.Str.Ascii.{IsAscii-cons, IsAscii-nil}
 use Rattle.std.proofs.Math.Seq.{take-append_seam}
 use borrow.Author.Tests.{ltb-true}
-use Rattle.ufmt_grammar.specs.Leaves.{Place, outside, between, after_backslash, place_after, is_control, is_quote, is_opening, is_ender, is_debug_byte, leads_on, has_quote, IsDebugText}
-use Rattle.ufmt_grammar.specs.Reading.{choose, leaf_from, after_leaf, last_place, is_outside}
+use Rattle.ufmt_core.specs.Bytes.{closing_parenthesis}
+use Rattle.ufmt_grammar.specs.Leaves.{Place, outside, after_quotes, in_parentheses, between, after_backslash, is_outside, place_outside, place_after, begins_quote, begins_with, is_in_word, is_spaced, is_control, is_quote, is_opening, is_ender, is_debug_byte, has_name_bytes, ends_in_colon, IsDebugLeaf}
+use Rattle.ufmt_grammar.specs.Reading.{choose, leaf_from, after_leaf, last_place}
 use Rattle.ufmt_core.specs.Document.{leaf}
-use Rattle.ufmt_core.specs.Quoted.{IsQuote, IsQuoted, quoted}
+use Rattle.ufmt_core.specs.Quoted.{IsQuote, IsQuoted, escaped_bytes, quoted}
 use Rattle.ufmt_grammar.specs.ReadingQuoted.{read_quoted}
 use Rattle.ufmt_grammar.proofs.ClassTokens.{tokens_are_debug}
-use Rattle.ufmt_grammar.proofs.DebugLeaves.{StopsLeaf, after_leaf-append, kept_alone, last_is_outside, leaf_from-append, stopped}
+use Rattle.ufmt_grammar.proofs.DebugLeaves.{StopsLeaf, after_leaf-append, each_quote, kept_alone, last_is_outside, leaf_from-append, plain_in_word, step_outside, stopped}
 use Rattle.ufmt_grammar.proofs.QuotedComplete.{quoted-bytes}
 use Rattle.ufmt_grammar.proofs.QuotedSound.{read_quoted-sound}
 use Rattle.ufmt_grammar.specs.declared.class.Class.TheVariants.{Debug}
 use Rattle.ufmt_grammar.specs.Reading.{is_whole}
 use Rattle.ufmt_scan.specs.declared.front.Front.{Front}
-use Rattle.ufmt_scan.specs.Private.Fronts.{EndsLeaf, IsSplit, Passes, StaysBetween, StopsWord, colon_belongs, is_ending}
+use Rattle.ufmt_scan.specs.Private.Fronts.{EndsAt, EndsLeaf, IsSplit, Passes, StaysBetween, StopsWord, is_ending, is_plain_byte}
 use Rattle.ufmt_scan.specs.Private.MarkedBytes.{is_marked, marked_len}
-use Rattle.ufmt_scan.specs.declared.debug_leaf.TheConstants.{COLON_BYTES, LEAF_BYTES, QUOTED_BYTES, WORD_BYTES}
+use Rattle.ufmt_scan.specs.declared.debug_leaf.TheConstants.{LEAF_BYTES, QUOTED_BYTES, WORD_BYTES}
 use Rattle.ufmt_scan.proofs.WordBytes.{marks, marks_with}
 
-has_quote-append : (a b : List ℕ) → has_quote (a ++ b) ≡ has_quote a || has_quote b
-has_quote-append [] b = refl
-has_quote-append (c ∷ a) b = go (is_quote c) (has_quote-append a b)
+has_name_bytes-append : (a b : List ℕ) → has_name_bytes (a ++ b) ≡ has_name_bytes a && has_name_bytes b
+has_name_bytes-append [] b = refl
+has_name_bytes-append (c ∷ a) b = go (is_debug_byte c || c == 58) (has_name_bytes-append a b)
   where
-    go : (q : Bool) → has_quote (a ++ b) ≡ has_quote a || has_quote b → q || has_quote (a ++ b) ≡ (q || has_quote a) || has_quote b
-    go true e = refl
-    go false e = e
+    go : (named : Bool) → has_name_bytes (a ++ b) ≡ has_name_bytes a && has_name_bytes b → named && has_name_bytes (a ++ b) ≡ (named && has_name_bytes a) && has_name_bytes b
+    go true e = e
+    go false e = refl
 
-or-false : (b : Bool) → b || false ≡ b
-or-false true = refl
-or-false false = refl
+and-true : (b : Bool) → b && true ≡ b
+and-true true = refl
+and-true false = refl
 
-pub passes_none : (place : Place) (t : List ℕ) → Passes place t place t false
+pub passes_none : (place : Place) (t : List ℕ) → Passes place t place t true
 passes_none place t = record { bytes = []; whole = refl; front = refl; after = refl; last = refl; has = refl }
 
-pub passes_then : {p q r : Place} {t u v : List ℕ} {a b : Bool} → Passes p t q u a → Passes q u r v b → Passes p t r v (a || b)
+pub passes_then : {p q r : Place} {t u v : List ℕ} {a b : Bool} → Passes p t q u a → Passes q u r v b → Passes p t r v (a && b)
 passes_then {r = r} {v = v} first second = record {
   bytes = first.bytes ++ second.bytes;
   whole = first.whole ∙ ap (λ x. first.bytes ++ x) second.whole ∙ sym (append_assoc first.bytes second.bytes v);
   front = first.front ∙ ap (λ x. first.bytes ++ x) second.front ∙ sym (append_assoc first.bytes second.bytes (leaf_from r v));
   after = first.after ∙ second.after;
   last = first.last ∙ second.last;
-  has = has_quote-append first.bytes second.bytes ∙ rw (first.has, second.has) refl;
+  has = has_name_bytes-append first.bytes second.bytes ∙ rw (first.has, second.has) refl;
 }
 
 -- a byte of the leaf is passed
-pub pass_byte : (place : Place) (c : ℕ) (t : List ℕ) (next : Place) → place_after place c t ≡ Some next → Passes place (c ∷ t) next t (is_quote c)
+pub pass_byte : (place : Place) (c : ℕ) (t : List ℕ) (next : Place) → place_after place c t ≡ Some next → Passes place (c ∷ t) next t (is_debug_byte c || c == 58)
 pass_byte place c t next e =
     let kept = kept_alone place c t next e in
     record {
@@ -58,118 +59,88 @@ pass_byte place c t next e =
       whole = refl;
       front = ap (λ o. choose o (λ n. c ∷ leaf_from n t) []) e;
       after = ap (λ o. choose o (λ n. after_leaf n t) (c ∷ t)) e;
-      last = ap (last_place place) (ap (λ o. choose o (λ n. c ∷ leaf_from n t) []) e)
-          ∙ ap (λ o. choose o (λ n. last_place n (leaf_from next t)) place) kept;
-      has = or-false (is_quote c);
+      last = ap is_outside (ap (last_place place) (ap (λ o. choose o (λ n. c ∷ leaf_from n t) []) e)
+          ∙ ap (λ o. choose o (λ n. last_place n (leaf_from next t)) place) kept);
+      has = and-true (is_debug_byte c || c == 58);
     }
 
 -- ---- words
 
-pub words_are_marked : (c : ℕ) → is_marked WORD_BYTES c ≡ is_debug_byte c
-words_are_marked c = marks WORD_BYTES is_debug_byte refl refl (λ c past. grind (arith, nat_tests)) c
+words_are_marked : (c : ℕ) → is_marked WORD_BYTES c ≡ is_plain_byte c
+words_are_marked c = marks WORD_BYTES is_plain_byte refl refl (λ c past. grind (arith, nat_tests)) c
 
-word_no_quote : (c : ℕ) → is_debug_byte c ≡ true → is_quote c ≡ false
-word_no_quote c h = go (nat_le c 255) (is_control c) (c == 32) (is_quote c) (is_opening c) (is_ender c) (c == 58) h
+-- such a byte is one of a debug word, and no backslash
+record IsPlain (c : ℕ) : Type 0 where
+  pub word : is_debug_byte c ≡ true
+  pub no_backslash : (c == 92) ≡ false
+
+plain_is : (c : ℕ) → is_plain_byte c ≡ true → IsPlain c
+plain_is c h = go (is_debug_byte c) (c == 92) refl refl h
   where
-    go : (low control blank quote opening ender colon : Bool) → low && not (control || blank || quote || opening || ender || colon) ≡ true → quote ≡ false
-    go false control blank quote opening ender colon h = absurd (cc)
-    go true true blank quote opening ender colon h = absurd (cc)
-    go true false true quote opening ender colon h = absurd (cc)
-    go true false false true opening ender colon h = absurd (cc)
-    go true false false false opening ender colon h = refl
+    go : (word escapes : Bool) → is_debug_byte c ≡ word → (c == 92) ≡ escapes → word && not escapes ≡ true → IsPlain c
+    go true true e f h = absurd (cc)
+    go true false e f h = record { word = e; no_backslash = f }
+    go false escapes e f h = absurd (cc)
 
-pub word_passes : (c : ℕ) (t : List ℕ) → is_debug_byte c ≡ true → Passes outside (c ∷ t) outside t false
+pub word_passes : (c : ℕ) (t : List ℕ) → is_plain_byte c ≡ true → Passes outside (c ∷ t) outside t true
 word_passes c t h =
-    subst (Passes outside (c ∷ t) outside t) (word_no_quote c h)
-    (pass_byte outside c t outside (ap (λ b. cond (b || c == 58 && leads_on t) (Some outside) (cond (is_quote c) (Some (between c)) None)) h))
+    let plain = plain_is c h in
+    subst (Passes outside (c ∷ t) outside t) (rw plain.word refl)
+    (pass_byte outside c t outside (rw (plain_in_word c t plain.word plain.no_backslash) refl))
 
 -- what is left after some bytes at the front
 record PassesWord (t : List ℕ) (n : ℕ) : Type 0 where
-  passes : Passes outside t outside (drop n t) false
+  passes : Passes outside t outside (drop n t) true
   stops : StopsWord (drop n t)
 
 word_run : (t : List ℕ) → PassesWord t (marked_len WORD_BYTES t)
 word_run [] = record { passes = passes_none outside []; stops = tt }
 word_run (c ∷ t) = go (is_marked WORD_BYTES c) (sym (words_are_marked c)) (word_run t)
   where
-    go : (b : Bool) → is_debug_byte c ≡ b → PassesWord t (marked_len WORD_BYTES t) → PassesWord (c ∷ t) (cond b (suc (marked_len WORD_BYTES t)) 0)
+    go : (b : Bool) → is_plain_byte c ≡ b → PassesWord t (marked_len WORD_BYTES t) → PassesWord (c ∷ t) (cond b (suc (marked_len WORD_BYTES t)) 0)
     go true is more = record { passes = passes_then (word_passes c t is) more.passes; stops = more.stops }
     go false is more = record { passes = passes_none outside (c ∷ t); stops = is }
 
-pub words_are_passed : (t rest : List ℕ) (n : ℕ) → n ≡ marked_len WORD_BYTES t → rest ≡ drop n t → Passes outside t outside rest false
+pub words_are_passed : (t rest : List ℕ) (n : ℕ) → n ≡ marked_len WORD_BYTES t → rest ≡ drop n t → Passes outside t outside rest true
 words_are_passed t rest n len is = rw (is, len) (word_run t).passes
 
 pub word_stops : (t rest : List ℕ) (n : ℕ) → n ≡ marked_len WORD_BYTES t → rest ≡ drop n t → StopsWord rest
 word_stops t rest n len is = rw (is, len) (word_run t).stops
 
--- ---- colons
+-- ---- colons, backslashes and `()`
 
-colons_are_marked : (c : ℕ) → is_marked COLON_BYTES c ≡ (c == 58)
-colons_are_marked c = marks COLON_BYTES (λ b. b == 58) refl refl (λ c past. grind (arith, nat_tests)) c
-
--- the text begins with no colon
-abbrev StopsColon : List ℕ → Type 0
-StopsColon [] = ⊤
-StopsColon (c ∷ t) = (c == 58) ≡ false
-
--- colons belong to the leaf if what follows them does
-pub record PassesColons (t : List ℕ) (n : ℕ) : Type 0 where
-  stops : StopsColon (drop n t)
-  leads : leads_on t ≡ leads_on (drop n t)
-  passes : leads_on (drop n t) ≡ true → Passes outside t outside (drop n t) false
-
-colon_run : (t : List ℕ) → PassesColons t (marked_len COLON_BYTES t)
-colon_run [] = record { stops = tt; leads = refl; passes = λ h. passes_none outside [] }
-colon_run (c ∷ t) = go (is_marked COLON_BYTES c) (sym (colons_are_marked c)) (colon_run t)
+-- a byte of a word is no colon only if a name may have it, and a colon too
+pub in_word_passes : (c : ℕ) (t : List ℕ) → is_in_word c t ≡ true → Passes outside (c ∷ t) outside t true
+in_word_passes c t h = subst (Passes outside (c ∷ t) outside t) (named (c == 58) (is_debug_byte c) h) (pass_byte outside c t outside (rw h refl))
   where
-    colon : PassesColons t (marked_len COLON_BYTES t) → PassesColons (58 ∷ t) (suc (marked_len COLON_BYTES t))
-    colon more = record {
-      stops = more.stops;
-      leads = more.leads;
-      passes = λ h. passes_then (pass_byte outside 58 t outside (rw (more.leads ∙ h) refl)) (more.passes h);
-    }
+    named : (ends word : Bool) → cond ends (not (is_spaced t)) (word && not (c == 92 && begins_quote t)) ≡ true → word || ends ≡ true
+    named true true h = refl
+    named true false h = refl
+    named false true h = refl
+    named false false h = absurd (cc)
 
-    go : (b : Bool) → (c == 58) ≡ b → PassesColons t (marked_len COLON_BYTES t) → PassesColons (c ∷ t) (cond b (suc (marked_len COLON_BYTES t)) 0)
-    go true is more =
-        let same = eqb-true c 58 is in
-        subst (λ b. PassesColons (b ∷ t) (suc (marked_len COLON_BYTES t))) (sym same) (colon more)
-    go false is more = record { stops = is; leads = refl; passes = λ h. passes_none outside (c ∷ t) }
+-- whether such a byte is in a word
+pub colon_in_word : (c : ℕ) (t : List ℕ) → c ≡ 58 → is_in_word c t ≡ not (is_spaced t)
+colon_in_word c t is = rw is refl
 
--- what follows colons, if something does: they lead on exactly if its first byte is one of a word or a quote
-leads_here : (c : ℕ) (t : List ℕ) → (c == 58) ≡ false → leads_on (c ∷ t) ≡ is_debug_byte c || is_quote c
-leads_here c t h = ap (λ colon. cond colon (leads_on t) (is_debug_byte c || is_quote c)) h
+pub backslash_in_word : (c : ℕ) (t : List ℕ) → c ≡ 92 → is_in_word c t ≡ not (begins_quote t)
+backslash_in_word c t is = rw is refl
 
-no_leads : (t : List ℕ) → leads_on (drop (marked_len COLON_BYTES t) t) ≡ false → colon_belongs t ≡ false
-no_leads [] h = refl
-no_leads (c ∷ t) h = go (c == 58) refl
+pub other_in_word : (c : ℕ) (t : List ℕ) → is_plain_byte c ≡ false → (c == 58) ≡ false → (c == 92) ≡ false → is_in_word c t ≡ false
+other_in_word c t no_plain no_colon no_backslash = go (is_debug_byte c) refl
   where
-    go : (b : Bool) → (c == 58) ≡ b → (c == 58) && leads_on t ≡ false
-    go false e = rw e refl
-    go true e = rw (e, (colon_run t).leads) (subst (λ b. leads_on (drop (cond b (suc (marked_len COLON_BYTES t)) 0) (c ∷ t)) ≡ false) (colons_are_marked c ∙ e) h)
+    go : (word : Bool) → is_debug_byte c ≡ word → is_in_word c t ≡ false
+    go false e = rw (e, no_colon) refl
+    go true e = let plain : is_plain_byte c ≡ true = rw (e, no_backslash) refl in absurd (cc (plain, no_plain))
 
-nothing_leads : (t : List ℕ) → length t ≡ 0 → leads_on t ≡ false
-nothing_leads [] h = refl
-nothing_leads (c ∷ t) h = absurd (omega (arith, h))
+-- `()` is passed
+pub unit_passes : (c : ℕ) (t u : List ℕ) → c ≡ 40 → t ≡ closing_parenthesis ∷ u → Passes outside (c ∷ t) outside u false
+unit_passes c t u is closes = rw (is, closes)
+    (passes_then (pass_byte outside 40 (41 ∷ u) in_parentheses refl) (pass_byte in_parentheses 41 u outside refl))
 
-module _ (t rest : List ℕ) (n : ℕ) (len : n ≡ marked_len COLON_BYTES t) (is : rest ≡ drop n t) where
-  run_is : rest ≡ drop (marked_len COLON_BYTES t) t
-  run_is = is ∙ ap (λ k. drop k t) len
-
-  pub no_colons_at_end : length rest ≡ 0 → colon_belongs t ≡ false
-  no_colons_at_end none = no_leads t (nothing_leads (drop (marked_len COLON_BYTES t) t) (ap length (sym run_is) ∙ none))
-
-  module _ (c : ℕ) (u : List ℕ) (first : rest ≡ c ∷ u) where
-    stops_here : (c == 58) ≡ false
-    stops_here = subst StopsColon (sym run_is ∙ first) (colon_run t).stops
-
-    leads_is : leads_on (drop (marked_len COLON_BYTES t) t) ≡ is_debug_byte c || is_quote c
-    leads_is = ap leads_on (sym run_is ∙ first) ∙ leads_here c u stops_here
-
-    pub no_colons : is_debug_byte c || is_quote c ≡ false → colon_belongs t ≡ false
-    no_colons none = no_leads t (leads_is ∙ none)
-
-    pub colons_pass : is_debug_byte c || is_quote c ≡ true → Passes outside t outside rest false
-    colons_pass some = subst (λ r. Passes outside t outside r false) (sym run_is) ((colon_run t).passes (leads_is ∙ some))
+-- what is no byte of a word, no quote and no `()` stops the leaf
+pub other_stops : (c : ℕ) (t : List ℕ) → is_in_word c t ≡ false → is_quote c ≡ false → (c == 40) && begins_with closing_parenthesis t ≡ false → place_outside c t ≡ None
+other_stops c t no_word no_quote no_unit = rw (no_word, no_quote, no_unit) refl
 
 -- ---- quotes
 
@@ -201,37 +172,36 @@ no_such_quote q c quote none = go (c == q) refl
     go false e = e
     go true e = let same = eqb-true c q e in let is = subst (λ b. is_quote b ≡ false) same none in absurd (cc)
 
-stretch_run : (q : ℕ) (t : List ℕ) → is_quote q ≡ true → Passes (between q) t (between q) (drop (marked_len QUOTED_BYTES t) t) false
-stretch_run q [] quote = passes_none (between q) []
+stretch_run : (q : ℕ) (t : List ℕ) → is_quote q ≡ true → StaysBetween q t (drop (marked_len QUOTED_BYTES t) t)
+stretch_run q [] quote = record { named = true; passes = passes_none (between q) [] }
 stretch_run q (c ∷ t) quote = go (is_marked QUOTED_BYTES c) refl (stretch_run q t quote)
   where
-    go : (b : Bool) → is_marked QUOTED_BYTES c ≡ b → Passes (between q) t (between q) (drop (marked_len QUOTED_BYTES t) t) false
-        → Passes (between q) (c ∷ t) (between q) (drop (cond b (suc (marked_len QUOTED_BYTES t)) 0) (c ∷ t)) false
-    go false is more = passes_none (between q) (c ∷ t)
+    go : (b : Bool) → is_marked QUOTED_BYTES c ≡ b → StaysBetween q t (drop (marked_len QUOTED_BYTES t) t)
+        → StaysBetween q (c ∷ t) (drop (cond b (suc (marked_len QUOTED_BYTES t)) 0) (c ∷ t))
+    go false is more = record { named = true; passes = passes_none (between q) (c ∷ t) }
     go true is more =
         let stays = marked_stays c is in
         let step : place_after (between q) c t ≡ Some (between q) = rw (stays.no_control, no_such_quote q c quote stays.no_quote, stays.no_backslash) refl in
-        passes_then (subst (Passes (between q) (c ∷ t) (between q) t) stays.no_quote (pass_byte (between q) c t (between q) step)) more
+        record { named = _; passes = passes_then (pass_byte (between q) c t (between q) step) more.passes }
 
-pub stretches_are_passed : (q : ℕ) (t rest : List ℕ) (n : ℕ) → is_quote q ≡ true → n ≡ marked_len QUOTED_BYTES t → rest ≡ drop n t
-    → Passes (between q) t (between q) rest false
+pub stretches_are_passed : (q : ℕ) (t rest : List ℕ) (n : ℕ) → is_quote q ≡ true → n ≡ marked_len QUOTED_BYTES t → rest ≡ drop n t → StaysBetween q t rest
 stretches_are_passed q t rest n quote len is = rw (is, len) (stretch_run q t quote)
 
 -- a byte between quotes that isn't the closing one: itself, or a backslash and what it takes
 module _ (q byte : ℕ) (other : (byte == q) ≡ false) where
   pub stays : (t : List ℕ) → (byte == 92) ≡ false → is_control byte ≡ false → StaysBetween q (byte ∷ t) t
   stays t no_backslash no_control = record {
-    quotes = is_quote byte;
+    named = is_debug_byte byte || byte == 58;
     passes = pass_byte (between q) byte t (between q) (rw (no_control, other, no_backslash) refl);
   }
 
   module _ (backslash : byte ≡ 92) where
-    escape_passes : (t : List ℕ) → Passes (between q) (byte ∷ t) (after_backslash q) t false
+    escape_passes : (t : List ℕ) → Passes (between q) (byte ∷ t) (after_backslash q) t true
     escape_passes t = rw backslash (pass_byte (between q) 92 t (after_backslash q) (rw (subst (λ b. (b == q) ≡ false) backslash other) refl))
 
     pub escape_stays : (c : ℕ) (t : List ℕ) → not (is_control c || nat_le 128 c) ≡ true → StaysBetween q (byte ∷ c ∷ t) t
     escape_stays c t taken = record {
-      quotes = is_quote c;
+      named = is_debug_byte c || c == 58;
       passes = passes_then (escape_passes (c ∷ t)) (pass_byte (after_backslash q) c t (between q) (go (is_control c || nat_le 128 c) taken));
     }
       where
@@ -243,25 +213,11 @@ module _ (q byte : ℕ) (other : (byte == q) ≡ false) where
 
 -- a text in quotes is opened, continued and closed
 module _ (q : ℕ) (quote : is_quote q ≡ true) where
-  pub opened : (t : List ℕ) → Passes outside (q ∷ t) (between q) t true
-  opened t = subst (Passes outside (q ∷ t) (between q) t) quote (pass_byte outside q t (between q) (go (is_debug_byte q) refl (q == 58) refl))
-    where
-      go : (word : Bool) → is_debug_byte q ≡ word → (colon : Bool) → (q == 58) ≡ colon → place_after outside q t ≡ Some (between q)
-      go true e colon f = let none = word_no_quote q e in absurd (cc)
-      go false e true f = let same = eqb-true q 58 f in let none = subst (λ b. is_quote b ≡ true) same quote in absurd (cc)
-      go false e false f = rw (e, f, quote) refl
+  pub opened : (t : List ℕ) → Passes outside (q ∷ t) (between q) t false
+  opened t = each_quote (λ c. Passes outside (c ∷ t) (between c) t false) (pass_byte outside 34 t (between 34) refl) (pass_byte outside 39 t (between 39) refl) q quote
 
-  pub closed : (t : List ℕ) → Passes (between q) (q ∷ t) outside t true
-  closed t = subst (Passes (between q) (q ∷ t) outside t) quote (pass_byte (between q) q t outside (go (is_control q) refl))
-    where
-      go : (control : Bool) → is_control q ≡ control → place_after (between q) q t ≡ Some outside
-      go true e = absurd (no_control (q == 34) (q == 39) refl refl quote e)
-        where
-          no_control : (mark apostrophe : Bool) → (q == 34) ≡ mark → (q == 39) ≡ apostrophe → mark || apostrophe ≡ true → is_control q ≡ true → ⊥
-          no_control true apostrophe f g h k = let same = eqb-true q 34 f in let none = subst (λ b. is_control b ≡ true) same k in absurd (cc)
-          no_control false true f g h k = let same = eqb-true q 39 g in let none = subst (λ b. is_control b ≡ true) same k in absurd (cc)
-          no_control false false f g h k = absurd (cc)
-      go false e = rw (e, eq-eqb q q refl) refl
+  pub closed : (t : List ℕ) → Passes (between q) (q ∷ t) after_quotes t false
+  closed t = each_quote (λ c. Passes (between c) (c ∷ t) after_quotes t false) (pass_byte (between 34) 34 t after_quotes refl) (pass_byte (between 39) 39 t after_quotes refl) q quote
 
 -- numbers that differ are found to differ
 pub differ : (a b : ℕ) → a ≢ b → (a == b) ≡ false
@@ -271,42 +227,73 @@ differ a b apart = go (a == b) refl
     go false e = e
     go true e = absurd (apart (eqb-true a b e))
 
-or-true : (b : Bool) → b || true ≡ true
-or-true true = refl
-or-true false = refl
-
 -- the leaf ends where no byte of a leaf follows its last word
-pub ends_leaf : (t r e : List ℕ) (is_name : Bool) → Passes outside t outside r (not is_name) → Passes outside r outside e false → StopsLeaf e → EndsLeaf t e is_name
-ends_leaf t r e is_name first word stops =
+pub ends_leaf : (t r e : List ℕ) (named : Bool) → Passes outside t outside r named → Passes outside r outside e true → StopsLeaf e → EndsLeaf t e named
+ends_leaf t r e named first word stops =
     let none = stopped outside e refl stops in
-    record { passes = subst (Passes outside t outside e) (or-false (not is_name)) (passes_then first word); none = none.0; all = none.1 }
+    record { place = outside; passes = subst (Passes outside t outside e) (and-true named) (passes_then first word); closed = refl; none = none.0; all = none.1 }
 
--- after a word, a byte that is no quote and no colon that belongs stops the leaf
-pub stops_leaf : (e : List ℕ) (c : ℕ) (u : List ℕ) → e ≡ c ∷ u → StopsWord e → is_quote c ≡ false → colon_belongs e ≡ false → StopsLeaf e
-stops_leaf e c u first word quote colon =
-    let no_word = subst StopsWord first word in
-    let no_colon = ap colon_belongs (sym first) ∙ colon in
-    subst StopsLeaf (sym first) (go (is_debug_byte c) ((c == 58) && leads_on u) (is_quote c) no_word no_colon quote)
+-- after a word, what is no byte of a word, no quote and no `()` ends the leaf
+pub stops_leaf : (e : List ℕ) (c : ℕ) (u : List ℕ) → e ≡ c ∷ u → is_quote c ≡ false → place_outside c u ≡ None → StopsLeaf e
+stops_leaf e c u first no_quote none = subst StopsLeaf (sym first) (none, no_quote)
+
+-- after a word, a text in quotes is passed
+pub quotes_next : {t r e u : List ℕ} {named : Bool} {place : Place} → Passes outside t outside r named → Passes outside r outside e true → Passes outside e place u false
+    → Passes outside t place u false
+quotes_next {t} {r} {e} {u} {named} {place} first word quotes = subst (Passes outside t place u) (and-false (named && true)) (passes_then (passes_then first word) quotes)
   where
-    go : (word colon quote : Bool) → word ≡ false → colon ≡ false → quote ≡ false
-        → cond (word || colon) (Some outside) (cond quote (Some (between c)) None) ≡ None
-    go true colon quote w k q = absurd (cc)
-    go false true quote w k q = absurd (cc)
-    go false false true w k q = absurd (cc)
-    go false false false w k q = refl
+    and-false : (b : Bool) → b && false ≡ false
+    and-false true = refl
+    and-false false = refl
 
--- after a word, a text in quotes or colons are passed
-pub quotes_next : {t r e u : List ℕ} {name : Bool} → Passes outside t outside r name → Passes outside r outside e false → Passes outside e outside u true
-    → Passes outside t outside u true
-quotes_next {t} {r} {e} {u} {name} first word quotes = subst (Passes outside t outside u) (or-true (name || false)) (passes_then (passes_then first word) quotes)
+-- and so is a byte of a word
+pub word_next : {t r e u : List ℕ} {named : Bool} → Passes outside t outside r named → Passes outside r outside e true → Passes outside e outside u true
+    → Passes outside t outside u named
+word_next {t} {r} {e} {u} {named} first word more =
+    subst (Passes outside t outside u) (and-true (named && true) ∙ and-true named) (passes_then (passes_then first word) more)
 
-pub colons_next : {t r e u : List ℕ} {name : Bool} → Passes outside t outside r name → Passes outside r outside e false → Passes outside e outside u false
-    → Passes outside t outside u name
-colons_next {t} {r} {e} {u} {name} first word colons =
-    subst (Passes outside t outside u) (or-false (name || false) ∙ or-false name) (passes_then (passes_then first word) colons)
+-- after a closing quote a colon ends the leaf
+pub colon_ends : (t rest : List ℕ) → Passes outside t after_quotes rest false → begins_with 58 rest ≡ true → EndsLeaf t rest false
+colon_ends t [] passes begins = absurd (cc)
+colon_ends t (c ∷ u) passes begins = record { place = after_quotes; passes = passes; closed = refl; none = rw begins refl; all = rw begins refl }
+
+-- and without one it is as outside of quotes
+pub no_colon_next : (t rest : List ℕ) (named : Bool) → Passes outside t after_quotes rest named → begins_with 58 rest ≡ false → Passes outside t outside rest named
+no_colon_next t rest named passes begins = record {
+  bytes = passes.bytes;
+  whole = passes.whole;
+  front = passes.front ∙ ap (λ u. passes.bytes ++ u) same.0;
+  after = passes.after ∙ same.1;
+  last = passes.last ∙ same.2;
+  has = passes.has;
+}
+  where
+    open_ends : (c : ℕ) (x : List ℕ) (o : Option Place) → is_outside (choose o (λ n. last_place n x) after_quotes) ≡ is_outside (choose o (λ n. last_place n x) outside)
+    open_ends c x None = refl
+    open_ends c x (Some n) = refl
+
+    alike : (c : ℕ) (u : List ℕ) → (c == 58) ≡ false → (o : Option Place)
+        → is_outside (last_place after_quotes (choose o (λ n. c ∷ leaf_from n u) [])) ≡ is_outside (last_place outside (choose o (λ n. c ∷ leaf_from n u) []))
+    alike c u none None = refl
+    alike c u none (Some n) =
+        let x = leaf_from n u in
+        let step : place_after after_quotes c x ≡ place_outside c x = rw none refl in
+        ap (λ o. is_outside (choose o (λ m. last_place m x) after_quotes)) step ∙ open_ends c x (place_outside c x)
+
+    same_from : (rest : List ℕ) → begins_with 58 rest ≡ false → (leaf_from after_quotes rest ≡ leaf_from outside rest) × (after_leaf after_quotes rest ≡ after_leaf outside rest)
+        × (is_outside (last_place after_quotes (leaf_from after_quotes rest)) ≡ is_outside (last_place outside (leaf_from outside rest)))
+    same_from [] none = (refl, refl, refl)
+    same_from (c ∷ u) none =
+        let step : place_after after_quotes c u ≡ place_outside c u = rw none refl in
+        (ap (λ o. choose o (λ n. c ∷ leaf_from n u) []) step, ap (λ o. choose o (λ n. after_leaf n u) (c ∷ u)) step,
+        ap (λ o. is_outside (last_place after_quotes (choose o (λ n. c ∷ leaf_from n u) []))) step ∙ alike c u none (place_outside c u))
+
+    same : (leaf_from after_quotes rest ≡ leaf_from outside rest) × (after_leaf after_quotes rest ≡ after_leaf outside rest)
+        × (is_outside (last_place after_quotes (leaf_from after_quotes rest)) ≡ is_outside (last_place outside (leaf_from outside rest)))
+    same = same_from rest begins
 
 -- the bytes before the rest are the leaf at the front
-module _ (t rest leaf : List ℕ) (is_name : Bool) (ends : EndsLeaf t rest is_name) (front : leaf ≡ take (length t - length rest) t) where
+module _ (t rest leaf : List ℕ) (named : Bool) (ends : EndsLeaf t rest named) (front : leaf ≡ take (length t - length rest) t) where
   leaf_is : leaf ≡ leaf_from outside t
   leaf_is =
       let bytes = ends.passes.bytes in
@@ -315,19 +302,18 @@ module _ (t rest leaf : List ℕ) (is_name : Bool) (ends : EndsLeaf t rest is_na
       ∙ sym (ends.passes.front ∙ ap (λ u. bytes ++ u) ends.none ∙ append-nil bytes)
 
   closed_leaf : is_outside (last_place outside (leaf_from outside t)) ≡ true
-  closed_leaf = ap is_outside (ends.passes.last ∙ ap (last_place outside) ends.none)
+  closed_leaf = ends.passes.last ∙ ap (λ w. is_outside (last_place ends.place w)) ends.none ∙ ends.closed
 
-  pub leaf_splits : (found : Front) → found.text.now ≡ leaf → found.rest.now ≡ rest → found.is_name ≡ is_name → IsUtf8 leaf → IsSplit Debug t found
-  leaf_splits found text after named utf8 = record {
+  pub leaf_splits : (found : Front) → found.text.now ≡ leaf → found.rest.now ≡ rest → found.is_name ≡ named && not (ends_in_colon leaf) → IsUtf8 leaf → IsSplit Debug t found
+  leaf_splits found text after is_name utf8 = record {
     text = text ∙ leaf_is;
     rest = after ∙ sym (ends.passes.after ∙ ends.all);
-    name = named ∙ sym (ap not (ap has_quote (ends.passes.front ∙ ap (λ u. ends.passes.bytes ++ u) ends.none ∙ append-nil ends.passes.bytes) ∙ ends.passes.has) ∙ not-not is_name);
+    name = is_name ∙ ap (λ w. named && not (ends_in_colon w)) leaf_is ∙ ap (λ b. b && not (ends_in_colon (leaf_from outside t))) (sym bytes_named);
     whole = rw (closed_leaf, is_utf8-from_IsUtf8 (leaf_from outside t) (subst IsUtf8 leaf_is utf8)) refl;
   }
     where
-      not-not : (b : Bool) → not (not b) ≡ b
-      not-not true = refl
-      not-not false = refl
+      bytes_named : has_name_bytes (leaf_from outside t) ≡ named
+      bytes_named = ap has_name_bytes (ends.passes.front ∙ ap (λ u. ends.passes.bytes ++ u) ends.none ∙ append-nil ends.passes.bytes) ∙ ends.passes.has
 
   pub leaf_is_broken : ¬ (IsUtf8 leaf) → is_whole Debug (leaf_from outside t) ≡ false
   leaf_is_broken broken = go (is_outside (last_place outside (leaf_from outside t))) (is_utf8 (leaf_from outside t)) refl
@@ -340,7 +326,7 @@ module _ (t rest leaf : List ℕ) (is_name : Bool) (ends : EndsLeaf t rest is_na
 -- ---- leaves that are words in ASCII, and texts in quotes
 
 in_ascii : ℕ → Bool
-in_ascii c = is_debug_byte c && nat_lt c 128
+in_ascii c = is_plain_byte c && nat_lt c 128
 
 ascii_are_marked : (c : ℕ) → is_marked LEAF_BYTES c ≡ in_ascii c
 unfolding in_ascii
@@ -348,25 +334,33 @@ ascii_are_marked c = marks LEAF_BYTES in_ascii refl refl (λ c past. grind (arit
 
 -- a word byte in ASCII
 record IsAsciiByte (c : ℕ) : Type 0 where
-  word : is_debug_byte c ≡ true
+  word : is_plain_byte c ≡ true
   low : c < 128
 
 marked_in_ascii : (c : ℕ) → is_marked LEAF_BYTES c ≡ true → IsAsciiByte c
 unfolding in_ascii
-marked_in_ascii c h = go (is_debug_byte c) (nat_lt c 128) refl refl (sym (ascii_are_marked c) ∙ h)
+marked_in_ascii c h = go (is_plain_byte c) (nat_lt c 128) refl refl (sym (ascii_are_marked c) ∙ h)
   where
-    go : (word low : Bool) → is_debug_byte c ≡ word → nat_lt c 128 ≡ low → word && low ≡ true → IsAsciiByte c
+    go : (word low : Bool) → is_plain_byte c ≡ word → nat_lt c 128 ≡ low → word && low ≡ true → IsAsciiByte c
     go true true e f h = record { word = e; low = ltb-true c 128 f }
     go true false e f h = absurd (cc)
     go false low e f h = absurd (cc)
 
 -- bytes at the front, and what is left after them
 record PassesAscii (t : List ℕ) (n : ℕ) : Type 0 where
-  passes : Passes outside t outside (drop n t) false
+  passes : Passes outside t outside (drop n t) true
   ascii : IsAscii (take n t)
+  no_colon : ends_in_colon (take n t) ≡ false
+
+plain_no_colon : (c : ℕ) → is_plain_byte c ≡ true → (c == 58) ≡ false
+plain_no_colon c h = let word = (plain_is c h).word in grind (arith, nat_tests)
+
+no_colon_before : (c : ℕ) (w : List ℕ) → (c == 58) ≡ false → ends_in_colon w ≡ false → ends_in_colon (c ∷ w) ≡ false
+no_colon_before c [] first last = first
+no_colon_before c (b ∷ w) first last = last
 
 ascii_run : (t : List ℕ) → PassesAscii t (marked_len LEAF_BYTES t)
-ascii_run [] = record { passes = passes_none outside []; ascii = IsAscii-nil }
+ascii_run [] = record { passes = passes_none outside []; ascii = IsAscii-nil; no_colon = refl }
 ascii_run (c ∷ t) = go (is_marked LEAF_BYTES c) refl (ascii_run t)
   where
     go : (b : Bool) → is_marked LEAF_BYTES c ≡ b → PassesAscii t (marked_len LEAF_BYTES t) → PassesAscii (c ∷ t) (cond b (suc (marked_len LEAF_BYTES t)) 0)
@@ -375,30 +369,29 @@ ascii_run (c ∷ t) = go (is_marked LEAF_BYTES c) refl (ascii_run t)
         record {
           passes = passes_then (word_passes c t byte.word) more.passes;
           ascii = IsAscii-cons c (take (marked_len LEAF_BYTES t) t) byte.low more.ascii;
+          no_colon = no_colon_before c (take (marked_len LEAF_BYTES t) t) (plain_no_colon c byte.word) more.no_colon;
         }
-    go false is more = record { passes = passes_none outside (c ∷ t); ascii = IsAscii-nil }
+    go false is more = record { passes = passes_none outside (c ∷ t); ascii = IsAscii-nil; no_colon = refl }
 
 module _ (t word : List ℕ) (n : ℕ) (len : n ≡ marked_len LEAF_BYTES t) (front : word ≡ take n t) where
   pub word_is_ascii : IsAscii word
   word_is_ascii = rw (front, len) (ascii_run t).ascii
 
   -- a word in ASCII at the front is the leaf, if the leaf ends after it
-  pub word_splits : (rest : List ℕ) → n ≤ length t → rest ≡ drop n t → EndsLeaf rest rest true
+  pub word_splits : (rest : List ℕ) → n ≤ length t → rest ≡ drop n t → EndsAt rest
       → (found : Front) → found.text.now ≡ word → found.rest.now ≡ rest → found.is_name ≡ true → IsSplit Debug t found
   word_splits rest within is ends found text after named =
       let count : length t - length rest ≡ n = omega (arith, within, ap length is, length-drop n t) in
-      let passes : Passes outside t outside rest false = rw (is, len) (ascii_run t).passes in
-      leaf_splits t rest word true (record { passes = passes; none = ends.none; all = ends.all }) (front ∙ sym (ap (λ k. take k t) count)) found text after named
-      (IsUtf8-from_ascii word word_is_ascii)
+      let passes : Passes outside t outside rest true = rw (is, len) (ascii_run t).passes in
+      let no_colon : ends_in_colon word ≡ false = rw (front, len) (ascii_run t).no_colon in
+      leaf_splits t rest word true (ends_leaf t rest rest true passes (passes_none outside rest) ends) (front ∙ sym (ap (λ k. take k t) count)) found text after
+      (named ∙ sym (ap not no_colon)) (IsUtf8-from_ascii word word_is_ascii)
 
--- a leaf that ends here has no byte here
-stops_where_ended : (t : List ℕ) → leaf_from outside t ≡ [] → StopsLeaf t
-stops_where_ended [] h = tt
-stops_where_ended (c ∷ t) h = go (place_after outside c t) refl h
-  where
-    go : (o : Option Place) → place_after outside c t ≡ o → choose o (λ next. c ∷ leaf_from next t) [] ≡ [] → place_after outside c t ≡ None
-    go None e h = e
-    go (Some next) e h = absurd (cc)
+-- a text whose last byte is no colon
+ends_otherwise : (w : List ℕ) (c : ℕ) → (c == 58) ≡ false → ends_in_colon (w ++ c ∷ []) ≡ false
+ends_otherwise [] c h = h
+ends_otherwise (b ∷ []) c h = h
+ends_otherwise (b ∷ d ∷ w) c h = ends_otherwise (d ∷ w) c h
 
 -- a text in quotes at the front, as a token document has it, is the leaf if the leaf ends after it
 module _ (t text rest : List ℕ) (reads : read_quoted t ≡ Some (text, rest)) where
@@ -408,34 +401,42 @@ module _ (t text rest : List ℕ) (reads : read_quoted t ≡ Some (text, rest)) 
   whole_text : t ≡ text ++ rest
   whole_text = (read_quoted-sound t text rest reads).1
 
-  begins_with_quote : (q : ℕ) (cs : List ℕ) → IsQuote q → text ≡ quoted q cs → is_quote q ≡ true → has_quote text ≡ true
-  begins_with_quote q cs quote is mark = rw (is ∙ quoted-bytes q cs quote, mark) refl
+  -- its first byte is no name's, and its last is no colon
+  record IsUnnamed (w : List ℕ) : Type 0 where
+    bytes : has_name_bytes w ≡ false
+    ends : ends_in_colon w ≡ false
 
-  quote_within : has_quote text ≡ true
-  quote_within = elim is_quoted [
-    | inl of_text ↦ begins_with_quote 34 of_text.0 (inl refl) of_text.2 refl
-    | inr of_char ↦ begins_with_quote 39 (of_char.0 ∷ []) (inr refl) of_char.2 refl
+  quotes_unnamed : (q : ℕ) (cs : List ℕ) → IsQuote q → text ≡ quoted q cs → is_debug_byte q || q == 58 ≡ false → IsUnnamed text
+  quotes_unnamed q cs quote is unnamed =
+      let spelled = is ∙ quoted-bytes q cs quote in
+      record { bytes = rw (spelled, unnamed) refl; ends = ap ends_in_colon spelled ∙ ends_otherwise (q ∷ escaped_bytes q (encode_utf8_all cs)) q (no_colon quote) }
+    where
+      no_colon : IsQuote q → (q == 58) ≡ false
+      no_colon (inl e) = rw e refl
+      no_colon (inr e) = rw e refl
+
+  unnamed : IsUnnamed text
+  unnamed = elim is_quoted [
+    | inl of_text ↦ quotes_unnamed 34 of_text.0 (inl refl) of_text.2 refl
+    | inr of_char ↦ quotes_unnamed 39 (of_char.0 ∷ []) (inr refl) of_char.2 refl
   ]
 
-  is_debug_text : IsDebugText text
-  is_debug_text = elim (tokens_are_debug (leaf text) (record { shape = inr (inr is_quoted) }, omega arith)).0 [
-    | inl is ↦ is
-    | inr unit ↦ let none = subst (λ w. has_quote w ≡ true) unit quote_within in absurd (cc)
-  ]
+  is_debug_leaf : IsDebugLeaf text
+  is_debug_leaf = (tokens_are_debug (leaf text) (record { shape = inr (inr is_quoted) }, omega arith)).0
 
   pub quotes_some : text ≢ []
-  quotes_some = is_debug_text.some
+  quotes_some = is_debug_leaf.some
 
-  pub quotes_split : EndsLeaf rest rest true → (found : Front) → found.text.now ≡ text → found.rest.now ≡ rest → found.is_name ≡ false → IsSplit Debug t found
-  quotes_split ends found same after named =
-      let stops = stops_where_ended rest ends.none in
-      let pieces = is_debug_text.pieces in
-      let front : leaf_from outside t ≡ text = ap (leaf_from outside) whole_text ∙ leaf_from-append outside text rest pieces stops in
+  pub quotes_split : EndsAt rest → (found : Front) → found.text.now ≡ text → found.rest.now ≡ rest → found.is_name ≡ false → IsSplit Debug t found
+  quotes_split stops found same after named =
+      let pieces = is_debug_leaf.pieces in
+      let seam : ends_in_colon text ≡ true → is_spaced rest ≡ false = λ ends. absurd (cc (ends, unnamed.ends)) in
+      let front : leaf_from outside t ≡ text = ap (leaf_from outside) whole_text ∙ leaf_from-append outside text rest pieces stops seam in
       record {
         text = same ∙ sym front;
-        rest = after ∙ sym (ap (after_leaf outside) whole_text ∙ after_leaf-append outside text rest pieces stops);
-        name = named ∙ sym (ap not (ap has_quote front ∙ quote_within));
-        whole = rw (front, last_is_outside outside text pieces, is_debug_text.utf8) refl;
+        rest = after ∙ sym (ap (after_leaf outside) whole_text ∙ after_leaf-append outside text rest pieces stops seam);
+        name = named ∙ sym (ap (λ w. has_name_bytes w && not (ends_in_colon w)) front ∙ rw unnamed.bytes refl);
+        whole = rw (front, last_is_outside outside text pieces, is_debug_leaf.utf8) refl;
       }
 
 -- ---- where a leaf ends
@@ -447,41 +448,42 @@ nothing_stops (c ∷ t) h = absurd (omega (arith, h))
 pub endings_are_marked : (c : ℕ) → (slice_index_or LEAF_BYTES c 0 == 101) ≡ is_ending c
 endings_are_marked c = marks_with 101 LEAF_BYTES is_ending refl refl refl (λ c past. grind (arith, nat_tests)) c
 
--- such a byte is in no word, no quote and no colon
-record IsEnding (c : ℕ) : Type 0 where
-  no_word : is_debug_byte c ≡ false
-  no_quote : is_quote c ≡ false
-  no_colon : (c == 58) ≡ false
-
-ending_is : (c : ℕ) → is_ending c ≡ true → IsEnding c
-ending_is c h = go (nat_le c 255) (is_debug_byte c) (is_quote c) (c == 58) refl refl refl h
+-- such a byte is in no word, opens no quotes and no `()`
+ending_is : (c : ℕ) (t : List ℕ) → is_ending c ≡ true → (place_outside c t ≡ None) × (is_quote c ≡ false)
+ending_is c t h = go (nat_le c 255) (is_debug_byte c) (is_quote c) (c == 58) (c == 40) refl refl refl refl h
   where
-    go : (low word quote colon : Bool) → is_debug_byte c ≡ word → is_quote c ≡ quote → (c == 58) ≡ colon
-        → low && not (word || quote || colon) ≡ true → IsEnding c
-    go false word quote colon e f g h = absurd (cc)
-    go true true quote colon e f g h = absurd (cc)
-    go true false true colon e f g h = absurd (cc)
-    go true false false true e f g h = absurd (cc)
-    go true false false false e f g h = record { no_word = e; no_quote = f; no_colon = g }
+    go : (low word quote colon opens : Bool) → is_debug_byte c ≡ word → is_quote c ≡ quote → (c == 58) ≡ colon → (c == 40) ≡ opens
+        → low && not (word || quote || colon || opens) ≡ true → (place_outside c t ≡ None) × (is_quote c ≡ false)
+    go false word quote colon opens e f g k h = absurd (cc)
+    go true true quote colon opens e f g k h = absurd (cc)
+    go true false true colon opens e f g k h = absurd (cc)
+    go true false false true opens e f g k h = absurd (cc)
+    go true false false false true e f g k h = absurd (cc)
+    go true false false false false e f g k h =
+        let no_word : is_in_word c t ≡ false = rw (e, g) refl in
+        (other_stops c t no_word f (rw k refl), f)
 
-stops_ends : (t : List ℕ) → StopsLeaf t → EndsLeaf t t true
-stops_ends t stops = ends_leaf t t t true (passes_none outside t) (passes_none outside t) stops
+pub ends_at_end : (t : List ℕ) → length t ≡ 0 → EndsAt t
+ends_at_end t h = nothing_stops t h
 
-pub ends_at_end : (t : List ℕ) → length t ≡ 0 → EndsLeaf t t true
-ends_at_end t h = stops_ends t (nothing_stops t h)
+pub ends_at_byte : (t : List ℕ) (c : ℕ) (u : List ℕ) → t ≡ c ∷ u → is_ending c ≡ true → EndsAt t
+ends_at_byte t c u first h = subst EndsAt (sym first) (ending_is c u h)
 
-pub ends_at_byte : (t : List ℕ) (c : ℕ) (u : List ℕ) → t ≡ c ∷ u → is_ending c ≡ true → EndsLeaf t t true
-ends_at_byte t c u first h =
-    let is = ending_is c h in
-    subst (λ v. EndsLeaf v v true) (sym first) (stops_ends (c ∷ u) (rw (is.no_word, is.no_colon, is.no_quote) refl))
+pub ends_at_colon : (t : List ℕ) (c : ℕ) (u : List ℕ) → t ≡ c ∷ u → c ≡ 58 → is_spaced u ≡ true → EndsAt t
+ends_at_colon t c u first colon spaced = subst EndsAt (sym first) (rw (colon, spaced) (refl, refl))
 
-pub ends_at_colon : (t u : List ℕ) (c d : ℕ) (v : List ℕ) → t ≡ c ∷ u → c ≡ 58 → u ≡ d ∷ v → is_ending d ≡ true → EndsLeaf t t true
-ends_at_colon t u c d v first colon next h =
-    let is = ending_is d h in
-    let opens : t ≡ 58 ∷ d ∷ v = cc in
-    let none : leads_on (d ∷ v) ≡ false = leads_here d v is.no_colon ∙ rw (is.no_word, is.no_quote) refl in
-    subst (λ w. EndsLeaf w w true) (sym opens) (stops_ends (58 ∷ d ∷ v) (ap (λ on. cond on (Some outside) None) none))
+pub ends_at_parenthesis : (t : List ℕ) (c : ℕ) (u : List ℕ) → t ≡ c ∷ u → c ≡ 40 → begins_with 41 u ≡ false → EndsAt t
+ends_at_parenthesis t c u first opens none = subst EndsAt (sym first) (rw (opens, none) (refl, refl))
 
-pub some_left : (n : ℕ) → (n == 0) ≡ false → 0 < n
-some_left zero h = absurd (cc)
-some_left (suc n) h = omega arith
+-- the last byte of a text
+pub no_last_colon : (t : List ℕ) → length t ≡ 0 → ends_in_colon t ≡ false
+no_last_colon [] h = refl
+no_last_colon (c ∷ t) h = absurd (omega (arith, h))
+
+pub last_is_colon : (t w : List ℕ) (c : ℕ) → t ≡ w ++ c ∷ [] → ends_in_colon t ≡ (c == 58)
+last_is_colon t w c is = ap ends_in_colon is ∙ last w
+  where
+    last : (w : List ℕ) → ends_in_colon (w ++ c ∷ []) ≡ (c == 58)
+    last [] = refl
+    last (b ∷ []) = refl
+    last (b ∷ d ∷ w) = last (d ∷ w)

@@ -2,7 +2,7 @@
 use Rattle.std.proofs.Common.{List, None, Some, [], ap, append-nil, arith, false, true, refl, subst, sym, ℕ, ◌==◌, ◌∙◌, ◌∷◌, ◌≡◌, ◌++◌, inl, inr, Bool, length}
 use Rattle.std.proofs.lemmas.Bool.Decides.{nat_tests}
 use Rattle.std.specs.Prelude.{◌↔◌, IsTrue, bytes_eq, codes}
-use Rattle.ufmt_grammar.specs.Leaves.{IsDebugLeaf, IsDebugText, outside}
+use Rattle.ufmt_grammar.specs.Leaves.{IsDebugLeaf, outside}
 use Rattle.ufmt_grammar.specs.Reading.{Parse, after_front, front_of, is_whole, read_name, read_symbol}
 use Rattle.ufmt_grammar.specs.declared.class.Class.{Class}
 use Rattle.ufmt_grammar.specs.declared.class.Class.TheVariants.{Token, Debug}
@@ -50,27 +50,23 @@ no_symbol_tested t none = (λ h. absurd (cc), λ h. let whole = whole_symbol t h
 
 -- ---- leaves of debug documents
 
--- a leaf other than `()` is the longest one at its own front
+-- a leaf is the longest one at its own front
 record IsAllFront (t : List ℕ) : Type 0 where
   front : front_of Debug t ≡ t
   after : after_front Debug t ≡ []
   whole : is_whole Debug (front_of Debug t) ≡ true
 
-all_front : (t : List ℕ) → IsDebugText t → IsAllFront t
+all_front : (t : List ℕ) → IsDebugLeaf t → IsAllFront t
 all_front t h =
-    let front : front_of Debug t ≡ t = ap (front_of Debug) (sym (append-nil t)) ∙ leaf_from-append outside t [] h.pieces tt in
+    let front : front_of Debug t ≡ t = ap (front_of Debug) (sym (append-nil t)) ∙ leaf_from-append outside t [] h.pieces tt (λ ends. refl) in
     record {
       front = front;
-      after = ap (after_front Debug) (sym (append-nil t)) ∙ after_leaf-append outside t [] h.pieces tt;
+      after = ap (after_front Debug) (sym (append-nil t)) ∙ after_leaf-append outside t [] h.pieces tt (λ ends. refl);
       whole = ap (is_whole Debug) front ∙ rw (last_is_outside outside t h.pieces, h.utf8) refl;
     }
 
--- a text that is not `()` is a leaf exactly if nothing follows the leaf at its front, and there is one
-module _ (t : List ℕ) (no_unit : bytes_eq t (codes "()") ≡ false) where
-  is_text : IsDebugLeaf t → IsDebugText t
-  is_text (inl h) = h
-  is_text (inr unit) = let same = subst (λ u. bytes_eq u (codes "()") ≡ false) unit no_unit in absurd (cc)
-
+-- a text is a leaf exactly if nothing follows the leaf at its front, and there is one
+module _ (t : List ℕ) where
   by_rest : (x u : List ℕ) → x ≡ front_of Debug t → u ≡ after_front Debug t → is_whole Debug (front_of Debug t) ≡ true → (length x == 0) ≡ false
       → (outcome : Bool) → outcome ≡ (length u == 0) → IsTrue outcome ↔ IsDebugLeaf t
   by_rest [] u front after whole some outcome tested = absurd (cc)
@@ -79,18 +75,18 @@ module _ (t : List ℕ) (no_unit : bytes_eq t (codes "()") ≡ false) where
       (λ h. subst IsDebugLeaf same ((front_is Debug t).leaf (λ none. absurd (cc)) whole), λ h. tested)
   by_rest (c ∷ x) (d ∷ u) front after whole some outcome tested =
       let more : (length (d ∷ u) == 0) ≡ false = grind (arith, nat_tests) in
-      (λ h. absurd (cc), λ h. let none = (all_front t (is_text h)).after in absurd (cc))
+      (λ h. absurd (cc), λ h. let none = (all_front t h).after in absurd (cc))
 
   pub debug_leaf_tested : (front : Front) → IsSplit Debug t front → (length front.text.now == 0) ≡ false
       → (outcome : Bool) → outcome ≡ (length front.rest.now == 0) → IsTrue outcome ↔ IsDebugLeaf t
   debug_leaf_tested front h = by_rest front.text.now front.rest.now h.text h.rest h.whole
 
   pub empty_front_tested : (front : Front) → IsSplit Debug t front → (length front.text.now == 0) ≡ true → IsTrue false ↔ IsDebugLeaf t
-  empty_front_tested front h none = (λ h. absurd (cc), λ leaf. absurd (nothing front.text.now (h.text ∙ (all_front t (is_text leaf)).front) none (is_text leaf)))
+  empty_front_tested front h none = (λ h. absurd (cc), λ leaf. absurd (nothing front.text.now (h.text ∙ (all_front t leaf).front) none leaf))
     where
-      nothing : (x : List ℕ) → x ≡ t → (length x == 0) ≡ true → IsDebugText t → ⊥
-      nothing [] is none text = text.some (sym is)
-      nothing (c ∷ x) is none text = let more : (length (c ∷ x) == 0) ≡ false = grind (arith, nat_tests) in absurd (cc)
+      nothing : (x : List ℕ) → x ≡ t → (length x == 0) ≡ true → IsDebugLeaf t → ⊥
+      nothing [] is none leaf = leaf.some (sym is)
+      nothing (c ∷ x) is none leaf = let more : (length (c ∷ x) == 0) ≡ false = grind (arith, nat_tests) in absurd (cc)
 
   pub broken_front_tested : is_whole Debug (front_of Debug t) ≡ false → IsTrue false ↔ IsDebugLeaf t
-  broken_front_tested broken = (λ h. absurd (cc), λ h. let whole = (all_front t (is_text h)).whole in absurd (cc))
+  broken_front_tested broken = (λ h. absurd (cc), λ h. let whole = (all_front t h).whole in absurd (cc))

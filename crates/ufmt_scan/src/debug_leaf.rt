@@ -1,26 +1,26 @@
 //! Leaves of debug documents: words and texts in quotes in a row.
-ghost use Rattle.std.specs.Prelude.{◌≡◌, ◌<◌, ◌≤◌, ◌==◌, ◌||◌, ◌≢◌, ◌∷◌, [], ℕ, IfSome, IsTrue, MatchOption, false, length, nat_le, not, true};
+ghost use Rattle.std.specs.Prelude.{◌≡◌, ◌<◌, ◌≤◌, ◌==◌, ◌&&◌, ◌||◌, ◌≢◌, ◌∷◌, [], ℕ, IfSome, IsTrue, MatchOption, None, false, length, nat_le, not, true};
 ghost use Rattle.ufmt_grammar.specs.declared.class.Class.TheVariants.{Debug};
-ghost use Rattle.ufmt_grammar.specs.Leaves.{between, is_control, is_debug_byte, is_quote, outside};
-ghost use Rattle.ufmt_scan.specs.Private.Fronts.{EndsLeaf, IsSplit, NeverCloses, Passes, SplitsFront, StaysBetween, StopsWord, colon_belongs, is_ending};
+ghost use Rattle.ufmt_grammar.specs.Leaves.{after_quotes, begins_quote, begins_with, between, ends_in_colon, is_control, is_in_word, is_quote, is_spaced, outside, place_outside};
+ghost use Rattle.ufmt_scan.specs.Private.Fronts.{EndsAt, EndsLeaf, IsSplit, NeverCloses, Passes, SplitsFront, StaysBetween, StopsWord, is_ending, is_plain_byte};
 
 use crate::front::Front;
 use crate::leaf::marked_len;
 use crate::quoted::split_plain;
 use ufmt_core::ascii::text_from;
 
-// `w` marks each ASCII byte that a word of a debug document may have, but for colons, and `e` each byte
-// that no leaf has outside of quotes.
+// `w` marks each ASCII byte that is in a word whatever follows, and `e` each byte that no leaf has outside
+// of quotes.
 static LEAF_BYTES: [u8; 256] = *b"\
-    eeeeeeeeeeeeeeeeeeeeeeeeeeeeeeeeew.wwww.eewwewwwwwwwwwwwww.wwwww\
-    wwwwwwwwwwwwwwwwwwwwwwwwwwwewewwwwwwwwwwwwwwwwwwwwwwwwwwwwwewewe\
+    eeeeeeeeeeeeeeeeeeeeeeeeeeeeeeeeew.wwww..ewwewwwwwwwwwwwww.wwwww\
+    wwwwwwwwwwwwwwwwwwwwwwwwwwwe.ewwwwwwwwwwwwwwwwwwwwwwwwwwwwwewewe\
     ................................................................\
     ................................................................";
 
-// Marks each byte that a word of a debug document may have, but for colons.
+// Marks each byte that is in a word whatever follows: no colon and no backslash.
 static WORD_BYTES: [u8; 256] = *b"\
     .................................w.wwww...ww.wwwwwwwwwwwww.wwwww\
-    wwwwwwwwwwwwwwwwwwwwwwwwwww.w.wwwwwwwwwwwwwwwwwwwwwwwwwwwww.w.w.\
+    wwwwwwwwwwwwwwwwwwwwwwwwwww...wwwwwwwwwwwwwwwwwwwwwwwwwwwww.w.w.\
     wwwwwwwwwwwwwwwwwwwwwwwwwwwwwwwwwwwwwwwwwwwwwwwwwwwwwwwwwwwwwwww\
     wwwwwwwwwwwwwwwwwwwwwwwwwwwwwwwwwwwwwwwwwwwwwwwwwwwwwwwwwwwwwwww";
 
@@ -30,13 +30,6 @@ static QUOTED_BYTES: [u8; 256] = *b"\
     wwwwwwwwwwwwwwwwwwwwwwwwwwww.wwwwwwwwwwwwwwwwwwwwwwwwwwwwwwwwww.\
     wwwwwwwwwwwwwwwwwwwwwwwwwwwwwwwwwwwwwwwwwwwwwwwwwwwwwwwwwwwwwwww\
     wwwwwwwwwwwwwwwwwwwwwwwwwwwwwwwwwwwwwwwwwwwwwwwwwwwwwwwwwwwwwwww";
-
-// Marks a colon.
-static COLON_BYTES: [u8; 256] = *b"\
-    ..........................................................w.....\
-    ................................................................\
-    ................................................................\
-    ................................................................";
 
 /// The leaf, if it is a word in ASCII. It may be empty. Nothing of it is tested again.
 #[inline(always)]
@@ -74,12 +67,11 @@ pub(crate) fn split_debug_quotes(input: &[u8]) -> Option<Front<'_>>
     }
 }
 
-// Whether no byte of a leaf is at the front. It may miss an end before a colon, but none before a colon
-// and a space.
+// Whether no byte of a leaf is at the front. It may miss an end before a backslash.
 #[inline(always)]
-#[tactic(auto, using(crate::proofs::DebugFronts::ends_at_end, crate::proofs::DebugFronts::ends_at_byte, crate::proofs::DebugFronts::ends_at_colon))]
+#[tactic(auto, using(crate::proofs::DebugFronts::ends_at_end, crate::proofs::DebugFronts::ends_at_byte, crate::proofs::DebugFronts::ends_at_colon, crate::proofs::DebugFronts::ends_at_parenthesis))]
 fn ends_here(input: &[u8]) -> bool
-    ensures { IsTrue result → EndsLeaf input.now input.now true }
+    ensures { IsTrue result → EndsAt input.now }
 {
     let Some((&byte, after)) = input.split_first() else {
         return true;
@@ -87,10 +79,10 @@ fn ends_here(input: &[u8]) -> bool
     if is_ending(byte) {
         return true;
     }
-    match after.split_first() {
-        Some((&next, _)) => byte == b':' && is_ending(next),
-        None => false,
+    if byte == b':' {
+        return is_spaced(after);
     }
+    byte == b'(' && !begins_with(b')', after)
 }
 
 /// Splits off the longest leaf, which may be empty. Returns `None` if its quotes aren't closed, or it
@@ -99,8 +91,9 @@ fn ends_here(input: &[u8]) -> bool
 pub(crate) fn split_leaf(input: &[u8]) -> Option<Front<'_>>
     ensures { SplitsFront Debug input.now result }
 {
-    let (rest, is_name) = after_leaf(input)?;
+    let (rest, is_named) = after_leaf(input)?;
     let (leaf, _) = input.split_at(input.len() - rest.len());
+    let is_name = may_be_name(is_named, leaf);
     match str::from_utf8(leaf) {
         Ok(text) => Some(Front {
             text,
@@ -111,25 +104,39 @@ pub(crate) fn split_leaf(input: &[u8]) -> Option<Front<'_>>
     }
 }
 
-// What follows the leaf, and whether no quote is in it.
+// Whether a leaf is a name, if it is known whether it has only bytes of words and colons.
+#[inline(always)]
+fn may_be_name(is_named: bool, leaf: &[u8]) -> bool
+    ensures { result ≡ (is_named && not (ends_in_colon leaf.now)) }
+{
+    is_named && !ends_in_colon(leaf)
+}
+
+// What follows the leaf, and whether it has only bytes of words and colons.
 fn after_leaf(input: &[u8]) -> Option<(&[u8], bool)>
     ensures { MatchOption result (NeverCloses outside input.now)
         (λ x. EndsLeaf input.now x.0.now x.1) }
 {
     let mut rest = input;
-    let mut is_name = true;
+    let mut is_named = true;
     'pieces: loop {
         let end = after_word(rest);
-        let Some((&byte, inside)) = end.split_first() else {
-            return Some((end, is_name));
+        let Some((&byte, after)) = end.split_first() else {
+            return Some((end, is_named));
         };
         if is_quote(byte) {
-            rest = after_quotes(byte, inside)?;
-            is_name = false;
-        } else if let Some(after) = after_colons(end) {
+            rest = after_text(byte, after)?;
+            is_named = false;
+            if begins_with(b':', rest) {
+                return Some((rest, false));
+            }
+        } else if is_in_word(byte, after) {
             rest = after;
+        } else if let Some(unit) = after_unit(byte, after) {
+            rest = unit;
+            is_named = false;
         } else {
-            return Some((end, is_name));
+            return Some((end, is_named));
         }
     }
 }
@@ -138,43 +145,47 @@ fn after_leaf(input: &[u8]) -> Option<(&[u8], bool)>
 #[inline(always)]
 #[tactic(auto, using(crate::proofs::DebugFronts::words_are_passed, crate::proofs::DebugFronts::word_stops))]
 fn after_word(input: &[u8]) -> &[u8]
-    ensures passes { Passes outside input.now outside result.now false }
+    ensures passes { Passes outside input.now outside result.now true }
     ensures stops { StopsWord result.now }
     ensures within { length result.now ≤ length input.now }
 {
     input.split_at(marked_len(&WORD_BYTES, input)).1
 }
 
-// What follows colons at the front, if a byte of a word or a quote does.
+// Whether a colon or a backslash is in a word, before this rest of the text.
 #[inline(always)]
-fn after_colons(input: &[u8]) -> Option<&[u8]>
-    ensures { MatchOption result (colon_belongs input.now ≡ false)
-        (λ rest. Passes outside input.now outside rest.now false × (length rest.now < length input.now)) }
+fn is_in_word(byte: u8, after: &[u8]) -> bool
+    requires { is_plain_byte byte ≡ false }
+    ensures { result ≡ is_in_word byte after.now }
 {
-    match input.first() {
-        Some(b':') => after_some_colons(input),
+    if byte == b':' {
+        return !is_spaced(after);
+    }
+    byte == b'\\' && !begins_quote(after)
+}
+
+// What follows `()`, if its first byte is here.
+#[inline(always)]
+fn after_unit(byte: u8, after: &[u8]) -> Option<&[u8]>
+    requires no_quote { is_quote byte ≡ false }
+    requires no_word { is_in_word byte after.now ≡ false }
+    ensures { MatchOption result (place_outside byte after.now ≡ None)
+        (λ rest. Passes outside (byte ∷ after.now) outside rest.now false × (length rest.now ≤ length after.now)) }
+{
+    if byte != b'(' {
+        return None;
+    }
+    match after.split_first() {
+        Some((b')', rest)) => Some(rest),
         _ => None,
     }
 }
 
-// The same after the test that a colon is at the front.
-fn after_some_colons(input: &[u8]) -> Option<&[u8]>
-    ensures { MatchOption result (colon_belongs input.now ≡ false)
-        (λ rest. Passes outside input.now outside rest.now false × (length rest.now < length input.now)) }
-{
-    let (colons, rest) = input.split_at(marked_len(&COLON_BYTES, input));
-    let (&byte, _) = rest.split_first()?;
-    if colons.is_empty() {
-        return None;
-    }
-    if leads_on(byte) { Some(rest) } else { None }
-}
-
 // What follows a text in quotes, after its first quote.
-fn after_quotes(quote: u8, inside: &[u8]) -> Option<&[u8]>
+fn after_text(quote: u8, inside: &[u8]) -> Option<&[u8]>
     requires { is_quote quote ≡ true }
     ensures { MatchOption result (NeverCloses outside (quote ∷ inside.now))
-        (λ rest. Passes outside (quote ∷ inside.now) outside rest.now true
+        (λ rest. Passes outside (quote ∷ inside.now) after_quotes rest.now false
         × (length rest.now ≤ length inside.now)) }
 {
     let mut rest = inside;
@@ -190,8 +201,7 @@ fn after_quotes(quote: u8, inside: &[u8]) -> Option<&[u8]>
 // What follows the bytes that stay between quotes, if there are any.
 #[tactic(auto, using(crate::proofs::DebugFronts::stretches_are_passed))]
 fn after_stretch(input: &[u8]) -> &[u8]
-    ensures passes { (quote : ℕ) → is_quote quote ≡ true
-        → Passes (between quote) input.now (between quote) result.now false }
+    ensures passes { (quote : ℕ) → is_quote quote ≡ true → StaysBetween quote input.now result.now }
     ensures within { length result.now ≤ length input.now }
 {
     input.split_at(marked_len(&QUOTED_BYTES, input)).1
@@ -222,12 +232,46 @@ fn is_quote(byte: u8) -> bool
     byte == b'"' || byte == b'\''
 }
 
-// Whether a colon before the byte belongs to a leaf.
+// Whether a space comes next, and no closing brace after it.
 #[inline(always)]
-fn leads_on(byte: u8) -> bool
-    ensures { result ≡ (is_debug_byte byte || is_quote byte) }
+fn is_spaced(input: &[u8]) -> bool
+    ensures { result ≡ is_spaced input.now }
 {
-    is_word_byte(byte) || is_quote(byte)
+    match input.split_first() {
+        Some((b' ', after)) => !begins_with(b'}', after),
+        _ => false,
+    }
+}
+
+#[inline(always)]
+fn begins_quote(input: &[u8]) -> bool
+    ensures { result ≡ begins_quote input.now }
+{
+    match input.split_first() {
+        Some((&byte, _)) => is_quote(byte),
+        None => false,
+    }
+}
+
+#[inline(always)]
+fn begins_with(byte: u8, input: &[u8]) -> bool
+    ensures { result ≡ begins_with byte input.now }
+{
+    match input.split_first() {
+        Some((&first, _)) => first == byte,
+        None => false,
+    }
+}
+
+#[inline(always)]
+#[tactic(auto, using(crate::proofs::DebugFronts::last_is_colon, crate::proofs::DebugFronts::no_last_colon))]
+fn ends_in_colon(text: &[u8]) -> bool
+    ensures { result ≡ ends_in_colon text.now }
+{
+    match text.split_last() {
+        Some((&byte, _)) => byte == b':',
+        None => false,
+    }
 }
 
 // Whether a backslash before the byte takes it.
@@ -252,12 +296,4 @@ fn is_ending(byte: u8) -> bool
     ensures { result ≡ is_ending byte }
 {
     LEAF_BYTES[byte as usize] == b'e'
-}
-
-#[inline(always)]
-#[tactic(auto, using(crate::proofs::DebugFronts::words_are_marked))]
-fn is_word_byte(byte: u8) -> bool
-    ensures { result ≡ is_debug_byte byte }
-{
-    WORD_BYTES[byte as usize] == b'w'
 }

@@ -160,13 +160,10 @@ pub fn is_name_of(class: Class, text: &str) -> bool
     }
 }
 
-// Whether a text is `()`, or words and texts in quotes in a row.
+// Whether a text is words, texts in quotes and `()` in a row.
 fn is_debug_leaf(text: &str) -> bool
     ensures { IsTrue result ↔ IsDebugLeaf text.now }
 {
-    if text == "()" {
-        return true;
-    }
     match split_front(Class::Debug, text.as_bytes()) {
         Some(front) => !front.text.is_empty() && front.rest.is_empty(),
         None => false,

@@ -1,12 +1,12 @@
 -- The quotes are still open after what was passed.
-use Rattle.std.proofs.Common.{◌≤◌, ◌∷◌, length, true}
-use Rattle.ufmt_grammar.specs.Leaves.{between, outside}
+use Rattle.std.proofs.Common.{◌≤◌, ◌∷◌, length, false}
+use Rattle.ufmt_grammar.specs.Leaves.{after_quotes, between, outside}
 use Rattle.ufmt_scan.specs.Private.Fronts.{Passes}
-use Rattle.ufmt_scan.proofs.debug_leaf.after_quotes.Given as goal
+use Rattle.ufmt_scan.proofs.debug_leaf.after_text.Given as goal
 
 abbrev pub invariant-stretches : goal.invariant-stretches
 invariant-stretches l = record {
-  passes : Passes outside (l.quote ∷ l.inside) (between l.quote) l.rest true;
+  passes : Passes outside (l.quote ∷ l.inside) (between l.quote) l.rest false;
   within : length l.rest ≤ length l.inside;
 }
 
