@@ -110,9 +110,8 @@ macro_rules! pieces {
     ($($pieces:tt)*) => { $crate::next_piece!(keep_piece [] $($pieces)*) };
 }
 
-/// Passes to the macro `$then` what that keeps, the first piece of a row and the pieces that are left, no piece
-/// if the row is empty, or only `refused` if it begins with no piece. A piece is passed as `text e`, `(mark) e`
-/// or `each (mark) items, between`. A mark is as in the row, but `(hex with options, in column)` has a comma.
+/// Passes to the macro `$then` what that keeps, the first piece of a row and the pieces that are left, or no piece
+/// if the row is empty. A piece is passed as `text e`, `(mark) e` or `each (mark) items, between`. A mark is as in the row, but `(hex with options, in column)` has a comma.
 #[macro_export]
 macro_rules! next_piece {
     ($then:ident $kept:tt) => { $crate::$then!($kept) };
@@ -158,7 +157,29 @@ macro_rules! next_piece {
     ($then:ident $kept:tt $kind:ident $value:expr $(, $($rest:tt)*)?) => {
         $crate::$then!($kept [($kind) $value] $($($rest)*)?)
     };
-    ($then:ident $($other:tt)*) => { $crate::$then!(refused) };
+    ($then:ident $kept:tt $($other:tt)*) => { $crate::wrong_piece!(row $($other)*) };
+}
+
+/// What is wrong with the mark of a piece, or with the first piece of a row.
+#[macro_export]
+macro_rules! wrong_piece {
+    (mark hex) => { compile_error!("`hex e` needs `with options` after it") };
+    (mark bin) => { compile_error!("`bin e` needs `with options` after it") };
+    (mark oct) => { compile_error!("`oct e` needs `with options` after it") };
+    (mark zeros) => { compile_error!("`zeros e` needs `to width` after it") };
+    (mark $kind:ident) => { compile_error!(concat!("no kind of piece: `", stringify!($kind), "`")) };
+    (mark $kind:ident with $options:tt) => {
+        compile_error!(concat!("`", stringify!($kind), " e` takes no `with options`"))
+    };
+    (mark $kind:ident to $width:tt) => {
+        compile_error!(concat!("`", stringify!($kind), " e` takes no `to width`"))
+    };
+    (row each $($other:tt)*) => {
+        compile_error!(concat!("needs a kind, items and `between s`: `each ", stringify!($($other)*), "`"))
+    };
+    (row $($other:tt)*) => {
+        compile_error!(concat!("no piece, or no comma after it: `", stringify!($($other)*), "`"))
+    };
 }
 
 /// Keeps a piece as a line of its own, in parentheses, until all are kept.
@@ -168,9 +189,6 @@ macro_rules! keep_piece {
     ([$($lines:tt)+]) => { $crate::join_lines!($($lines)+) };
     ([$($lines:tt)*] [$($piece:tt)+] $($rest:tt)*) => {
         $crate::next_piece!(keep_piece [$($lines)* ($crate::piece_value!($($piece)+))] $($rest)*)
-    };
-    (refused) => {
-        compile_error!("expected pieces with commas between them: `text e`; `display e`, `debug e`, `pretty e`, `hex e with options`, `bin e with options`, `oct e with options` or `zeros e to width`, with or without `in column`; `each debug e between s`, `each hex e with options between s` or `each e by mark between s`. Before `with`, `to`, `in`, `by` and `between`, `e` is a name, a literal or in parentheses")
     };
 }
 
@@ -241,5 +259,5 @@ macro_rules! piece_mark {
     ($kind:ident $(with $options:tt)? $(to $width:tt)?, in $column:expr) => {
         $crate::pieces::InColumn { mark: $crate::piece_mark!($kind $(with $options)? $(to $width)?), column: $column }
     };
-    ($($other:tt)*) => { $crate::keep_piece!(refused) };
+    ($($other:tt)*) => { $crate::wrong_piece!(mark $($other)*) };
 }

@@ -35,9 +35,6 @@ macro_rules! write_pieces {
         }
     };
     ([$f:ident [$($last:tt)+]]) => { $crate::write_piece!($f, $($last)+) };
-    (refused) => {
-        compile_error!("expected pieces with commas between them: `text e`; `display e`, `debug e`, `pretty e`, `hex e with options`, `bin e with options`, `oct e with options` or `zeros e to width`, with or without `in column`. Before `with`, `to` and `in`, `e` is a name, a literal or in parentheses")
-    };
 }
 
 /// Writes one piece.
@@ -62,5 +59,6 @@ macro_rules! write_piece {
     ($f:ident, ($kind:ident $(with $options:tt)? $(to $width:tt)?, in $column:expr) $value:expr) => {
         $crate::Line::print(&$crate::piece_value!(($kind $(with $options)? $(to $width)?, in $column) $value), $f)
     };
-    ($($other:tt)*) => { $crate::write_pieces!(refused) };
+    ($f:ident, each $($other:tt)*) => { compile_error!("`each` is a piece of `pieces!` alone") };
+    ($f:ident, ($($mark:tt)+) $value:expr) => { $crate::wrong_piece!(mark $($mark)+) };
 }
