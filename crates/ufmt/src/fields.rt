@@ -1,4 +1,4 @@
-//! `fields!`: the `fmt` of a struct, a tuple struct or a variant in one call.
+//! `fields!` and `variants!`: the `fmt` of a struct, a tuple struct, a variant or an enum in one call.
 
 /// Prints a whole struct, tuple struct or variant, in place of `#[derive(uDebug)]`.
 ///
@@ -6,9 +6,9 @@
 /// write its name and its fields in the given order, as the builders would. If a field is left out, the
 /// compiler names it in an error.
 ///
-/// In an arm of a `match` the variant is taken apart already: write `fields!(f, Variant { x, y })`,
-/// `fields!(f, Variant(x, y))` or `fields!(f, None)`. For other values, write
-/// `fields!(f, Pair { x: a.x, y: b.y })`. These print the fields that are named, and don't see whether
+/// A whole enum is printed by `variants!`. In an arm of a `match` of yours the variant is taken apart already:
+/// write `fields!(f, Variant { x, y })`, `fields!(f, Variant(x, y))` or `fields!(f, None)`. For other values,
+/// write `fields!(f, Pair { x: a.x, y: b.y })`. These print the fields that are named, and don't see whether
 /// one is left out. Values are taken by reference. A type that holds itself has at most twelve fields.
 ///
 /// With `..` at the end, as in `fields!(f, self, Session { user, .. })`, only the fields that are named
@@ -71,6 +71,27 @@ macro_rules! fields {
     };
     ($($other:tt)*) => {
         compile_error!("expected a formatter and what it prints: `self, Name { x, y }` or `self, Name(x, y)`, which take the value apart, `Name { x, y }`, `Name { x: e, y: e }`, `Name(e, e)` or `Name`; `..` may end the fields in braces")
+    };
+}
+
+/// Prints a whole enum, in place of `#[derive(uDebug)]`: each variant as `fields!` does.
+///
+/// Write `variants!(f, self, Event { Started, Said(node, text), Lost { since, peers } })`. Each variant is taken
+/// apart, so if a variant or a field is left out, the compiler names it in an error.
+#[macro_export]
+macro_rules! variants {
+    ($formatter:expr, $value:ident, $name:ident {
+        $($variant:ident $(( $($item:ident),* $(,)? ))? $({ $($field:ident),* $(,)? })?),+ $(,)?
+    } $(,)?) => {{
+        let formatter: &mut $crate::Formatter<_> = $formatter;
+        match $value {
+            $($name::$variant $(($($item),*))? $({ $($field),* })? => {
+                $crate::fields!(formatter, $variant $(($($item),*))? $({ $($field),* })?)
+            })+
+        }
+    }};
+    ($($other:tt)*) => {
+        compile_error!("expected a formatter and an enum: `self, Name { A, B(x, y), C { x, y } }`")
     };
 }
 

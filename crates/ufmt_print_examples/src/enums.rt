@@ -4,7 +4,7 @@ ghost use Rattle.ufmt.specs.ValueDocuments.{named, named_struct, named_tuple};
 ghost use Rattle.ufmt_print_examples.specs.declared.enums.Letter.TheVariants.{A, B, C};
 ghost use Rattle.ufmt_print_examples.specs.declared.enums.Y.TheVariants.{W, Z};
 
-use ufmt::{Formatter, fields, uDebug, uWrite};
+use ufmt::{Formatter, fields, uDebug, uWrite, variants};
 
 /// An enum with the three kinds of variants.
 #[derive(Drop)]
@@ -22,11 +22,7 @@ impl<T: uDebug> uDebug for Letter<T> {
     ] };
 
     fn fmt<W: uWrite>(&self, f: &mut Formatter<W>) -> Result<(), W::Error> {
-        match self {
-            Letter::A => fields!(f, A),
-            Letter::B(x, y) => fields!(f, B(x, y)),
-            Letter::C { x, y } => fields!(f, C { x, y }),
-        }
+        variants!(f, self, Letter { A, B(x, y), C { x, y } })
     }
 }
 

@@ -76,14 +76,14 @@ class Refused:
                 snippet.place, snippet.code, "\n".join(messages) or "no message", "\n".join(snippet.messages))
 
 
-def crates(room, paths):
+def crates(room, paths, name="refused"):
     """As few crates as can show all messages. A file's items stand once in a crate, so no two files share names."""
     taken, count, made = [], 0, []
     for snippet in [snippet for path in paths for snippet in snippets_in(path)]:
         if count + len(snippet.messages) > SHOWN:
-            made.append(Refused(room, "refused_%d" % len(made), taken))
+            made.append(Refused(room, "%s_%d" % (name, len(made)), taken))
             taken, count = [], 0
         taken.append(snippet)
         count += len(snippet.messages)
-    made.append(Refused(room, "refused_%d" % len(made), taken))
+    made.append(Refused(room, "%s_%d" % (name, len(made)), taken))
     return made

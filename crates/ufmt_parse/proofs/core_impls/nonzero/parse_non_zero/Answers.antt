@@ -9,7 +9,7 @@ returns-in-Err-clause-none g c = λ is v holds.
 pub returns-in-None-clause-none : goal.returns-in-None-clause-none
 returns-in-None-clause-none g c = λ is v holds.
     let number = c.prove_number.ensures v holds in
-    zero_refused g.M.ParseMode.mode g.T.uDebug.document c.in-Ok.number g.N.uDebug.document c.args.parser.now c.parse_from.new.parser c.in-Ok.ensures.taken
+    zero_refused g.M.ParseMode.mode g.T.uDebug.document c.in-Ok.value g.N.uDebug.document c.args.parser.now c.parse_from.new.parser c.in-Ok.ensures.taken
     v (λ s. c.in-None.ensures s v holds) (rw number.1 (c.in-Ok.ensures.only (g.T.NonZero.get v) number.0))
 
 pub returns-in-Some-clause-taken : goal.returns-in-Some-clause-taken

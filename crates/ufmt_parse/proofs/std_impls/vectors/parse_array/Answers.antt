@@ -7,5 +7,5 @@ pub returns-in-Err-try_from-clause-takes : goal.returns-in-Err-try_from-clause-t
 returns-in-Err-try_from-clause-takes g c =
     record {
       cases = (array_refused g.T.uParse.is_value g.T.uDebug.document g.row.N (open_blocks c.args.parser.now) g.M.ParseMode.mode c.in-Ok.ensures.takes
-          (λ right. c.in-Err-try_from.ensures.1 (c.in-Ok.values.ok.0 ∙ right))).cases;
+          (λ right. c.in-Err-try_from.ensures.1 (c.in-Ok.value.ok.0 ∙ right))).cases;
     }

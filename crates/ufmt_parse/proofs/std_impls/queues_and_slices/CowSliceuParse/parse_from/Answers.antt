@@ -11,13 +11,13 @@ pub returns-clause-taken : goal.returns-clause-taken
 returns-clause-taken g c =
     taken_clause g.M.ParseMode.mode (λ slice. All g.T.uParse.is_value (cow_slice_items slice))
     (λ slice. list_of (documents (map g.T.uDebug.document (cow_slice_items slice))))
-    c.args.parser.now c.parse_list.new.parser (Ok (Owned c.in-Ok.values)) (viewed cow_slice_items c.in-Ok.ensures.takes)
+    c.args.parser.now c.parse_list.new.parser (Ok (Owned c.in-Ok.value)) (viewed cow_slice_items c.in-Ok.ensures.takes)
 
 pub returns-clause-only : goal.returns-clause-only
 returns-clause-only g c =
     only_clause g.M.ParseMode.mode (λ slice. All g.T.uParse.is_value (cow_slice_items slice))
     (λ slice. list_of (documents (map g.T.uDebug.document (cow_slice_items slice))))
-    c.args.parser.now c.parse_list.new.parser (Ok (Owned c.in-Ok.values)) (viewed cow_slice_items c.in-Ok.ensures.takes)
+    c.args.parser.now c.parse_list.new.parser (Ok (Owned c.in-Ok.value)) (viewed cow_slice_items c.in-Ok.ensures.takes)
 
 pub returns-in-Err-clause-none : goal.returns-in-Err-clause-none
 returns-in-Err-clause-none g c =

@@ -11,12 +11,12 @@ use Rattle.ufmt_parse.proofs.std_impls.texts.CowStruParse.parse_from.Goals as go
 pub returns-clause-taken : goal.returns-clause-taken
 returns-clause-taken g c =
     taken_clause g.M.ParseMode.mode (λ text. IsUtf8 (cow_str_bytes text)) (λ text. leaf (quoted_bytes (cow_str_bytes text)))
-    c.args.parser.now c.parse_text.new.parser (Ok (Owned c.in-Ok.text)) (viewed cow_str_bytes c.in-Ok.ensures.takes)
+    c.args.parser.now c.parse_text.new.parser (Ok (Owned c.in-Ok.value)) (viewed cow_str_bytes c.in-Ok.ensures.takes)
 
 pub returns-clause-only : goal.returns-clause-only
 returns-clause-only g c =
     only_clause g.M.ParseMode.mode (λ text. IsUtf8 (cow_str_bytes text)) (λ text. leaf (quoted_bytes (cow_str_bytes text)))
-    c.args.parser.now c.parse_text.new.parser (Ok (Owned c.in-Ok.text)) (viewed cow_str_bytes c.in-Ok.ensures.takes)
+    c.args.parser.now c.parse_text.new.parser (Ok (Owned c.in-Ok.value)) (viewed cow_str_bytes c.in-Ok.ensures.takes)
 
 pub returns-in-Err-clause-none : goal.returns-in-Err-clause-none
 returns-in-Err-clause-none g c =
