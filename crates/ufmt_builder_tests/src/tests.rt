@@ -10,6 +10,7 @@ mod evaluations;
 mod field_counts;
 mod fields;
 mod formatters;
+mod printed;
 mod refused_pieces;
 mod stopped_calls;
 mod writers;

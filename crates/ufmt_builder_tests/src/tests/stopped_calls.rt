@@ -33,6 +33,9 @@ const PRETTY: Place<'static> = Place {
     list: "[\n        7,\n    ]",
 };
 
+/// A call's name, and its pieces with a bar after each.
+pub type CallWithPieces = (&'static str, &'static str);
+
 /// What a builder's calls write.
 #[derive(Drop)]
 struct Calls<'a> {
@@ -54,14 +57,13 @@ impl<'a> Calls<'a> {
     }
 
     // The pieces before the builder, and those of its calls.
-    fn of(alloc: Global, place: Place<'a>, rows: &'a str) -> Result<Self, AllocError> {
+    fn of(alloc: Global, place: Place<'a>, rows: &[CallWithPieces]) -> Result<Self, AllocError> {
         let mut calls = Calls {
             text: String::new(alloc),
             pieces: Vec::new(alloc),
         };
         calls.push(place.mode, place.before)?;
-        for row in rows.split(";\n") {
-            let (call, barred) = row.split_once(' ').unwrap_or((row, ""));
+        for (call, barred) in rows {
             calls.push(call, barred)?;
         }
         Ok(calls)
@@ -168,13 +170,13 @@ fn wrong_number(block: Block, place: Place<'_>, calls: &Calls<'_>) -> Option<usi
 }
 
 /// Refuses each piece in turn. The call that writes it must fail and close the builder, and the
-/// formatter must be as before and still work. A row has a call and its pieces. Returns the number
-/// of the first piece where that is wrong, or 0 if it is the run without a refusal.
+/// formatter must be as before and still work. Returns the number of the first piece where that is
+/// wrong, or 0 if it is the run without a refusal.
 pub fn wrong_piece(
     alloc: Global,
     block: Block,
     is_pretty: bool,
-    rows: &str,
+    rows: &[CallWithPieces],
 ) -> Result<Option<usize>, AllocError> {
     let place = if is_pretty { PRETTY } else { PLAIN };
     let calls = Calls::of(alloc, place, rows)?;

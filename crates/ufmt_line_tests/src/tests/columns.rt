@@ -3,7 +3,7 @@ ghost use Rattle.std.specs.Prelude.{codes};
 ghost use Rattle.ufmt.specs.Document.{leaf};
 ghost use Rattle.ufmt.specs.Hex.{padded};
 
-use super::asserts::{has_rows, has_wanted_rows, same};
+use super::asserts::{has_wanted_rows, same};
 use std::alloc::{AllocError, Global};
 use std::cell::Cell;
 use std::test::Fail;
@@ -51,36 +51,66 @@ fn of_each_width(
 
 // Texts in columns, as rustc prints them, with the fill `*`. `tools/expected/show --as '{:*^5}' '"a"'` prints such a one
 // again.
-const OF_EACH_WIDTH: &str = "\
-|*|**|***|****|*****|******|*******|;
-|*|**|***|****|*****|******|*******|;
-|*|**|***|****|*****|******|*******|;
-a|a|a*|a**|a***|a****|a*****|a******|;
-a|a|a*|*a*|*a**|**a**|**a***|***a***|;
-a|a|*a|**a|***a|****a|*****a|******a|;
-abcd|abcd|abcd|abcd|abcd|abcd*|abcd**|abcd***|;
-abcd|abcd|abcd|abcd|abcd|abcd*|*abcd*|*abcd**|;
-abcd|abcd|abcd|abcd|abcd|*abcd|**abcd|***abcd|;
-é€🦀|é€🦀|é€🦀|é€🦀|é€🦀*|é€🦀**|é€🦀***|é€🦀****|;
-é€🦀|é€🦀|é€🦀|é€🦀|é€🦀*|*é€🦀*|*é€🦀**|**é€🦀**|;
-é€🦀|é€🦀|é€🦀|é€🦀|*é€🦀|**é€🦀|***é€🦀|****é€🦀|;
-日本|日本|日本|日本*|日本**|日本***|日本****|日本*****|;
-日本|日本|日本|日本*|*日本*|*日本**|**日本**|**日本***|;
-日本|日本|日本|*日本|**日本|***日本|****日本|*****日本|;
-";
+const OF_EACH_WIDTH: [(&str, Align, &str); 15] = [
+    ("", Align::Left, "|*|**|***|****|*****|******|*******|"),
+    ("", Align::Center, "|*|**|***|****|*****|******|*******|"),
+    ("", Align::Right, "|*|**|***|****|*****|******|*******|"),
+    ("a", Align::Left, "a|a|a*|a**|a***|a****|a*****|a******|"),
+    ("a", Align::Center, "a|a|a*|*a*|*a**|**a**|**a***|***a***|"),
+    ("a", Align::Right, "a|a|*a|**a|***a|****a|*****a|******a|"),
+    (
+        "abcd",
+        Align::Left,
+        "abcd|abcd|abcd|abcd|abcd|abcd*|abcd**|abcd***|",
+    ),
+    (
+        "abcd",
+        Align::Center,
+        "abcd|abcd|abcd|abcd|abcd|abcd*|*abcd*|*abcd**|",
+    ),
+    (
+        "abcd",
+        Align::Right,
+        "abcd|abcd|abcd|abcd|abcd|*abcd|**abcd|***abcd|",
+    ),
+    (
+        "é€🦀",
+        Align::Left,
+        "é€🦀|é€🦀|é€🦀|é€🦀|é€🦀*|é€🦀**|é€🦀***|é€🦀****|",
+    ),
+    (
+        "é€🦀",
+        Align::Center,
+        "é€🦀|é€🦀|é€🦀|é€🦀|é€🦀*|*é€🦀*|*é€🦀**|**é€🦀**|",
+    ),
+    (
+        "é€🦀",
+        Align::Right,
+        "é€🦀|é€🦀|é€🦀|é€🦀|*é€🦀|**é€🦀|***é€🦀|****é€🦀|",
+    ),
+    ("日本", Align::Left, "日本|日本|日本|日本*|日本**|日本***|日本****|日本*****|"),
+    (
+        "日本",
+        Align::Center,
+        "日本|日本|日本|日本*|*日本*|*日本**|**日本**|**日本***|",
+    ),
+    (
+        "日本",
+        Align::Right,
+        "日本|日本|日本|*日本|**日本|***日本|****日本|*****日本|",
+    ),
+];
 
 // With another fill, that fill is in the place of `*`.
 #[test]
 fn texts_are_padded_as_in_rust(rt: HostRuntime) -> Result<(), Fail> {
     for (fill, filled) in [(' ', " "), ('*', "*"), ('é', "é"), ('🦀', "🦀")] {
         let mut table = Table::new(rt.alloc());
-        for value in ["", "a", "abcd", "é€🦀", "日本"] {
-            for align in [Align::Left, Align::Center, Align::Right] {
-                table.put_made(of_each_width(rt.alloc(), value, align, fill));
-            }
+        for (value, align, wanted) in OF_EACH_WIDTH {
+            table.put_made(of_each_width(rt.alloc(), value, align, fill));
+            table.wants(wanted.replace(rt.alloc(), "*", filled)?.as_str());
         }
-        let wanted = OF_EACH_WIDTH.replace(rt.alloc(), "*", filled)?;
-        has_rows(&rt, &table, &wanted);
+        has_wanted_rows(&rt, &table);
     }
     Ok(())
 }

@@ -1,8 +1,9 @@
 //! Tests of what `uwrite!` and `uwriteln!` pass to the writer, and of what they evaluate.
 use super::asserts::{has_wanted_rows, same};
+use std::test::Fail;
 use ufmt::{Cursor, Formatter, Full, laws, uWrite, uwrite, uwriteln};
 use ufmt_test_rows::printed::{PREFIXED, Printed};
-use ufmt_test_rows::rows::{Table, are_ok};
+use ufmt_test_rows::rows::Table;
 
 /// Pieces by each macro, and by the laws of both.
 #[derive(Clone, Copy)]
@@ -93,35 +94,42 @@ a b|7|[|\n|    |1|,\n|]|[|\n|    |2|,\n|]|\n|",
     has_wanted_rows(&rt, &table);
 }
 
-const IN_ORDER: &str = "\
-ab42[1, 2][
-    3,
-]0x00ffThe answer is 42
-0x0022
-Hello, world!The answer is 42Hello
-World
-";
-
-fn write_in_order<W: uWrite>(f: &mut Formatter<W>) -> [Result<(), W::Error>; 8] {
+// The results of calls, and what is wanted of each.
+fn write_in_order<W: uWrite>(f: &mut Formatter<W>) -> [(Result<(), W::Error>, &'static str); 8] {
     [
-        uwrite!(f, text "a",),
-        uwrite!(f, text "b", display 42i32, debug &[1u8, 2].as_slice(), pretty &[3u8].as_slice(), hex 255u8 with PREFIXED),
-        uwriteln!(f, text "The answer is ", display 42i32),
-        uwriteln!(f, hex (33u8 + 1) with PREFIXED,),
-        uwrite!(f, text "Hello, world!"),
-        uwrite!(f, text "The answer is ", display 42i32),
-        uwriteln!(f, text "Hello"),
-        uwriteln!(f, text "World"),
+        (uwrite!(f, text "a",), "a"),
+        (
+            uwrite!(f, text "b", display 42i32, debug &[1u8, 2].as_slice(), pretty &[3u8].as_slice(), hex 255u8 with PREFIXED),
+            "b42[1, 2][\n    3,\n]0x00ff",
+        ),
+        (
+            uwriteln!(f, text "The answer is ", display 42i32),
+            "The answer is 42\n",
+        ),
+        (uwriteln!(f, hex (33u8 + 1) with PREFIXED,), "0x0022\n"),
+        (uwrite!(f, text "Hello, world!"), "Hello, world!"),
+        (
+            uwrite!(f, text "The answer is ", display 42i32),
+            "The answer is 42",
+        ),
+        (uwriteln!(f, text "Hello"), "Hello\n"),
+        (uwriteln!(f, text "World"), "World\n"),
     ]
 }
 
 #[test]
-fn pieces_are_written_in_order(rt: HostRuntime) {
+fn pieces_are_written_in_order(rt: HostRuntime) -> Result<(), Fail> {
     let mut f = Formatter::new(String::new(rt.alloc()));
-    let outcomes = write_in_order(&mut f);
-    let left = (are_ok(&outcomes), f.is_pretty(), f.depth());
+    let mut are_ok = true;
+    let mut wanted = String::new(rt.alloc());
+    for (outcome, text) in write_in_order(&mut f) {
+        are_ok &= outcome.is_ok();
+        wanted.push_str(text)?;
+    }
+    let left = (are_ok, f.is_pretty(), f.depth());
     same(&rt, left, (true, false, 0), "what is left");
-    same(&rt, f.into_inner().as_str(), IN_ORDER, "in order");
+    same(&rt, f.into_inner().as_str(), &wanted, "in order");
+    Ok(())
 }
 
 // Counts a call, and returns the count.

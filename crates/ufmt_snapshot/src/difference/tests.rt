@@ -3,96 +3,164 @@ use super::*;
 use std::alloc::{AllocError, Global};
 use ufmt::write_line;
 
-// Of each pair, what a Rust function returns that compares the texts' `split('\n')`.
-const DIFFERENCES: &str = "\
-None;
-None;
-Some(Difference { line: 1, given: Some(\"x\"), stored: Some(\"a\") });
-Some(Difference { line: 2, given: Some(\"x\"), stored: Some(\"b\") });
-Some(Difference { line: 3, given: Some(\"x\"), stored: Some(\"c\") });
-Some(Difference { line: 1, given: Some(\"x\"), stored: Some(\"a\") });
-Some(Difference { line: 3, given: None, stored: Some(\"c\") });
-Some(Difference { line: 3, given: Some(\"c\"), stored: None });
-Some(Difference { line: 2, given: None, stored: Some(\"\") });
-Some(Difference { line: 2, given: Some(\"\"), stored: None });
-Some(Difference { line: 2, given: None, stored: Some(\"\") });
-Some(Difference { line: 1, given: Some(\"\"), stored: Some(\"a\") });
-Some(Difference { line: 1, given: Some(\"a\"), stored: Some(\"\") });
-Some(Difference { line: 3, given: Some(\"\"), stored: None });
-Some(Difference { line: 1, given: Some(\"ab\"), stored: Some(\"a\") });
-Some(Difference { line: 2, given: None, stored: Some(\"b\") });
-Some(Difference { line: 2, given: Some(\"β\"), stored: Some(\"γ\") });
-Some(Difference { line: 1, given: Some(\"a\\r\"), stored: Some(\"a\") });
-Some(Difference { line: 1, given: Some(\"a\\rb\"), stored: Some(\"a\\r\") });
-Some(Difference { line: 1, given: Some(\"\\r\"), stored: Some(\"\") });
-Some(Difference { line: 1, given: Some(\"a \"), stored: Some(\"a\") });
-Some(Difference { line: 2, given: Some(\"\"), stored: Some(\"b\") });
-Some(Difference { line: 1, given: Some(\"b\"), stored: Some(\"a\") });
-";
-
-fn differences(alloc: Global, pairs: &[(&str, &str)]) -> Result<String, AllocError> {
+// What the line prints.
+fn printed<L: Line>(alloc: Global, line: &L) -> Result<String, AllocError> {
     let mut text = String::new(alloc);
-    for (given, stored) in pairs {
-        let found = first_difference(given, stored);
-        write_line(&mut text, &pieces!(debug found, text ";\n"))?;
-    }
+    write_line(&mut text, line)?;
     Ok(text)
 }
+
+// Two texts, and what a Rust function returns that compares their `split('\n')`.
+const PAIRS: [(&str, &str, &str); 23] = [
+    ("", "", "None"),
+    ("a\nb\n", "a\nb\n", "None"),
+    (
+        "x\nb\nc",
+        "a\nb\nc",
+        "Some(Difference { line: 1, given: Some(\"x\"), stored: Some(\"a\") })",
+    ),
+    (
+        "a\nx\nc",
+        "a\nb\nc",
+        "Some(Difference { line: 2, given: Some(\"x\"), stored: Some(\"b\") })",
+    ),
+    (
+        "a\nb\nx",
+        "a\nb\nc",
+        "Some(Difference { line: 3, given: Some(\"x\"), stored: Some(\"c\") })",
+    ),
+    (
+        "x\ny\nz",
+        "a\nb\nc",
+        "Some(Difference { line: 1, given: Some(\"x\"), stored: Some(\"a\") })",
+    ),
+    (
+        "a\nb",
+        "a\nb\nc",
+        "Some(Difference { line: 3, given: None, stored: Some(\"c\") })",
+    ),
+    (
+        "a\nb\nc\nd",
+        "a\nb",
+        "Some(Difference { line: 3, given: Some(\"c\"), stored: None })",
+    ),
+    (
+        "a",
+        "a\n",
+        "Some(Difference { line: 2, given: None, stored: Some(\"\") })",
+    ),
+    (
+        "a\n",
+        "a",
+        "Some(Difference { line: 2, given: Some(\"\"), stored: None })",
+    ),
+    (
+        "",
+        "\n",
+        "Some(Difference { line: 2, given: None, stored: Some(\"\") })",
+    ),
+    (
+        "",
+        "a",
+        "Some(Difference { line: 1, given: Some(\"\"), stored: Some(\"a\") })",
+    ),
+    (
+        "a",
+        "",
+        "Some(Difference { line: 1, given: Some(\"a\"), stored: Some(\"\") })",
+    ),
+    (
+        "\n\n",
+        "\n",
+        "Some(Difference { line: 3, given: Some(\"\"), stored: None })",
+    ),
+    (
+        "ab",
+        "a",
+        "Some(Difference { line: 1, given: Some(\"ab\"), stored: Some(\"a\") })",
+    ),
+    (
+        "a",
+        "a\nb",
+        "Some(Difference { line: 2, given: None, stored: Some(\"b\") })",
+    ),
+    (
+        "α\nβ",
+        "α\nγ",
+        "Some(Difference { line: 2, given: Some(\"β\"), stored: Some(\"γ\") })",
+    ),
+    (
+        "a\r\nb",
+        "a\nb",
+        "Some(Difference { line: 1, given: Some(\"a\\r\"), stored: Some(\"a\") })",
+    ),
+    (
+        "a\rb",
+        "a\r",
+        "Some(Difference { line: 1, given: Some(\"a\\rb\"), stored: Some(\"a\\r\") })",
+    ),
+    (
+        "\r",
+        "\n",
+        "Some(Difference { line: 1, given: Some(\"\\r\"), stored: Some(\"\") })",
+    ),
+    (
+        "a ",
+        "a",
+        "Some(Difference { line: 1, given: Some(\"a \"), stored: Some(\"a\") })",
+    ),
+    (
+        "a\n\nb",
+        "a\nb",
+        "Some(Difference { line: 2, given: Some(\"\"), stored: Some(\"b\") })",
+    ),
+    (
+        "b\na",
+        "a\na",
+        "Some(Difference { line: 1, given: Some(\"b\"), stored: Some(\"a\") })",
+    ),
+];
 
 #[test]
 fn first_difference_finds_the_first_line_that_differs(rt: HostRuntime) {
-    let pairs = [
-        ("", ""),
-        ("a\nb\n", "a\nb\n"),
-        ("x\nb\nc", "a\nb\nc"),
-        ("a\nx\nc", "a\nb\nc"),
-        ("a\nb\nx", "a\nb\nc"),
-        ("x\ny\nz", "a\nb\nc"),
-        ("a\nb", "a\nb\nc"),
-        ("a\nb\nc\nd", "a\nb"),
-        ("a", "a\n"),
-        ("a\n", "a"),
-        ("", "\n"),
-        ("", "a"),
-        ("a", ""),
-        ("\n\n", "\n"),
-        ("ab", "a"),
-        ("a", "a\nb"),
-        ("α\nβ", "α\nγ"),
-        ("a\r\nb", "a\nb"),
-        ("a\rb", "a\r"),
-        ("\r", "\n"),
-        ("a ", "a"),
-        ("a\n\nb", "a\nb"),
-        ("b\na", "a\na"),
-    ];
-    let rows = differences(rt.alloc(), &pairs);
-    assert_eq!(rt; rows.ok().as_deref(), Some(DIFFERENCES));
+    for (given, stored, wanted) in PAIRS {
+        let found = printed(rt.alloc(), &pieces!(debug first_difference(given, stored)));
+        assert_eq!(rt;
+            found.as_deref().ok(),
+            Some(wanted),
+            "{given:?} and {stored:?}"
+        );
+    }
 }
 
-const MESSAGES: &str = "\
-line 2 differs
- given: Some(\"b \")
-stored: Some(\"b\");
-line 12 differs
- given: Some(\"\")
-stored: None;
-";
-
-fn messages(alloc: Global) -> Result<String, AllocError> {
-    let mut text = String::new(alloc);
-    for (given, stored) in [
-        ("a\nb ", "a\nb"),
-        ("\n\n\n\n\n\n\n\n\n\n\n", "\n\n\n\n\n\n\n\n\n\n"),
-    ] {
-        if let Some(found) = first_difference(given, stored) {
-            write_line(&mut text, &(found, pieces!(text ";\n")))?;
-        }
+fn message_of(alloc: Global, given: &str, stored: &str) -> Result<String, AllocError> {
+    match first_difference(given, stored) {
+        Some(found) => printed(alloc, &found),
+        None => Ok(String::new(alloc)),
     }
-    Ok(text)
 }
 
 #[test]
 fn a_difference_prints_as_a_message(rt: HostRuntime) {
-    assert_eq!(rt; messages(rt.alloc()).ok().as_deref(), Some(MESSAGES));
+    for (given, stored, wanted) in [
+        (
+            "a\nb ",
+            "a\nb",
+            "\
+line 2 differs
+ given: Some(\"b \")
+stored: Some(\"b\")",
+        ),
+        (
+            "\n\n\n\n\n\n\n\n\n\n\n",
+            "\n\n\n\n\n\n\n\n\n\n",
+            "\
+line 12 differs
+ given: Some(\"\")
+stored: None",
+        ),
+    ] {
+        let message = message_of(rt.alloc(), given, stored);
+        assert_eq!(rt; message.as_deref().ok(), Some(wanted));
+    }
 }

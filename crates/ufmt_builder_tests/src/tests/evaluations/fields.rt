@@ -70,41 +70,19 @@ fn print_apart(number: usize, f: &mut Formatter<String>, turns: &mut Turns) -> E
     }
 }
 
-// Twelve fields, which one call takes, and thirteen, which make a chain.
-fn print_many(number: usize, f: &mut Formatter<String>, turns: &mut Turns) -> Evaluated {
-    match number {
-        11 => (
-            named!(f, turns; a 1 b 2 c 3 d 4 e 5 f 6 g 7 h 8 i 9 j 10 k 11 l 12),
-            "Fabcdefghijkl=S { a: 1, b: 2, c: 3, d: 4, e: 5, f: 6, g: 7, h: 8, i: 9, j: 10, k: 11, l: 12 }",
-        ),
-        12 => (
-            named!(f, turns; a 1 b 2 c 3 d 4 e 5 f 6 g 7 h 8 i 9 j 10 k 11 l 12 m 13),
-            "Fabcdefghijklm=S { a: 1, b: 2, c: 3, d: 4, e: 5, f: 6, g: 7, h: 8, i: 9, j: 10, k: 11, l: 12, m: 13 }",
-        ),
-        13 => (
-            unnamed!(f, turns; 1 2 3 4 5 6 7 8 9 10 11 12),
-            "Fabcdefghijkl=S(1, 2, 3, 4, 5, 6, 7, 8, 9, 10, 11, 12)",
-        ),
-        _ => (
-            unnamed!(f, turns; 1 2 3 4 5 6 7 8 9 10 11 12 13),
-            "Fabcdefghijklm=S(1, 2, 3, 4, 5, 6, 7, 8, 9, 10, 11, 12, 13)",
-        ),
-    }
-}
-
 // Forms with dots: with no field, with one and with two, and a value taken apart.
 fn print_few_with_dots(number: usize, f: &mut Formatter<String>, turns: &mut Turns) -> Evaluated {
     let (a, b) = (1u8, 2u8);
     let pair = Pair { a, b };
     match number {
-        15 => (fields!(turns.formatter(f), S { .. }), "F=S { .. }"),
-        16 => (with_dots!(f, turns; a 1), "Fa=S { a: 1, .. }"),
-        17 => (with_dots!(f, turns; a 1 b 2), "Fab=S { a: 1, b: 2, .. }"),
-        18 => (
+        11 => (fields!(turns.formatter(f), S { .. }), "F=S { .. }"),
+        12 => (with_dots!(f, turns; a 1), "Fa=S { a: 1, .. }"),
+        13 => (with_dots!(f, turns; a 1 b 2), "Fab=S { a: 1, b: 2, .. }"),
+        14 => (
             fields!(turns.formatter(f), S { a, b, .. }),
             "F=S { a: 1, b: 2, .. }",
         ),
-        19 => (
+        15 => (
             fields!(turns.formatter(f), pair, Pair { .. }),
             "F=Pair { .. }",
         ),
@@ -115,18 +93,48 @@ fn print_few_with_dots(number: usize, f: &mut Formatter<String>, turns: &mut Tur
     }
 }
 
-// Twelve and thirteen fields, and dots.
-fn print_many_with_dots(number: usize, f: &mut Formatter<String>, turns: &mut Turns) -> Evaluated {
-    match number {
-        21 => (
-            with_dots!(f, turns; a 1 b 2 c 3 d 4 e 5 f 6 g 7 h 8 i 9 j 10 k 11 l 12),
-            "Fabcdefghijkl=S { a: 1, b: 2, c: 3, d: 4, e: 5, f: 6, g: 7, h: 8, i: 9, j: 10, k: 11, l: 12, .. }",
-        ),
-        _ => (
-            with_dots!(f, turns; a 1 b 2 c 3 d 4 e 5 f 6 g 7 h 8 i 9 j 10 k 11 l 12 m 13),
-            "Fabcdefghijklm=S { a: 1, b: 2, c: 3, d: 4, e: 5, f: 6, g: 7, h: 8, i: 9, j: 10, k: 11, l: 12, m: 13, .. }",
-        ),
-    }
+// Twelve fields, which one call takes.
+fn print_twelve(f: &mut Formatter<String>, turns: &mut Turns) -> Evaluated {
+    (
+        named!(f, turns; a 1 b 2 c 3 d 4 e 5 f 6 g 7 h 8 i 9 j 10 k 11 l 12),
+        "Fabcdefghijkl=S { a: 1, b: 2, c: 3, d: 4, e: 5, f: 6, g: 7, h: 8, i: 9, j: 10, k: 11, l: 12 }",
+    )
+}
+
+fn print_twelve_unnamed(f: &mut Formatter<String>, turns: &mut Turns) -> Evaluated {
+    (
+        unnamed!(f, turns; 1 2 3 4 5 6 7 8 9 10 11 12),
+        "Fabcdefghijkl=S(1, 2, 3, 4, 5, 6, 7, 8, 9, 10, 11, 12)",
+    )
+}
+
+fn print_twelve_with_dots(f: &mut Formatter<String>, turns: &mut Turns) -> Evaluated {
+    (
+        with_dots!(f, turns; a 1 b 2 c 3 d 4 e 5 f 6 g 7 h 8 i 9 j 10 k 11 l 12),
+        "Fabcdefghijkl=S { a: 1, b: 2, c: 3, d: 4, e: 5, f: 6, g: 7, h: 8, i: 9, j: 10, k: 11, l: 12, .. }",
+    )
+}
+
+// Thirteen fields, which make a chain.
+fn print_thirteen(f: &mut Formatter<String>, turns: &mut Turns) -> Evaluated {
+    (
+        named!(f, turns; a 1 b 2 c 3 d 4 e 5 f 6 g 7 h 8 i 9 j 10 k 11 l 12 m 13),
+        "Fabcdefghijklm=S { a: 1, b: 2, c: 3, d: 4, e: 5, f: 6, g: 7, h: 8, i: 9, j: 10, k: 11, l: 12, m: 13 }",
+    )
+}
+
+fn print_thirteen_unnamed(f: &mut Formatter<String>, turns: &mut Turns) -> Evaluated {
+    (
+        unnamed!(f, turns; 1 2 3 4 5 6 7 8 9 10 11 12 13),
+        "Fabcdefghijklm=S(1, 2, 3, 4, 5, 6, 7, 8, 9, 10, 11, 12, 13)",
+    )
+}
+
+fn print_thirteen_with_dots(f: &mut Formatter<String>, turns: &mut Turns) -> Evaluated {
+    (
+        with_dots!(f, turns; a 1 b 2 c 3 d 4 e 5 f 6 g 7 h 8 i 9 j 10 k 11 l 12 m 13),
+        "Fabcdefghijklm=S { a: 1, b: 2, c: 3, d: 4, e: 5, f: 6, g: 7, h: 8, i: 9, j: 10, k: 11, l: 12, m: 13, .. }",
+    )
 }
 
 // The turns, and the text that is printed.
@@ -148,9 +156,13 @@ fn put_row(table: &mut Table, number: usize) {
     let (outcome, wanted) = match number {
         0..=7 => print_few(number, &mut f, &mut turns),
         8..=10 => print_apart(number, &mut f, &mut turns),
-        11..=14 => print_many(number, &mut f, &mut turns),
-        15..=20 => print_few_with_dots(number, &mut f, &mut turns),
-        _ => print_many_with_dots(number, &mut f, &mut turns),
+        11..=16 => print_few_with_dots(number, &mut f, &mut turns),
+        17 => print_twelve(&mut f, &mut turns),
+        18 => print_twelve_unnamed(&mut f, &mut turns),
+        19 => print_twelve_with_dots(&mut f, &mut turns),
+        20 => print_thirteen(&mut f, &mut turns),
+        21 => print_thirteen_unnamed(&mut f, &mut turns),
+        _ => print_thirteen_with_dots(&mut f, &mut turns),
     };
     table.put_made(row(outcome, turns, f));
     table.wants(wanted);

@@ -5,34 +5,32 @@ use ufmt::pieces;
 use ufmt::pieces::Line;
 use ufmt_test_rows::rows::Table;
 
-// The line is made, and not written. Returns which turns are wanted.
-fn evaluates<L: Line>(_line: &L, wanted: &'static str) -> &'static str {
-    wanted
-}
+// The line is made, and not written.
+fn take<L: Line>(_line: &L) {}
 
-// Each kind of piece by itself.
+// Each kind of piece by itself, with the turns that are wanted.
 macro_rules! one_piece {
     ($number:expr, $turns:expr $(, $end:tt)?) => {
         match $number {
-            0 => evaluates(&pieces!(text $turns.text(1, "x") $($end)?), "a"),
-            1 => evaluates(&pieces!(display $turns.number(1) $($end)?), "a"),
-            2 => evaluates(&pieces!(debug $turns.number(1) $($end)?), "a"),
-            3 => evaluates(&pieces!(pretty $turns.number(1) $($end)?), "a"),
-            4 => evaluates(&pieces!(hex ($turns.number(1)) with $turns.options() $($end)?), "aO"),
-            5 => evaluates(&pieces!(each display ($turns.items(1)) between $turns.separator() $($end)?), "aS"),
-            6 => evaluates(&pieces!(each debug ($turns.items(1)) between $turns.separator() $($end)?), "aS"),
-            7 => evaluates(&pieces!(each pretty ($turns.items(1)) between $turns.separator() $($end)?), "aS"),
-            8 => evaluates(&pieces!(each hex ($turns.items(1)) with ($turns.options()) between $turns.separator() $($end)?), "aOS"),
-            9 => evaluates(&pieces!(display ($turns.number(1)) in $turns.column() $($end)?), "aC"),
-            10 => evaluates(&pieces!(hex ($turns.number(1)) with ($turns.options()) in $turns.column() $($end)?), "aOC"),
-            11 => evaluates(&pieces!(each debug ($turns.items(1)) in ($turns.column()) between $turns.separator() $($end)?), "aCS"),
-            12 => evaluates(&pieces!(each hex ($turns.items(1)) with ($turns.options()) in ($turns.column()) between $turns.separator() $($end)?), "aOCS"),
-            13 => evaluates(&pieces!(each ($turns.items(1)) by ($turns.mark()) between $turns.separator() $($end)?), "aMS"),
-            14 => evaluates(&pieces!(bin ($turns.number(1)) with $turns.options() $($end)?), "aO"),
-            15 => evaluates(&pieces!(oct ($turns.number(1)) with $turns.options() $($end)?), "aO"),
-            16 => evaluates(&pieces!(zeros ($turns.number(1)) to $turns.width() $($end)?), "aW"),
-            17 => evaluates(&pieces!(each zeros ($turns.items(1)) to ($turns.width()) between $turns.separator() $($end)?), "aWS"),
-            _ => evaluates(&pieces!(zeros ($turns.number(1)) to ($turns.width()) in $turns.column() $($end)?), "aWC"),
+            0 => { take(&pieces!(text $turns.text(1, "x") $($end)?)); "a" }
+            1 => { take(&pieces!(display $turns.number(1) $($end)?)); "a" }
+            2 => { take(&pieces!(debug $turns.number(1) $($end)?)); "a" }
+            3 => { take(&pieces!(pretty $turns.number(1) $($end)?)); "a" }
+            4 => { take(&pieces!(hex ($turns.number(1)) with $turns.options() $($end)?)); "aO" }
+            5 => { take(&pieces!(each display ($turns.items(1)) between $turns.separator() $($end)?)); "aS" }
+            6 => { take(&pieces!(each debug ($turns.items(1)) between $turns.separator() $($end)?)); "aS" }
+            7 => { take(&pieces!(each pretty ($turns.items(1)) between $turns.separator() $($end)?)); "aS" }
+            8 => { take(&pieces!(each hex ($turns.items(1)) with ($turns.options()) between $turns.separator() $($end)?)); "aOS" }
+            9 => { take(&pieces!(display ($turns.number(1)) in $turns.column() $($end)?)); "aC" }
+            10 => { take(&pieces!(hex ($turns.number(1)) with ($turns.options()) in $turns.column() $($end)?)); "aOC" }
+            11 => { take(&pieces!(each debug ($turns.items(1)) in ($turns.column()) between $turns.separator() $($end)?)); "aCS" }
+            12 => { take(&pieces!(each hex ($turns.items(1)) with ($turns.options()) in ($turns.column()) between $turns.separator() $($end)?)); "aOCS" }
+            13 => { take(&pieces!(each ($turns.items(1)) by ($turns.mark()) between $turns.separator() $($end)?)); "aMS" }
+            14 => { take(&pieces!(bin ($turns.number(1)) with $turns.options() $($end)?)); "aO" }
+            15 => { take(&pieces!(oct ($turns.number(1)) with $turns.options() $($end)?)); "aO" }
+            16 => { take(&pieces!(zeros ($turns.number(1)) to $turns.width() $($end)?)); "aW" }
+            17 => { take(&pieces!(each zeros ($turns.items(1)) to ($turns.width()) between $turns.separator() $($end)?)); "aWS" }
+            _ => { take(&pieces!(zeros ($turns.number(1)) to ($turns.width()) in $turns.column() $($end)?)); "aWC" }
         }
     };
 }
@@ -48,46 +46,66 @@ fn make_one_with_comma(number: usize, turns: &mut Turns) -> &'static str {
 // Each kind of piece as the first, in the middle and as the last.
 fn make_three(number: usize, turns: &mut Turns) -> &'static str {
     match number {
-        0 => evaluates(
-            &pieces!(text turns.text(1, "x"), pretty turns.number(2), each debug (turns.items(3)) between turns.separator()),
-            "abcS",
-        ),
-        1 => evaluates(
-            &pieces!(display turns.number(1), hex (turns.number(2)) with turns.options(), each pretty (turns.items(3)) between turns.separator()),
-            "abOcS",
-        ),
-        2 => evaluates(
-            &pieces!(debug turns.number(1), each display (turns.items(2)) between turns.separator(), each hex (turns.items(3)) with (turns.options()) between turns.separator()),
-            "abScOS",
-        ),
-        3 => evaluates(
-            &pieces!(pretty turns.number(1), each debug (turns.items(2)) between turns.separator(), each (turns.items(3)) by (turns.mark()) between turns.separator()),
-            "abScMS",
-        ),
-        4 => evaluates(
-            &pieces!(hex (turns.number(1)) with turns.options(), each pretty (turns.items(2)) between turns.separator(), text turns.text(3, "x")),
-            "aObSc",
-        ),
-        5 => evaluates(
-            &pieces!(each display (turns.items(1)) between turns.separator(), each hex (turns.items(2)) with (turns.options()) between turns.separator(), display turns.number(3)),
-            "aSbOSc",
-        ),
-        6 => evaluates(
-            &pieces!(each debug (turns.items(1)) between turns.separator(), each (turns.items(2)) by (turns.mark()) between turns.separator(), debug turns.number(3)),
-            "aSbMSc",
-        ),
-        7 => evaluates(
-            &pieces!(each pretty (turns.items(1)) between turns.separator(), text turns.text(2, "x"), pretty turns.number(3)),
-            "aSbc",
-        ),
-        8 => evaluates(
-            &pieces!(each hex (turns.items(1)) with (turns.options()) between turns.separator(), display turns.number(2), hex (turns.number(3)) with turns.options()),
-            "aOSbcO",
-        ),
-        _ => evaluates(
-            &pieces!(each (turns.items(1)) by (turns.mark()) between turns.separator(), debug turns.number(2), each display (turns.items(3)) between turns.separator()),
-            "aMSbcS",
-        ),
+        0 => {
+            take(
+                &pieces!(text turns.text(1, "x"), pretty turns.number(2), each debug (turns.items(3)) between turns.separator()),
+            );
+            "abcS"
+        }
+        1 => {
+            take(
+                &pieces!(display turns.number(1), hex (turns.number(2)) with turns.options(), each pretty (turns.items(3)) between turns.separator()),
+            );
+            "abOcS"
+        }
+        2 => {
+            take(
+                &pieces!(debug turns.number(1), each display (turns.items(2)) between turns.separator(), each hex (turns.items(3)) with (turns.options()) between turns.separator()),
+            );
+            "abScOS"
+        }
+        3 => {
+            take(
+                &pieces!(pretty turns.number(1), each debug (turns.items(2)) between turns.separator(), each (turns.items(3)) by (turns.mark()) between turns.separator()),
+            );
+            "abScMS"
+        }
+        4 => {
+            take(
+                &pieces!(hex (turns.number(1)) with turns.options(), each pretty (turns.items(2)) between turns.separator(), text turns.text(3, "x")),
+            );
+            "aObSc"
+        }
+        5 => {
+            take(
+                &pieces!(each display (turns.items(1)) between turns.separator(), each hex (turns.items(2)) with (turns.options()) between turns.separator(), display turns.number(3)),
+            );
+            "aSbOSc"
+        }
+        6 => {
+            take(
+                &pieces!(each debug (turns.items(1)) between turns.separator(), each (turns.items(2)) by (turns.mark()) between turns.separator(), debug turns.number(3)),
+            );
+            "aSbMSc"
+        }
+        7 => {
+            take(
+                &pieces!(each pretty (turns.items(1)) between turns.separator(), text turns.text(2, "x"), pretty turns.number(3)),
+            );
+            "aSbc"
+        }
+        8 => {
+            take(
+                &pieces!(each hex (turns.items(1)) with (turns.options()) between turns.separator(), display turns.number(2), hex (turns.number(3)) with turns.options()),
+            );
+            "aOSbcO"
+        }
+        _ => {
+            take(
+                &pieces!(each (turns.items(1)) by (turns.mark()) between turns.separator(), debug turns.number(2), each display (turns.items(3)) between turns.separator()),
+            );
+            "aMSbcS"
+        }
     }
 }
 

@@ -32,18 +32,60 @@ const TEXTS: [(&str, &str); 20] = [
     ("\"\\u{7f}\"", "\"\\u{7f}\""),
 ];
 
-// Inputs that are no plain text, and those that are no pretty text, with a bar between each two. They are empty, cut
-// off, of the other mode, or with a space, comma or line feed too many or too few.
-const NOT_PLAIN: &str =
-    "|\n|[1,2]|S { }|n(1,)|(1)|{a: b, c}|[1, ]|[1|a b|[]\n\n|[\n1]|[\n    1,\n]";
+// Inputs that are no plain text, and those that are no pretty text. They are empty, cut off, of the other mode, or with
+// a space, comma or line feed too many or too few.
+const NOT_PLAIN: [&str; 13] = [
+    "",
+    "\n",
+    "[1,2]",
+    "S { }",
+    "n(1,)",
+    "(1)",
+    "{a: b, c}",
+    "[1, ]",
+    "[1",
+    "a b",
+    "[]\n\n",
+    "[\n1]",
+    "[\n    1,\n]",
+];
 
-const NOT_PRETTY: &str =
-    "|\n|[\n   1,\n]|[\n\t1,\n]|[\n    1\n]|[\n    1,\n]\n\n|[\n    [\n        1,\n],\n]|[\n1]|[1]";
+const NOT_PRETTY: [&str; 9] = [
+    "",
+    "\n",
+    "[\n   1,\n]",
+    "[\n\t1,\n]",
+    "[\n    1\n]",
+    "[\n    1,\n]\n\n",
+    "[\n    [\n        1,\n],\n]",
+    "[\n1]",
+    "[1]",
+];
 
 // Inputs that are no text of either mode: without quotes, in wrong quotes, or with quotes around a name.
-const MISQUOTED: &str =
-    "'''|\"\"\"|\"a|'ab'|''|\"\\x\"|\"\\u{41}\"|\"\\u{1B}\"|\"\\u{07f}\"|\"\\u{7F}\"|\"\\u{a}\"|'\\\"'|\"\\'\"\
-    |S { \"a\": b }|S {\n    \"a\": b,\n}|\"S\"(x)|é|\"\t\"|\"\n\"|\"\x7f\"";
+const MISQUOTED: [&[u8]; 21] = [
+    b"'''",
+    b"\"\"\"",
+    b"\"a",
+    b"'ab'",
+    b"''",
+    b"\"\\x\"",
+    b"\"\\u{41}\"",
+    b"\"\\u{1B}\"",
+    b"\"\\u{07f}\"",
+    b"\"\\u{7F}\"",
+    b"\"\\u{a}\"",
+    b"'\\\"'",
+    b"\"\\'\"",
+    b"S { \"a\": b }",
+    b"S {\n    \"a\": b,\n}",
+    b"\"S\"(x)",
+    b"\xc3\xa9",
+    b"\"\t\"",
+    b"\"\n\"",
+    b"\"\x7f\"",
+    b"\"\xff\"",
+];
 
 // Whether runs have this outcome and write exactly this: by one byte a call, by two and by all, as the input is and
 // with a line feed after one that has none at its end.
@@ -98,16 +140,15 @@ fn are_refused(alloc: Global, command: Command, input: &[u8]) -> Result<bool, Al
 
 #[test]
 fn other_inputs_are_refused(rt: HostRuntime) {
-    for input in NOT_PLAIN.split('|') {
+    for input in NOT_PLAIN {
         let given = are_refused(rt.alloc(), Command::Pretty, input.as_bytes());
         same(&rt, given, Ok(true), input);
     }
-    for input in NOT_PRETTY.split('|') {
+    for input in NOT_PRETTY {
         let given = are_refused(rt.alloc(), Command::Plain, input.as_bytes());
         same(&rt, given, Ok(true), input);
     }
-    let misquoted = MISQUOTED.split('|').map(|input| input.as_bytes());
-    for input in misquoted.chain([b"\"\xff\"".as_slice()]) {
+    for input in MISQUOTED {
         for command in [Command::Pretty, Command::Plain] {
             let given = are_refused(rt.alloc(), command, input);
             same(&rt, (input, given), (input, Ok(true)), "in wrong quotes");
