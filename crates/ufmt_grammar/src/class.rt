@@ -8,7 +8,7 @@ pub enum Class {
     /// and characters in quotes, each as `uDebug` prints it.
     Token,
     /// What `{:?}` of most types prints. Words have any bytes but spaces, quotes, brackets, commas and
-    /// controls, and have colons inside; leaves may have texts in quotes anywhere. A struct may end in
-    /// `..`.
+    /// controls; a colon before a space and a value ends a key. Leaves are words, texts in quotes and
+    /// `()` in a row; names are words that don't end in a colon. A struct may end in `..`.
     Debug,
 }

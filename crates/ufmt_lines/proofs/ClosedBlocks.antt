@@ -1,11 +1,16 @@
 -- The opening bracket that the last byte closes is that of the block, if the text is one of a debug document with a block.
-use Rattle.std.proofs.Common.{◌≡◌, ◌∙◌, ◌⊎◌, inl, inr, refl, ap, sym, subst, ℕ, zero, suc, ◌+◌, ◌≤◌, ◌==◌, ◌||◌, ◌&&◌, Bool, true, false, cond, List, [], ◌∷◌, ◌++◌, codes, append_assoc, append-nil, Some, None, eqb-true, nat_le, zero-add, arith}
+use Rattle.std.proofs.Common.{◌≡◌, ◌∙◌, ◌⊎◌, inl, inr, refl, ap, sym, subst, ℕ, zero, suc, ◌+◌, ◌≤◌, ◌==◌, ◌||◌, ◌&&◌, not, Bool, true, false, cond, List, [], ◌∷◌, ◌++◌, codes, append_assoc, append-nil, Some, None, eqb-true, nat_le, zero-add, arith}
 use Rattle.std.proofs.lemmas.Bool.Decides.{nat_tests}
 use Rattle.std.specs.Prelude.{⊤}
 use Rattle.ufmt_grammar.proofs.DottedStructs.{rest_text, rest_text-false, dotted_layout}
 use Rattle.ufmt.specs.Document.{Document, leaf, joined, list_of, set_of, map_of, struct_of, non_exhaustive_of, tuple_of, pretty_part, Documents, no_documents, first_document, Pairs, no_pairs, first_pair, Fields, no_fields, first_field}
 use Rattle.ufmt.specs.Layout.{Frame, frame, brace_space, indentation, inside, line_start, lead, later_lead, lone_comma, new_line, next, ending, trail, layout, block_tail, texts, pair_texts, field_texts}
-use Rattle.ufmt.specs.Leaves.{Place, outside, between, after_backslash, EndsLeaf, IsDebugText, IsDebugWord, has_quote, is_control, is_debug_byte, is_opening, is_quote, leads_on}
+use Rattle.ufmt.specs.Leaves.{EndsLeaf, IsDebugLeaf, IsDebugWord, begins_with, begins_quote, has_name_bytes, is_control, is_debug_byte, is_in_word, is_opening, is_quote, is_spaced, place_outside}
+use Rattle.ufmt.specs.Leaves.{Place as LeafPlace, outside as leaf_outside, after_quotes as leaf_after_quotes, in_parentheses as leaf_in_parentheses, between as leaf_between, after_backslash as leaf_after_backslash}
+use Rattle.ufmt_grammar.proofs.ClassLeaves.{Begins, Begins-append, begins_no}
+use Rattle.ufmt_grammar.proofs.DebugLeaves.{OutsideStep, outside_step}
+use Rattle.ufmt_grammar.proofs.FramesClose.{begins_after}
+use Rattle.ufmt_grammar.proofs.TextsBegin.{document_begins}
 use Rattle.ufmt.specs.Reading.{dots_text, last_dots}
 use Rattle.ufmt_grammar.specs.declared.class.Class.TheVariants.{Debug}
 use Rattle.ufmt.specs.Token.{IsBuilt, AreBuilt, PairsAreBuilt, FieldsAreBuilt}
@@ -16,7 +21,7 @@ use Rattle.ufmt_core.specs.declared.layout.Kind.TheVariants.{Brackets, Braces, S
 use Rattle.ufmt_core.specs.declared.layout.Mode.{Mode}
 use Rattle.ufmt_core.specs.declared.layout.Mode.TheVariants.{Plain, Pretty}
 use Rattle.ufmt_core.specs.declared.layout.Setting.{Setting}
-use Rattle.ufmt_lines.specs.Private.Brackets.{pending, at_closing, at_opening, at_plain, closing, gaps, is_closing}
+use Rattle.ufmt_lines.specs.Private.Brackets.{outside, between, after_backslash, Place, Closing, pending, at_closing, at_opening, at_plain, closing, gaps, is_closing}
 use Rattle.ufmt_lines.specs.Readable.{may_begin_after}
 
 -- ---- bytes
@@ -39,55 +44,93 @@ debug_byte c h = record {
 colon_byte : (c : ℕ) → (c == 58) ≡ true → IsWordByte c
 colon_byte c h = let is = eqb-true c 58 h in rw is (record { no_quote = refl; no_opening = refl; no_closing = refl; no_gap = refl })
 
-either : (a b on : Bool) → (a || b && on) ≡ true → (a ≡ true) ⊎ (b ≡ true)
-either true b on h = inl refl
-either false true on h = inr refl
-either false false on h = absurd (cc)
+-- a byte of a word, before this rest of the text
+pub word_byte : (c : ℕ) (t : List ℕ) → is_in_word c t ≡ true → IsWordByte c
+word_byte c t h = go (c == 58) (is_debug_byte c) refl refl h
+  where
+    go : (colon word : Bool) → (c == 58) ≡ colon → is_debug_byte c ≡ word → cond colon (not (is_spaced t)) (word && not (c == 92 && begins_quote t)) ≡ true → IsWordByte c
+    go true word e f k = colon_byte c e
+    go false true e f k = debug_byte c f
+    go false false e f k = absurd (cc)
 
-pub word_byte : (c : ℕ) (t : List ℕ) → (is_debug_byte c || c == 58 && leads_on t) ≡ true → IsWordByte c
-word_byte c t h = elim (either (is_debug_byte c) (c == 58) (leads_on t) h) [ inl is ↦ debug_byte c is | inr is ↦ colon_byte c is ]
+-- a byte of a name
+name_byte : (c : ℕ) → is_debug_byte c || c == 58 ≡ true → IsWordByte c
+name_byte c h = go (is_debug_byte c) (c == 58) refl refl h
+  where
+    go : (word colon : Bool) → is_debug_byte c ≡ word → (c == 58) ≡ colon → word || colon ≡ true → IsWordByte c
+    go true colon e f k = debug_byte c e
+    go false true e f k = colon_byte c f
+    go false false e f k = absurd (cc)
 
 at_word_byte : (c : ℕ) (t : List ℕ) → IsWordByte c → closing outside (c ∷ t) ≡ at_plain (closing outside t)
 at_word_byte c t h = rw (h.no_quote, h.no_opening, h.no_closing) refl
 
 -- ---- leaves
 
+-- the quotes that a place in a leaf is between
+abbrev pub quotes_of : LeafPlace → Place
+quotes_of leaf_outside = outside
+quotes_of leaf_after_quotes = outside
+quotes_of leaf_in_parentheses = outside
+quotes_of (leaf_between quote) = between quote
+quotes_of (leaf_after_backslash quote) = after_backslash quote
+
+-- between the parentheses of `()` one bracket more is closed
+abbrev pub known_at : LeafPlace → ℕ → Closing
+known_at leaf_outside n = pending n
+known_at leaf_after_quotes n = pending n
+known_at leaf_in_parentheses n = pending (suc n)
+known_at (leaf_between quote) n = pending n
+known_at (leaf_after_backslash quote) n = pending n
+
+-- a byte outside of quotes leaves what is known
+outside_through : (c : ℕ) (w t : List ℕ) (n : ℕ) (next : LeafPlace) → place_outside c w ≡ Some next → closing (quotes_of next) (w ++ t) ≡ known_at next n
+    → closing outside (c ∷ (w ++ t)) ≡ pending n
+outside_through c w t n next h known = go (outside_step c w next h)
+  where
+    go : OutsideStep c w next → closing outside (c ∷ (w ++ t)) ≡ pending n
+    go (inl step) = at_word_byte c (w ++ t) (word_byte c w step.0) ∙ ap at_plain (subst (λ p. closing (quotes_of p) (w ++ t) ≡ known_at p n) step.1 known)
+    go (inr (inl step)) = rw step.0 (subst (λ p. closing (quotes_of p) (w ++ t) ≡ known_at p n) step.1 known)
+    go (inr (inr step)) = rw step.0 (ap at_opening (subst (λ p. closing (quotes_of p) (w ++ t) ≡ known_at p n) step.2 known))
+
 -- what is known after a leaf is what was known before it
-pub leaf_through : (place : Place) (w t : List ℕ) (n : ℕ) → EndsLeaf place w → closing outside t ≡ pending n → closing place (w ++ t) ≡ pending n
-leaf_through place [] t n h known = rw h known
-leaf_through outside (c ∷ w) t n h known = go (is_debug_byte c || c == 58 && leads_on w) (is_quote c) refl refl h.1 (leaf_through h.0 w t n h.2 known)
+pub leaf_through : (place : LeafPlace) (w t : List ℕ) (n : ℕ) → EndsLeaf place w → closing outside t ≡ pending n → closing (quotes_of place) (w ++ t) ≡ known_at place n
+leaf_through leaf_outside [] t n h known = known
+leaf_through leaf_after_quotes [] t n h known = known
+leaf_through leaf_in_parentheses [] t n h known = absurd (cc)
+leaf_through (leaf_between quote) [] t n h known = absurd (cc)
+leaf_through (leaf_after_backslash quote) [] t n h known = absurd (cc)
+leaf_through leaf_outside (c ∷ w) t n h known = outside_through c w t n h.0 h.1 (leaf_through h.0 w t n h.2 known)
+leaf_through leaf_after_quotes (c ∷ w) t n h known = go (c == 58) h.1 (leaf_through h.0 w t n h.2 known)
   where
-    go : (word quote : Bool) → (is_debug_byte c || c == 58 && leads_on w) ≡ word → is_quote c ≡ quote
-        → cond word (Some outside) (cond quote (Some (between c)) None) ≡ Some h.0 → closing h.0 (w ++ t) ≡ pending n → closing outside (c ∷ (w ++ t)) ≡ pending n
-    go true quote word_is quote_is e more =
-        let same : h.0 ≡ outside = cc in
-        at_word_byte c (w ++ t) (word_byte c w word_is) ∙ ap at_plain (rw same at more)
-    go false true word_is quote_is e more =
-        let same : h.0 ≡ between c = cc in
-        rw quote_is (rw same at more)
-    go false false word_is quote_is e more = absurd (cc)
-leaf_through (between quote) (c ∷ w) t n h known = go (is_control c) (c == quote) (c == 92) refl refl h.1 (leaf_through h.0 w t n h.2 known)
-  where
-    go : (control closes escapes : Bool) → (c == quote) ≡ closes → (c == 92) ≡ escapes
-        → cond control None (cond closes (Some outside) (cond escapes (Some (after_backslash quote)) (Some (between quote)))) ≡ Some h.0
-        → closing h.0 (w ++ t) ≡ pending n → closing (between quote) (c ∷ (w ++ t)) ≡ pending n
-    go true closes escapes closes_is escapes_is e more = absurd (cc)
-    go false true escapes closes_is escapes_is e more =
-        let same : h.0 ≡ outside = cc in
-        rw closes_is (ap at_plain (rw same at more))
-    go false false true closes_is escapes_is e more =
-        let same : h.0 ≡ after_backslash quote = cc in
-        rw (closes_is, escapes_is) (rw same at more)
-    go false false false closes_is escapes_is e more =
-        let same : h.0 ≡ between quote = cc in
-        rw (closes_is, escapes_is) (rw same at more)
-leaf_through (after_backslash quote) (c ∷ w) t n h known = go (is_control c || nat_le 128 c) h.1 (leaf_through h.0 w t n h.2 known)
-  where
-    go : (wrong : Bool) → cond wrong None (Some (between quote)) ≡ Some h.0 → closing h.0 (w ++ t) ≡ pending n → closing (between quote) (w ++ t) ≡ pending n
+    go : (colon : Bool) → cond colon None (place_outside c w) ≡ Some h.0 → closing (quotes_of h.0) (w ++ t) ≡ known_at h.0 n → closing outside (c ∷ (w ++ t)) ≡ pending n
     go true e more = absurd (cc)
-    go false e more =
-        let same : h.0 ≡ between quote = cc in
-        rw same at more
+    go false e more = outside_through c w t n h.0 e more
+leaf_through leaf_in_parentheses (c ∷ w) t n h known = go (c == 41) refl h.1 (leaf_through h.0 w t n h.2 known)
+  where
+    go : (closes : Bool) → (c == 41) ≡ closes → cond closes (Some leaf_outside) None ≡ Some h.0 → closing (quotes_of h.0) (w ++ t) ≡ known_at h.0 n → closing outside (c ∷ (w ++ t)) ≡ pending (suc n)
+    go true is e more =
+        let same : h.0 ≡ leaf_outside = cc in
+        let known_here : closing outside (w ++ t) ≡ pending n = subst (λ p. closing (quotes_of p) (w ++ t) ≡ known_at p n) same more in
+        rw (eqb-true c 41 is) (ap at_closing known_here)
+    go false is e more = absurd (cc)
+leaf_through (leaf_between quote) (c ∷ w) t n h known = go (is_control c) (c == quote) (c == 92) refl refl h.1 (leaf_through h.0 w t n h.2 known)
+  where
+    at : (next : LeafPlace) → h.0 ≡ next → closing (quotes_of h.0) (w ++ t) ≡ known_at h.0 n → closing (quotes_of next) (w ++ t) ≡ known_at next n
+    at next same more = subst (λ p. closing (quotes_of p) (w ++ t) ≡ known_at p n) same more
+
+    go : (control closes escapes : Bool) → (c == quote) ≡ closes → (c == 92) ≡ escapes
+        → cond control None (cond closes (Some leaf_after_quotes) (cond escapes (Some (leaf_after_backslash quote)) (Some (leaf_between quote)))) ≡ Some h.0
+        → closing (quotes_of h.0) (w ++ t) ≡ known_at h.0 n → closing (between quote) (c ∷ (w ++ t)) ≡ pending n
+    go true closes escapes closes_is escapes_is e more = absurd (cc)
+    go false true escapes closes_is escapes_is e more = let same : h.0 ≡ leaf_after_quotes = cc in rw closes_is (ap at_plain (at leaf_after_quotes same more))
+    go false false true closes_is escapes_is e more = let same : h.0 ≡ leaf_after_backslash quote = cc in rw (closes_is, escapes_is) (at (leaf_after_backslash quote) same more)
+    go false false false closes_is escapes_is e more = let same : h.0 ≡ leaf_between quote = cc in rw (closes_is, escapes_is) (at (leaf_between quote) same more)
+leaf_through (leaf_after_backslash quote) (c ∷ w) t n h known = go (is_control c || nat_le 128 c) h.1 (leaf_through h.0 w t n h.2 known)
+  where
+    go : (wrong : Bool) → cond wrong None (Some (leaf_between quote)) ≡ Some h.0 → closing (quotes_of h.0) (w ++ t) ≡ known_at h.0 n → closing (between quote) (w ++ t) ≡ pending n
+    go true e more = absurd (cc)
+    go false e more = let same : h.0 ≡ leaf_between quote = cc in subst (λ p. closing (quotes_of p) (w ++ t) ≡ known_at p n) same more
 
 -- a text after which the same is known as before it
 abbrev pub Through : List ℕ → Type 0
@@ -106,8 +149,8 @@ then_closes a b first second n t h = rw (append_assoc a b t) (first n (b ++ t) (
 no_text : Through []
 no_text n t h = h
 
-text_through : (w : List ℕ) → IsDebugText w → Through w
-text_through w h n t known = leaf_through outside w t n h.pieces known
+text_through : (w : List ℕ) → IsDebugLeaf w → Through w
+text_through w h n t known = leaf_through leaf_outside w t n h.pieces known
 
 -- ---- what is around entries
 
@@ -228,18 +271,13 @@ gaps-append (c ∷ a) b = go (may_begin_after c) (gaps-append a b)
     go true more = omega (arith, more)
     go false more = more
 
-word_gaps : (w : List ℕ) → EndsLeaf outside w → has_quote w ≡ false → gaps w ≡ 0
-word_gaps [] h unquoted = refl
-word_gaps (c ∷ w) h unquoted = go (is_debug_byte c || c == 58 && leads_on w) (is_quote c) refl refl h.1 (λ inside others. word_gaps w (subst (λ place. EndsLeaf place w) inside h.2) others)
+name_gaps : (w : List ℕ) → has_name_bytes w ≡ true → gaps w ≡ 0
+name_gaps [] h = refl
+name_gaps (c ∷ w) h = go (is_debug_byte c || c == 58) refl h (λ named. name_gaps w named)
   where
-    go : (word quote : Bool) → (is_debug_byte c || c == 58 && leads_on w) ≡ word → is_quote c ≡ quote
-        → cond word (Some outside) (cond quote (Some (between c)) None) ≡ Some h.0 → (h.0 ≡ outside → has_quote w ≡ false → gaps w ≡ 0) → gaps (c ∷ w) ≡ 0
-    go word true word_is quote_is e more = let absent : (true || has_quote w) ≡ false = rw quote_is at unquoted in absurd (cc)
-    go true false word_is quote_is e more =
-        let same : h.0 ≡ outside = cc in
-        let others : has_quote w ≡ false = rw quote_is at unquoted in
-        rw (word_byte c w word_is).no_gap (more same others)
-    go false false word_is quote_is e more = absurd (cc)
+    go : (named : Bool) → (is_debug_byte c || c == 58) ≡ named → named && has_name_bytes w ≡ true → (has_name_bytes w ≡ true → gaps w ≡ 0) → gaps (c ∷ w) ≡ 0
+    go true e k more = rw (name_byte c e).no_gap (more k)
+    go false e k more = absurd (cc)
 
 -- ---- documents
 
@@ -253,6 +291,7 @@ pub record HasBlock (text : List ℕ) : Type 0 where
   pub one_gap : gaps front ≤ 1
   pub opens : is_opening bracket ≡ true
   pub closes : Closes body
+  pub no_unit : (bracket == 40) ≡ true → begins_with 41 body ≡ false
 
 opening_no_quote : (c : ℕ) → is_opening c ≡ true → is_quote c ≡ false
 opening_no_quote c h = grind (arith, nat_tests)
@@ -266,19 +305,20 @@ block_through text h n t known =
     ap (λ w. closing outside (w ++ t)) h.is ∙ ap (closing outside) (append_assoc h.front (h.bracket ∷ h.body) t)
     ∙ h.through n (h.bracket ∷ (h.body ++ t)) (at_opening_byte h.bracket (h.body ++ t) h.opens ∙ ap at_opening inner)
 
-bare_block : (bracket : ℕ) (body : List ℕ) → is_opening bracket ≡ true → Closes body → HasBlock (bracket ∷ body)
-bare_block bracket body opens closes = record { front = []; bracket = bracket; body = body; is = refl; through = no_text; one_gap = omega arith; opens = opens; closes = closes }
+bare_block : (bracket : ℕ) (body : List ℕ) → is_opening bracket ≡ true → Closes body → ((bracket == 40) ≡ true → begins_with 41 body ≡ false) → HasBlock (bracket ∷ body)
+bare_block bracket body opens closes no_unit = record { front = []; bracket = bracket; body = body; is = refl; through = no_text; one_gap = omega arith; opens = opens; closes = closes; no_unit = no_unit }
 
-named_block : (name body : List ℕ) → IsDebugWord name → Closes body → HasBlock (name ++ 40 ∷ body)
-named_block name body h closes = record {
+named_block : (name body : List ℕ) → IsDebugWord name → Closes body → Begins body → HasBlock (name ++ 40 ∷ body)
+named_block name body h closes begins = record {
   front = name;
   bracket = 40;
   body = body;
   is = refl;
   through = text_through name h.whole;
-  one_gap = let none = word_gaps name h.whole.pieces h.no_quotes in omega (arith, none);
+  one_gap = let none = name_gaps name h.bytes in omega (arith, none);
   opens = refl;
   closes = closes;
+  no_unit = λ opens. begins_no begins 41 refl;
 }
 
 spaced_block : (name body : List ℕ) → IsDebugWord name → Closes body → HasBlock (name ++ 32 ∷ 123 ∷ body)
@@ -289,22 +329,27 @@ spaced_block name body h closes = record {
   is = sym (append_assoc name (32 ∷ []) (123 ∷ body));
   through = then_through name (32 ∷ []) (text_through name h.whole) (λ n t known. ap at_plain known);
   one_gap =
-      let none = word_gaps name h.whole.pieces h.no_quotes in
+      let none = name_gaps name h.bytes in
       let all : gaps (name ++ 32 ∷ []) ≡ gaps name + 1 = gaps-append name (32 ∷ []) in
       omega (arith, none, all);
   opens = refl;
   closes = closes;
+  no_unit = λ opens. absurd (cc);
 }
+
+-- what comes after an opening bracket, with a first entry, begins with no closing one
+entries_begin : (s : Setting) {text : List ℕ} → Begins text → (t : List ℕ) → Begins (new_line (inside s).mode (inside s).depth ++ (text ++ t))
+entries_begin s begins t = begins_after (inside s).mode (inside s).depth (Begins-append begins t)
 
 -- a text at one setting: it is the same at another and a leaf's, or it has a block
 abbrev pub IsLeafOrBlock : (Setting → List ℕ) → Setting → Setting → Type 0
-IsLeafOrBlock text s other = ((text other ≡ text s) × IsDebugText (text s)) ⊎ HasBlock (text s)
+IsLeafOrBlock text s other = ((text other ≡ text s) × IsDebugLeaf (text s)) ⊎ HasBlock (text s)
 
 shape_through : (text : Setting → List ℕ) (s other : Setting) → IsLeafOrBlock text s other → Through (text s)
 shape_through text s other (inl h) = text_through (text s) h.1
 shape_through text s other (inr h) = block_through (text s) h
 
-name_shape : (name : List ℕ) → IsDebugWord name → IsDebugText (name ++ [])
+name_shape : (name : List ℕ) → IsDebugWord name → IsDebugLeaf (name ++ [])
 name_shape name h = rw (append-nil name) h.whole
 
 only_dots_close : Closes (codes " .. }")
@@ -325,20 +370,19 @@ module _ (other : Setting) where
   mutual
     -- a debug document is a leaf, or a name alone, or has a block
     pub document_shape : (s : Setting) (d : Document) → IsBuilt Debug d → IsLeafOrBlock (λ r. layout r d) s other
-    document_shape s (leaf text) (inl h) = inl (refl, h)
-    document_shape s (leaf text) (inr e) = inr (rw e (bare_block 40 (codes ")") refl parenthesis_closes))
+    document_shape s (leaf text) h = inl (refl, h)
     document_shape s (joined ds) h = absurd h
-    document_shape s (list_of no_documents) h = inr (bare_block 91 (codes "]") refl bracket_closes)
+    document_shape s (list_of no_documents) h = inr (bare_block 91 (codes "]") refl bracket_closes (λ e. absurd (cc)))
     document_shape s (list_of (first_document d ds)) h = inr (bare_block 91 _ refl
-        (entries_close s (layout (inside s) d) _ (shape_through (λ r. layout r d) (inside s) other (document_shape (inside s) d h.0)) (tail_closes Brackets s (texts (inside s) ds) (documents_through (inside s) ds h.1))))
-    document_shape s (set_of no_documents) h = inr (bare_block 123 (codes "}") refl brace_closes)
+        (entries_close s (layout (inside s) d) _ (shape_through (λ r. layout r d) (inside s) other (document_shape (inside s) d h.0)) (tail_closes Brackets s (texts (inside s) ds) (documents_through (inside s) ds h.1))) (λ e. absurd (cc)))
+    document_shape s (set_of no_documents) h = inr (bare_block 123 (codes "}") refl brace_closes (λ e. absurd (cc)))
     document_shape s (set_of (first_document d ds)) h = inr (bare_block 123 _ refl
-        (entries_close s (layout (inside s) d) _ (shape_through (λ r. layout r d) (inside s) other (document_shape (inside s) d h.0)) (tail_closes Braces s (texts (inside s) ds) (documents_through (inside s) ds h.1))))
-    document_shape s (map_of no_pairs) h = inr (bare_block 123 (codes "}") refl brace_closes)
+        (entries_close s (layout (inside s) d) _ (shape_through (λ r. layout r d) (inside s) other (document_shape (inside s) d h.0)) (tail_closes Braces s (texts (inside s) ds) (documents_through (inside s) ds h.1))) (λ e. absurd (cc)))
+    document_shape s (map_of no_pairs) h = inr (bare_block 123 (codes "}") refl brace_closes (λ e. absurd (cc)))
     document_shape s (map_of (first_pair key value ps)) h = inr (bare_block 123 _ refl
         (entries_close s (layout (inside s) key ++ (codes ": " ++ layout (inside s) value)) _ (keyed_through (layout (inside s) key) (layout (inside s) value) (shape_through (λ r. layout r key) (inside s) other (document_shape (inside s) key h.0))
         (shape_through (λ r. layout r value) (inside s) other (document_shape (inside s) value h.1)))
-        (tail_closes Braces s (pair_texts (inside s) ps) (pairs_through (inside s) ps h.2))))
+        (tail_closes Braces s (pair_texts (inside s) ps) (pairs_through (inside s) ps h.2))) (λ e. absurd (cc)))
     document_shape s (struct_of name no_fields) h = inl (refl, name_shape name h.0)
     document_shape s (struct_of name (first_field field_name value fs)) h = inr (spaced_block name _ h.0
         (struct_closes_from s (field_name ++ (codes ": " ++ layout (inside s) value)) _ (keyed_through field_name (layout (inside s) value) (text_through field_name (h.1.0).whole) (shape_through (λ r. layout r value) (inside s) other (document_shape (inside s) value h.1.1)))
@@ -350,9 +394,11 @@ module _ (other : Setting) where
     document_shape s (tuple_of [] no_documents) h = absurd (h.whole.some refl)
     document_shape s (tuple_of (c ∷ name) no_documents) h = inl (refl, name_shape (c ∷ name) h)
     document_shape s (tuple_of [] (first_document d ds)) h = inr (bare_block 40 _ refl
-        (entries_close s (layout (inside s) d) _ (shape_through (λ r. layout r d) (inside s) other (document_shape (inside s) d h.1)) (tail_closes Unnamed s (texts (inside s) ds) (documents_through (inside s) ds h.2))))
+        (entries_close s (layout (inside s) d) _ (shape_through (λ r. layout r d) (inside s) other (document_shape (inside s) d h.1)) (tail_closes Unnamed s (texts (inside s) ds) (documents_through (inside s) ds h.2)))
+        (λ e. begins_no (entries_begin s (document_begins Debug (inside s) d h.1) _) 41 refl))
     document_shape s (tuple_of (c ∷ name) (first_document d ds)) h = inr (named_block (c ∷ name) _ h.0
-        (entries_close s (layout (inside s) d) _ (shape_through (λ r. layout r d) (inside s) other (document_shape (inside s) d h.1)) (tail_closes Tuple s (texts (inside s) ds) (documents_through (inside s) ds h.2))))
+        (entries_close s (layout (inside s) d) _ (shape_through (λ r. layout r d) (inside s) other (document_shape (inside s) d h.1)) (tail_closes Tuple s (texts (inside s) ds) (documents_through (inside s) ds h.2)))
+        (entries_begin s (document_begins Debug (inside s) d h.1) _))
     document_shape s (pretty_part d) h = absurd h
 
     documents_through : (s : Setting) (ds : Documents) → AreBuilt Debug ds → AllThrough (texts s ds)

@@ -3,13 +3,13 @@ use Rattle.std.proofs.Common.{◌≡◌, ◌≢◌, ◌∙◌, ◌⊎◌, inl, i
 use Rattle.std.proofs.lemmas.Bool.{true≢false, cases_lt}
 use Rattle.std.proofs.lemmas.List.{drop_all}
 use Rattle.std.specs.Prelude.{IfSome, IsNone}
-use Rattle.ufmt.specs.Leaves.{outside, is_opening}
+use Rattle.ufmt.specs.Leaves.{is_opening}
 use Rattle.ufmt_core.specs.declared.layout.Mode.{Mode}
 use Rattle.ufmt_lines.specs.Private.Blocks.{AreLeft, AreOpen, IsClosing, IsFirstFrom, NoneAt, open_blocks}
-use Rattle.ufmt_lines.specs.Private.Brackets.{pending, ArePlain, HasNoGap, closing, ends_closed, gaps, is_plain, may_begin_at}
+use Rattle.ufmt_lines.specs.Private.Brackets.{outside, EndsInUnit, pending, ArePlain, HasNoGap, closing, ends_closed, gaps, is_plain, may_begin_at}
 use Rattle.ufmt_lines.specs.Readable.{output_of, converted, converted_here, may_begin_after, tail_converted}
 use Rattle.ufmt_lines.specs.declared.run.blocks.OpenBlocks.{OpenBlocks}
-use Rattle.ufmt_lines.proofs.LastOpenings.{closing_byte, converted_shape, ends_at_last, ends_dropped, last_alone, none_at_end, option_none, plain_after, plain_byte}
+use Rattle.ufmt_lines.proofs.LastOpenings.{closing_byte, converted_shape, ends_at_last, ends_dropped, last_alone, unit_dropped, none_at_end, option_none, plain_after, plain_byte}
 use Rattle.ufmt_lines.proofs.LongestTexts.{nothing_is_no_text}
 use Rattle.ufmt_lines.proofs.Searches.{ReachedBy, begins_where_it_may, none_at, reached_next, rest_stays}
 use Rattle.ufmt_lines.proofs.Tails.{tail_at}
@@ -99,11 +99,11 @@ is_first_known byte tail blocks h opens closes =
 pub none_past_end : (mode : Mode) (text : List ℕ) (at : ℕ) → length text ≤ at → NoneAt mode text at
 none_past_end mode text at past = none_at (may_begin_at text at) mode (drop at text) (ap (converted mode) (drop_all at text past) ∙ nothing_is_no_text mode)
 
-module _ (mode : Mode) (text : List ℕ) (ends : ends_closed text ≡ true) where
+module _ (mode : Mode) (text : List ℕ) (ends : ends_closed text ≡ true) (no_unit : EndsInUnit text → ⊥) where
   -- at a place that isn't left
   pub none_if_none_left : (at : ℕ) → at < length text → AreLeft (drop at text) 0 → NoneAt mode text at
   none_if_none_left at within left = none_at (may_begin_at text at) mode (drop at text) (option_none (converted mode (drop at text)) (λ other is. elim (converted_shape mode (drop at text) other is) [
-    | inl leaf ↦ absurd (true≢false (sym ends ∙ sym (ends_dropped at text within) ∙ leaf.1))
+    | inl leaf ↦ absurd (no_unit (unit_dropped at text (leaf.1 (ends_dropped at text within ∙ ends))))
     | inr block ↦
         let body : closing outside block.body ≡ pending zero = ap (closing outside) (sym (append-nil block.body)) ∙ block.closes zero [] refl in
         let many = left block.front block.bracket block.body block.is block.opens body in

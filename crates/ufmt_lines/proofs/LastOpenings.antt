@@ -1,14 +1,16 @@
 -- The steps of the search for the opening bracket that a text's last byte closes, and what its place says of where texts begin.
-use Rattle.std.proofs.Common.{◌≡◌, ◌≢◌, ◌∙◌, ◌⊎◌, inl, inr, refl, ap, sym, subst, ℕ, zero, suc, ◌+◌, ◌-◌, ◌<◌, ◌≤◌, ◌==◌, ◌||◌, ◌&&◌, Bool, true, false, cond, List, [], ◌∷◌, ◌++◌, get_or, drop, take, length, append-nil, Option, Some, None, eqb-true, nat_le, arith, drop-cons}
+use Rattle.std.proofs.Common.{◌≡◌, ◌≢◌, ◌∙◌, ◌⊎◌, inl, inr, refl, ap, sym, subst, ℕ, zero, suc, ◌+◌, ◌-◌, ◌<◌, ◌≤◌, ◌==◌, ◌||◌, ◌&&◌, Bool, true, false, cond, List, [], ◌∷◌, ◌++◌, get_or, drop, take, length, length-append, append-nil, append_assoc, codes, Option, Some, None, eqb-true, nat_le, arith, drop-cons}
 use Rattle.std.proofs.lemmas.Bool.{true≢false, agree_below_at, cases_lt}
 use Rattle.std.proofs.lemmas.Bool.Decides.{nat_tests}
 use Rattle.std.proofs.lemmas.List.{drop-drop, drop_all, take-append-drop}
 use Rattle.std.proofs.Math.Seq.{drop-append_seam, take-append_seam}
 use Rattle.std.specs.Prelude.{slice_index_or, ⊤}
 use Rattle.ufmt.specs.Layout.{layout, setting}
-use Rattle.ufmt.specs.Leaves.{Place, outside, between, after_backslash, place_after, EndsLeaf, is_control, is_debug_byte, is_opening, is_quote, leads_on}
+use Rattle.ufmt.specs.Leaves.{EndsLeaf, begins_with, is_control, is_opening, is_outside, is_quote, place_after, place_outside}
+use Rattle.ufmt.specs.Leaves.{Place as LeafPlace, outside as leaf_outside, after_quotes as leaf_after_quotes, in_parentheses as leaf_in_parentheses, between as leaf_between, after_backslash as leaf_after_backslash}
+use Rattle.ufmt_grammar.proofs.DebugLeaves.{OutsideStep, each_quote, outside_step}
 use Rattle.ufmt_core.specs.declared.layout.Mode.{Mode}
-use Rattle.ufmt_lines.specs.Private.Brackets.{Closing, unread, pending, opened, none, ArePlain, HasBackslash, IsPending, IsQuotedPending, NoneBefore, SameFrom, IsLastOpening, IsOpeningQuote, NotFrom, OpensAt, at_closing, at_opening, at_plain, closing, ends_closed, gaps, gaps_between, is_closing, is_plain}
+use Rattle.ufmt_lines.specs.Private.Brackets.{Place, outside, between, after_backslash, Closing, unread, pending, opened, none, ArePlain, EndsInUnit, HasBackslash, IsPending, IsQuotedPending, NoneBefore, SameFrom, IsLastOpening, IsOpeningQuote, NotFrom, OpensAt, at_closing, at_opening, at_plain, closing, ends_closed, gaps, gaps_between, is_closing, is_plain}
 use Rattle.ufmt_scan.specs.Texts.{other_mode}
 use Rattle.ufmt_lines.specs.Readable.{converted}
 use Rattle.ufmt_lines.specs.declared.run.brackets.Found.{Found}
@@ -426,68 +428,188 @@ block_from text start h =
       },
     )
 
--- a leaf doesn't end with a closing bracket
-abbrev IsQuotePlace : Place → Type 0
-IsQuotePlace outside = ⊤
-IsQuotePlace (between quote) = is_quote quote ≡ true
-IsQuotePlace (after_backslash quote) = is_quote quote ≡ true
+-- a leaf ends with a closing bracket only if that is `()`
+abbrev IsQuotePlace : LeafPlace → Type 0
+IsQuotePlace leaf_outside = ⊤
+IsQuotePlace leaf_after_quotes = ⊤
+IsQuotePlace leaf_in_parentheses = ⊤
+IsQuotePlace (leaf_between quote) = is_quote quote ≡ true
+IsQuotePlace (leaf_after_backslash quote) = is_quote quote ≡ true
 
--- a byte of a leaf leads to such a place, and is no closing bracket if the leaf may end after it
-record LeafStep (c : ℕ) (next : Place) : Type 0 where
-  pub place : IsQuotePlace next
-  pub no_closing : next ≡ outside → is_closing c ≡ false
+-- a byte of a leaf leads to such a place; it is no closing bracket if the leaf may end after it, but for that of `()`, whose opening one is before it
+record LeafStep (place : LeafPlace) (c : ℕ) (next : LeafPlace) : Type 0 where
+  pub quotes : IsQuotePlace next
+  pub no_closing : is_outside next ≡ true → is_closing c ≡ true → (place ≡ leaf_in_parentheses) × (c ≡ 41)
+  pub opens : next ≡ leaf_in_parentheses → c ≡ 40
 
-leaf_step : (place : Place) (c : ℕ) (t : List ℕ) (next : Place) → IsQuotePlace place → place_after place c t ≡ Some next → LeafStep c next
-leaf_step outside c t next good e = go (is_debug_byte c || c == 58 && leads_on t) (is_quote c) refl refl e
+word_step : (place : LeafPlace) (c : ℕ) (t : List ℕ) (next : LeafPlace) → place_outside c t ≡ Some next → LeafStep place c next
+word_step place c t next e = go (outside_step c t next e)
   where
-    go : (word quote : Bool) → (is_debug_byte c || c == 58 && leads_on t) ≡ word → is_quote c ≡ quote
-        → cond word (Some outside) (cond quote (Some (between c)) None) ≡ Some next → LeafStep c next
-    go true quote word_is quote_is f =
-        let same : outside ≡ next = cc in
-        subst (LeafStep c) same (record { place = tt; no_closing = λ is. (word_byte c t word_is).no_closing })
-    go false true word_is quote_is f =
-        let same : between c ≡ next = cc in
-        subst (LeafStep c) same (record { place = quote_is; no_closing = λ is. absurd (cc) })
-    go false false word_is quote_is f = absurd (cc)
-leaf_step (between quote) c t next good e = go (is_control c) (c == quote) (c == 92) refl e
+    go : OutsideStep c t next → LeafStep place c next
+    go (inl step) = subst (LeafStep place c) (sym step.1) (record { quotes = tt; no_closing = λ is closes. absurd (cc (closes, (word_byte c t step.0).no_closing)); opens = λ is. absurd (cc) })
+    go (inr (inl step)) = subst (LeafStep place c) (sym step.1) (record { quotes = step.0; no_closing = λ is closes. absurd (cc); opens = λ is. absurd (cc) })
+    go (inr (inr step)) = subst (LeafStep place c) (sym step.2) (record { quotes = tt; no_closing = λ is closes. absurd (cc); opens = λ is. step.0 })
+
+leaf_step : (place : LeafPlace) (c : ℕ) (t : List ℕ) (next : LeafPlace) → IsQuotePlace place → place_after place c t ≡ Some next → LeafStep place c next
+leaf_step leaf_outside c t next good e = word_step leaf_outside c t next e
+leaf_step leaf_after_quotes c t next good e = go (c == 58) e
+  where
+    go : (colon : Bool) → cond colon None (place_outside c t) ≡ Some next → LeafStep leaf_after_quotes c next
+    go true f = absurd (cc)
+    go false f = word_step leaf_after_quotes c t next f
+leaf_step leaf_in_parentheses c t next good e = go (c == 41) refl e
+  where
+    go : (closes : Bool) → (c == 41) ≡ closes → cond closes (Some leaf_outside) None ≡ Some next → LeafStep leaf_in_parentheses c next
+    go true is f =
+        let same : leaf_outside ≡ next = cc in
+        subst (LeafStep leaf_in_parentheses c) same (record { quotes = tt; no_closing = λ outside closes. (refl, eqb-true c 41 is); opens = λ inside. absurd (cc) })
+    go false is f = absurd (cc)
+leaf_step (leaf_between quote) c t next good e = go (is_control c) (c == quote) (c == 92) refl e
   where
     go : (control closes escapes : Bool) → (c == quote) ≡ closes
-        → cond control None (cond closes (Some outside) (cond escapes (Some (after_backslash quote)) (Some (between quote)))) ≡ Some next → LeafStep c next
+        → cond control None (cond closes (Some leaf_after_quotes) (cond escapes (Some (leaf_after_backslash quote)) (Some (leaf_between quote)))) ≡ Some next → LeafStep (leaf_between quote) c next
     go true closes escapes closes_is f = absurd (cc)
     go false true escapes closes_is f =
-        let same : outside ≡ next = cc in
+        let same : leaf_after_quotes ≡ next = cc in
         let quote_is : quote ≡ c = sym (eqb-true c quote closes_is) in
-        subst (LeafStep c) same (record { place = tt; no_closing = λ is. (quote_byte c (subst (λ q. is_quote q ≡ true) quote_is good)).0 })
+        let none = (quote_byte c (subst (λ q. is_quote q ≡ true) quote_is good)).0 in
+        subst (LeafStep (leaf_between quote) c) same (record { quotes = tt; no_closing = λ is closes. absurd (cc (closes, none)); opens = λ is. absurd (cc) })
     go false false true closes_is f =
-        let same : after_backslash quote ≡ next = cc in
-        subst (LeafStep c) same (record { place = good; no_closing = λ is. absurd (cc) })
+        let same : leaf_after_backslash quote ≡ next = cc in
+        subst (LeafStep (leaf_between quote) c) same (record { quotes = good; no_closing = λ is. absurd (cc); opens = λ is. absurd (cc) })
     go false false false closes_is f =
-        let same : between quote ≡ next = cc in
-        subst (LeafStep c) same (record { place = good; no_closing = λ is. absurd (cc) })
-leaf_step (after_backslash quote) c t next good e = go (is_control c || nat_le 128 c) e
+        let same : leaf_between quote ≡ next = cc in
+        subst (LeafStep (leaf_between quote) c) same (record { quotes = good; no_closing = λ is. absurd (cc); opens = λ is. absurd (cc) })
+leaf_step (leaf_after_backslash quote) c t next good e = go (is_control c || nat_le 128 c) e
   where
-    go : (wrong : Bool) → cond wrong None (Some (between quote)) ≡ Some next → LeafStep c next
+    go : (wrong : Bool) → cond wrong None (Some (leaf_between quote)) ≡ Some next → LeafStep (leaf_after_backslash quote) c next
     go true f = absurd (cc)
     go false f =
-        let same : between quote ≡ next = cc in
-        subst (LeafStep c) same (record { place = good; no_closing = λ is. absurd (cc) })
+        let same : leaf_between quote ≡ next = cc in
+        subst (LeafStep (leaf_after_backslash quote) c) same (record { quotes = good; no_closing = λ is. absurd (cc); opens = λ is. absurd (cc) })
 
-leaf_ends : (place : Place) (w : List ℕ) → IsQuotePlace place → EndsLeaf place w → ends_closed w ≡ false
-leaf_ends place [] good h = refl
-leaf_ends place (c ∷ []) good h = (leaf_step place c [] h.0 good h.1).no_closing h.2
-leaf_ends place (c ∷ b ∷ w) good h = leaf_ends h.0 (b ∷ w) (leaf_step place c (b ∷ w) h.0 good h.1).place h.2
+-- the closing parenthesis of `()` alone
+abbrev IsUnitEnd : LeafPlace → ℕ → List ℕ → Type 0
+IsUnitEnd place c w = (place ≡ leaf_in_parentheses) × (c ≡ 41) × (w ≡ [])
 
--- a text that is converted is the same in both modes and no closing bracket ends it, or it has a block
-pub converted_shape : (mode : Mode) (text other : List ℕ) → converted mode text ≡ Some other → ((other ≡ text) × (ends_closed text ≡ false)) ⊎ HasBlock text
+leaf_end : (place : LeafPlace) (c : ℕ) (w : List ℕ) → IsQuotePlace place → EndsLeaf place (c ∷ w) → ends_closed (c ∷ w) ≡ true → EndsInUnit (c ∷ w) ⊎ IsUnitEnd place c w
+leaf_end place c [] good h closed =
+    let step = leaf_step place c [] h.0 good h.1 in
+    let is = step.no_closing h.2 closed in
+    inr (is.0, is.1, refl)
+leaf_end place c (b ∷ w) good h closed = go (leaf_end h.0 b w step.quotes h.2 closed)
+  where
+    step : LeafStep place c h.0
+    step = leaf_step place c (b ∷ w) h.0 good h.1
+
+    go : EndsInUnit (b ∷ w) ⊎ IsUnitEnd h.0 b w → EndsInUnit (c ∷ b ∷ w) ⊎ IsUnitEnd place c (b ∷ w)
+    go (inl unit) = inl (c ∷ unit.0, ap (λ t. c ∷ t) unit.1)
+    go (inr end) = inl ([], rw (step.opens end.0, end.1, end.2) refl)
+
+leaf_ends : (w : List ℕ) → EndsLeaf leaf_outside w → ends_closed w ≡ true → EndsInUnit w
+leaf_ends [] h closed = absurd (cc)
+leaf_ends (c ∷ w) h closed = elim (leaf_end leaf_outside c w tt h closed) [ inl unit ↦ unit | inr end ↦ absurd (cc (end.0)) ]
+
+-- a text ends with `()` if its end does
+pub unit_dropped : (k : ℕ) (text : List ℕ) → EndsInUnit (drop k text) → EndsInUnit text
+unit_dropped k text unit = (take k text ++ unit.0, sym (take-append-drop k text) ∙ ap (λ t. take k text ++ t) unit.1 ∙ sym (append_assoc (take k text) unit.0 (codes "()")))
+
+-- a text that is converted is the same in both modes, and a closing bracket ends it only as that of `()`, or it has a block
+pub converted_shape : (mode : Mode) (text other : List ℕ) → converted mode text ≡ Some other
+    → ((other ≡ text) × (ends_closed text ≡ true → EndsInUnit text)) ⊎ HasBlock text
 converted_shape mode text other h =
     let found = is_converted mode text other h in
     let d = found.some.0 in
     let s = setting (other_mode mode) 0 in
     let to : layout (setting mode 0) d ≡ other = found.each d found.some.1 found.some.2 in
     elim (document_shape (setting mode 0) s d found.some.1.0) [
-      | inl leaf ↦ inl (sym to ∙ leaf.0 ∙ found.some.2, subst (λ t. ends_closed t ≡ false) found.some.2 (leaf_ends outside (layout s d) tt leaf.1.pieces))
+      | inl leaf ↦ inl (sym to ∙ leaf.0 ∙ found.some.2, subst (λ t. ends_closed t ≡ true → EndsInUnit t) found.some.2 (leaf_ends (layout s d) leaf.1.pieces))
       | inr block ↦ inr (subst HasBlock found.some.2 block)
     ]
+
+-- what ends with `()` has no block
+unit_past : AllPast (codes "()")
+unit_past = record { unquoted = inl refl; quoted = λ quote is. inr (each_quote (λ q. closing (between q) (codes "()") ≡ none) refl refl quote is); escaped = λ quote is. inr (each_quote (λ q. closing (after_backslash q) (codes "()") ≡ none) refl refl quote is) }
+
+no_unit_block : (text : List ℕ) → EndsInUnit text → HasBlock text → ⊥
+no_unit_block text unit block = inside block.front unit.0 (sym block.is ∙ unit.1)
+  where
+    body : closing outside block.body ≡ pending zero
+    body = ap (closing outside) (sym (append-nil block.body)) ∙ block.closes zero [] refl
+
+    whole : (front : List ℕ) → block.body ≡ front ++ codes "()" → ⊥
+    whole front is = never_both (past_front front (codes "()") unit_past).unquoted (sym (ap (closing outside) is) ∙ body)
+
+    inside : (before front : List ℕ) → before ++ block.bracket ∷ block.body ≡ front ++ codes "()" → ⊥
+    inside [] [] same =
+        let opens : block.bracket ≡ 40 = cc in
+        let closes : block.body ≡ codes ")" = cc in
+        let none = block.no_unit (ap (λ c. c == 40) opens) in
+        absurd (cc (none, ap (begins_with 41) closes))
+    inside [] (c ∷ front) same = whole front cc
+    inside (c ∷ []) [] same =
+        let none : block.body ≡ [] = cc in
+        let unread_is = sym (ap (closing outside) none) ∙ body in
+        absurd (cc (unread_is))
+    inside (c ∷ b ∷ []) [] same = absurd (cc)
+    inside (c ∷ b ∷ d ∷ before) [] same = absurd (cc)
+    inside (c ∷ before) (b ∷ front) same = inside before front cc
+
+no_empty_block : HasBlock [] → ⊥
+no_empty_block block = go block.front block.is
+  where
+    go : (front : List ℕ) → [] ≡ front ++ block.bracket ∷ block.body → ⊥
+    go [] same = absurd (cc)
+    go (c ∷ front) same = absurd (cc)
+
+no_closing_block : HasBlock (codes ")") → ⊥
+no_closing_block block = go block.front block.is
+  where
+    go : (front : List ℕ) → codes ")" ≡ front ++ block.bracket ∷ block.body → ⊥
+    go [] same =
+        let closes : block.bracket ≡ 41 = cc in
+        let none : is_opening 41 ≡ true = subst (λ c. is_opening c ≡ true) closes block.opens in
+        absurd (cc)
+    go (c ∷ []) same = absurd (cc)
+    go (c ∷ b ∷ front) same = absurd (cc)
+
+no_block_dropped : (k : ℕ) (front : List ℕ) → HasBlock (drop k (front ++ codes "()")) → ⊥
+no_block_dropped zero front block = no_unit_block (front ++ codes "()") (front, refl) block
+no_block_dropped (suc k) (c ∷ front) block = no_block_dropped k front block
+no_block_dropped (suc zero) [] block = no_closing_block block
+no_block_dropped (suc (suc k)) [] block = no_empty_block (subst HasBlock (drop_all k [] (omega arith)) block)
+
+-- so it stays the same
+pub unit_stays : (mode : Mode) (text : List ℕ) → EndsInUnit text → (k : ℕ) (other : List ℕ) → converted mode (drop k text) ≡ Some other → other ≡ drop k text
+unit_stays mode text unit k other h = elim (converted_shape mode (drop k text) other h) [
+  | inl leaf ↦ leaf.0
+  | inr block ↦ absurd (no_block_dropped k unit.0 (subst (λ t. HasBlock (drop k t)) unit.1 block))
+]
+
+-- the last two bytes say whether a text ends so
+bytes_at_end : (front : List ℕ) → (get_or (front ++ codes "()") (length front) 0 ≡ 40) × (get_or (front ++ codes "()") (suc (length front)) 0 ≡ 41)
+bytes_at_end [] = (refl, refl)
+bytes_at_end (c ∷ front) = bytes_at_end front
+
+pub unit_size : (text : List ℕ) → EndsInUnit text → 2 ≤ length text
+unit_size text unit = let size = length-append unit.0 (codes "()") in omega (arith, size, ap length unit.1)
+
+pub unit_bytes : (text : List ℕ) → EndsInUnit text → (get_or text (length text - 2) 0 ≡ 40) × (get_or text (length text - 1) 0 ≡ 41)
+unit_bytes text unit =
+    let size = length-append unit.0 (codes "()") in
+    let first : length text - 2 ≡ length unit.0 = omega (arith, size, ap length unit.1) in
+    let last : length text - 1 ≡ suc (length unit.0) = omega (arith, size, ap length unit.1) in
+    let at = bytes_at_end unit.0 in
+    (rw first (ap (λ t. get_or t (length unit.0) 0) unit.1 ∙ at.0), rw last (ap (λ t. get_or t (suc (length unit.0)) 0) unit.1 ∙ at.1))
+
+pub unit_there : (text : List ℕ) → 2 ≤ length text → get_or text (length text - 2) 0 ≡ 40 → get_or text (length text - 1) 0 ≡ 41 → EndsInUnit text
+unit_there text size first last =
+    let k = length text - 2 in
+    let next : length text - 1 ≡ suc k = omega (arith, size) in
+    let end : drop (suc (suc k)) text ≡ [] = drop_all (suc (suc k)) text (omega (arith, size)) in
+    let second : drop (suc k) text ≡ 41 ∷ [] = drop-cons text (suc k) 0 (omega (arith, size)) ∙ ap (λ c. c ∷ drop (suc (suc k)) text) (ap (λ n. get_or text n 0) (sym next) ∙ last) ∙ ap (λ t. 41 ∷ t) end in
+    let both : drop k text ≡ codes "()" = drop-cons text k 0 (omega (arith, size)) ∙ ap (λ c. c ∷ drop (suc k) text) first ∙ ap (λ t. 40 ∷ t) second in
+    (take k text, sym (take-append-drop k text) ∙ ap (λ t. take k text ++ t) both)
 
 -- if no bracket is closed by the last byte, what is converted stays the same
 pub nothing_changes : (mode : Mode) (text : List ℕ) → NotFrom text 0 → (k : ℕ) (other : List ℕ) → converted mode (drop k text) ≡ Some other → other ≡ drop k text
@@ -497,14 +619,14 @@ nothing_changes mode text never k other h = elim (converted_shape mode (drop k t
 ]
 
 -- if one is, each text begins before it or at it, with one gap at most in between
-pub begins_near : (mode : Mode) (text : List ℕ) (place k : ℕ) (other : List ℕ) → OpensAt text place → converted mode (drop k text) ≡ Some other → (k ≤ place) × (gaps_between text k place ≤ 1)
-begins_near mode text place k other h is = elim (converted_shape mode (drop k text) other is) [
+pub begins_near : (mode : Mode) (text : List ℕ) (place k : ℕ) (other : List ℕ) → OpensAt text place → (EndsInUnit text → ⊥) → converted mode (drop k text) ≡ Some other → (k ≤ place) × (gaps_between text k place ≤ 1)
+begins_near mode text place k other h no_unit is = elim (converted_shape mode (drop k text) other is) [
   | inl leaf ↦ absurd (whole (cases_lt k (length text)) leaf.1)
   | inr block ↦ let found = block_from text k block in near found.0 found.1 (cases_lt found.0 place) (cases_lt place found.0)
 ]
   where
-    whole : (k < length text) ⊎ (length text ≤ k) → ends_closed (drop k text) ≡ false → ⊥
-    whole (inl within) e = true≢false (sym h.ends ∙ sym (ends_dropped k text within) ∙ e)
+    whole : (k < length text) ⊎ (length text ≤ k) → (ends_closed (drop k text) ≡ true → EndsInUnit (drop k text)) → ⊥
+    whole (inl within) e = no_unit (unit_dropped k text (e (ends_dropped k text within ∙ h.ends)))
     whole (inr past) e = let none = nothing_is_no_text mode in absurd (some_is_none (sym is ∙ ap (converted mode) (drop_all k text past) ∙ none))
 
     near : (at : ℕ) → BlockFrom text k at → (at < place) ⊎ (place ≤ at) → (place < at) ⊎ (at ≤ place) → (k ≤ place) × (gaps_between text k place ≤ 1)
@@ -520,16 +642,16 @@ option_none None h = refl
 option_none (Some x) h = absurd (h x refl)
 
 -- no text begins where two gaps or more are before the bracket
-pub none_before_gaps : (mode : Mode) (text : List ℕ) (place low : ℕ) → OpensAt text place → ((at : ℕ) → at < low → 2 ≤ gaps_between text at place) → NoneBefore mode text low
-none_before_gaps mode text place low h many = λ at less. option_none (converted mode (drop at text)) (λ other is.
-    let near = begins_near mode text place at other h is in
+pub none_before_gaps : (mode : Mode) (text : List ℕ) (place low : ℕ) → OpensAt text place → (EndsInUnit text → ⊥) → ((at : ℕ) → at < low → 2 ≤ gaps_between text at place) → NoneBefore mode text low
+none_before_gaps mode text place low h no_unit many = λ at less. option_none (converted mode (drop at text)) (λ other is.
+    let near = begins_near mode text place at other h no_unit is in
     let gaps = many at less in
     absurd (omega (arith, near, gaps)))
 
 -- nor after the bracket
-pub none_after : (mode : Mode) (text : List ℕ) (place : ℕ) → OpensAt text place → SameFrom mode text (place + 1)
-none_after mode text place h = λ at from other is.
-    let near = begins_near mode text place at other h is in
+pub none_after : (mode : Mode) (text : List ℕ) (place : ℕ) → OpensAt text place → (EndsInUnit text → ⊥) → SameFrom mode text (place + 1)
+none_after mode text place h no_unit = λ at from other is.
+    let near = begins_near mode text place at other h no_unit is in
     absurd (omega (arith, near, from))
 
 -- nor at the end

@@ -2,9 +2,9 @@
 use Rattle.std.proofs.Common.{◌≡◌, ◌≢◌, ◌∙◌, refl, ap, sym, subst, ℕ, zero, suc, ◌+◌, ◌-◌, ◌<◌, ◌≤◌, ◌==◌, Bool, true, false, cond, List, [], ◌∷◌, get_or, drop, length, arith, drop-cons}
 use Rattle.std.proofs.lemmas.Bool.Decides.{nat_tests}
 use Rattle.std.specs.Prelude.{⊤}
-use Rattle.ufmt.specs.Leaves.{Place, outside, between, after_backslash, is_opening, is_quote}
+use Rattle.ufmt.specs.Leaves.{is_opening, is_quote}
 use Rattle.ufmt_lines.specs.Private.Blocks.{AreOpen, before_plain, open_before, open_blocks}
-use Rattle.ufmt_lines.specs.Private.Brackets.{Closing, unread, pending, opened, none, ArePlain, at_closing, at_opening, at_plain, closing, is_closing, is_plain}
+use Rattle.ufmt_lines.specs.Private.Brackets.{Place, outside, between, after_backslash, Closing, unread, pending, opened, none, ArePlain, at_closing, at_opening, at_plain, closing, is_closing, is_plain}
 use Rattle.ufmt_lines.specs.declared.run.blocks.OpenBlocks.{OpenBlocks}
 use Rattle.ufmt_lines.proofs.ClosedBlocks.{at_opening_byte}
 use Rattle.ufmt_lines.proofs.LastOpenings.{IsNoQuote, between_stays, closing_byte, opening_byte, plain_after, plain_byte}

@@ -1,4 +1,4 @@
-//! Leaves of debug documents: words and texts in quotes in a row.
+//! Leaves of debug documents: words, texts in quotes and `()` in a row.
 ghost use Rattle.std.specs.Prelude.{◌≡◌, ◌<◌, ◌≤◌, ◌==◌, ◌&&◌, ◌||◌, ◌≢◌, ◌∷◌, [], ℕ, IfSome, IsTrue, MatchOption, None, false, length, nat_le, not, true};
 ghost use Rattle.ufmt_grammar.specs.declared.class.Class.TheVariants.{Debug};
 ghost use Rattle.ufmt_grammar.specs.Leaves.{after_quotes, begins_quote, begins_with, between, ends_in_colon, is_control, is_in_word, is_quote, is_spaced, outside, place_outside};

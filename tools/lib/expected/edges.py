@@ -38,25 +38,29 @@ def pair(plain, pretty):
 # ---- Leaves.
 
 LEAVES = (
-    # A colon, or many, before a byte of a word or a quote.
-    "a:b", "a::b", "::1", "1:2:3", 'a:"b"', ":'a'", "::\"\"", '":"', '"a":1', MANY_COLONS + "a",
-    "a" + MANY_COLONS + "'b'",
+    # A colon, or many.
+    "a:b", "a::b", "::1", "1:2:3", 'a:"b"', ":'a'", "::\"\"", '":"', MANY_COLONS + "a",
+    "a" + MANY_COLONS + "'b'", ":", "::", "a:", "a::", "fe80::", MANY_COLONS, "a" + MANY_COLONS,
+    # Parentheses with nothing between them.
+    "f()", "()a", "()()", "a::b().c()", "a:()", "():", '()""', '"a"()',
     # Quotes: empty ones, in a row, with the other quote in them, and a backslash with what it takes.
     '""', "''", '"a""b"', "'ab'", 'b"x"', "'a'..='z'", '"a b".."c"', "\"'\"", "'\"'", r'"\""', r"'\''", r'"\\"',
     r'"\q\ \{"', '"[]{}(),: .."',
     # A backslash without quotes is a byte of a word. So is each other sign, and what is past ASCII.
-    "a\\", "\\", '\\"a"', "..", ".", "-", "<u8>", "a=b;c", "é", "\u0085", "150µs", "日本", "🦀", "e\u0301",
+    "a\\", "\\", "\\()", "..", ".", "-", "<u8>", "a=b;c", "é", "\u0085", "150µs", "日本", "🦀", "e\u0301",
     '"é\u200b🦀"', "()",
 )
 NO_LEAVES = (
-    "", " ", "a b", "a ", " a", "a,", ",", ")", "(", "]", "[", "}", "{", "a)", "a[]", "a{}", "[]a", "()a", "()()",
-    "a()", "()(1)",
-    # A colon that no byte of a word follows.
-    ":", "::", "a:", "a::", "fe80::", "a: b", "a:: b", "a :b", "[a:]", "[a: b]", "(a: b)", "a:[]", "a:()", "a:,",
-    "{a:: b}", "{a: b: c}",
-    MANY_COLONS, "a" + MANY_COLONS, MANY_COLONS + " a", "{a" + MANY_COLONS + " b}", "[" + MANY_COLONS + "]",
+    "", " ", "a b", "a ", " a", "a,", ",", ")", "(", "]", "[", "}", "{", "a)", "a[]", "a{}", "[]a", "()(1)", "()[]",
+    "a(", "(a)", "f( )", "f(()", "f()(1)",
+    # A colon before a space, and one after a closing quote.
+    "a: b", "a:: b", "a :b", "[a: b]", "(a: b)", "a: }", "{a: }", "{a: b: c}",
+    MANY_COLONS + " a", "[" + MANY_COLONS + " a]",
+    '"a":1', '"a"::b', "'a':", '"a":', '{"a":1}',
+    # A colon before a bracket or a comma.
+    "a:[]", "a:,",
     # Quotes that nothing closes, and a backslash that takes what it mustn't, or is at the end.
-    '"', "'", '"a', "'a", "\"a'", 'b"', 'a"b', '"a"b"', '["a]', ':"', '\\"', '"\\', '"\\"', '"a\\', "'\\'",
+    '"', "'", '"a', "'a", "\"a'", 'b"', 'a"b', '"a"b"', '["a]', ':"', '\\"', '\\"a"', "a\\'b'", '"\\', '"\\"', '"a\\', "'\\'",
     '"\\é"', "'\\\u0085'", '"a"\'',
     "['a, 'b']", '{"a: 1}', "1..'", 'Some("a)',
 )
@@ -87,7 +91,16 @@ BLOCKS = (
     ("[1.5, 'a'..'b']", "[\n    1.5,\n    'a'..'b',\n]"),
     ("{127.0.0.1:80: 1.5s}", "{\n    127.0.0.1:80: 1.5s,\n}"),
     ("{::1: ::2}", "{\n    ::1: ::2,\n}"),
-    ('{"a":1}', '{\n    "a":1,\n}'),
+    ("{::: :}", "{\n    ::: :,\n}"),
+    ("[a:]", "[\n    a:,\n]"),
+    ("[" + MANY_COLONS + "]", "[\n    " + MANY_COLONS + ",\n]"),
+    ("{a:: b}", "{\n    a:: b,\n}"),
+    ("{a" + MANY_COLONS + " b}", "{\n    a" + MANY_COLONS + " b,\n}"),
+    ('{"a": "b"}', '{\n    "a": "b",\n}'),
+    ("S { a: : }", "S {\n    a: :,\n}"),
+    ("S { a: :: }", "S {\n    a: ::,\n}"),
+    ("S(f(), ())", "S(\n    f(),\n    (),\n)"),
+    ("S { a: f(), .. }", "S {\n    a: f(),\n    ..\n}"),
     ("é(1)", "é(\n    1,\n)"),
     ("a::B { c:d: e }", "a::B {\n    c:d: e,\n}"),
     # Two dots that end a struct.
@@ -114,7 +127,8 @@ NO_PLAIN_BLOCKS = (
     # What isn't a name.
     '"a" { x: 1 }', '"a"(1)', 'a"b"(1)', "'a' { .. }", 'b"" { a: 1, .. }', "() { x: 1 }", "() { .. }",
     'A { "a": 1 }', "A { (): 1 }", "A { a'b': 1 }",
-    "A {}", "A { }", "A()", "A{ a: 1 }", "A { a:1 }", "A { a : 1 }", "A { a }", "A { a: }",
+    "a: { x: 1 }", "a:(1)", "A { a:: 1 }", ":: { .. }", "f() { x: 1 }", "f()(1,)", "A { f(): 1 }",
+    "A {}", "A { }", "A{ a: 1 }", "A { a:1 }", "A { a : 1 }", "A { a }", "A { a: }",
     # Dots with a comma after them, before another entry, or with other spaces.
     "A { .., }", "A { a: 1, .., }", "A { .., a: 1 }", "A { a: 1, .., b: 2 }", "A { a: 1, .., .. }", "A { .., .. }",
     "A { ..}", "A {..}", "A { ..  }",

@@ -113,13 +113,12 @@ def in_words():
     for code in characters.CODES:
         if is_in_word(chr(code)) and not WORD.fullmatch(chr(code)):
             yield from ((at, code) for at in ("only", "first", "last", "middle"))
-    yield from (("first", ord(":")), ("middle", ord(":")))
+    yield from ((at, ord(":")) for at in ("only", "first", "last", "middle"))
 
 
 def not_in_words():
     for code in (*CONTROL_CODES, *map(ord, ENDS)):
         yield from ((at, code) for at in ("only", "first", "last", "middle"))
-    yield from (("only", ord(":")), ("last", ord(":")))
 
 
 def open_structs():

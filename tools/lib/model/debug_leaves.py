@@ -2,17 +2,17 @@
 
 A shape has a letter for each piece of a leaf. A word is `w` if a token document may have it, `p` if it has other ASCII
 characters, as points, and `u` if it has characters past ASCII. A piece in quotes is `t` or `c` if it is a text or a character
-that a token document may have, and `o` if it is spelled otherwise. Colons are `C`.
+that a token document may have, and `o` if it is spelled otherwise. Colons are `C`, and `()` is `U`.
 """
 import itertools
 import re
 
 from lib.model import characters
-from lib.model.model import CONTROLS, IN_QUOTES, QUOTED_CHARACTER, QUOTED_TEXT, WORD, WORD_BYTES, quoted
+from lib.model.model import CONTROLS, IN_QUOTES, QUOTED_CHARACTER, QUOTED_TEXT, UNIT, WORD, WORD_BYTES, quoted
 
-WORDS, QUOTES, COLONS = "wpu", "tco", "C"
-PIECE = re.compile("(%s)|(%s)|(:+)" % (WORD_BYTES, "|".join(IN_QUOTES)))
-# Bytes that end a word, but for controls. A colon ends one unless it belongs to the word.
+WORDS, QUOTES, COLONS, UNITS = "wpu", "tco", "C", "U"
+PIECE = re.compile("(%s)|(%s)|(:+)|%s" % (WORD_BYTES, "|".join(IN_QUOTES), UNIT))
+# Bytes that end a word, but for controls and colons.
 ENDS = " \"'(),[]{}"
 # The ASCII characters that only words of debug documents have, and what may follow a backslash.
 POINTS = "".join(chr(code) for code in range(0x21, 0x7F) if chr(code) not in ENDS + ":" and not WORD.fullmatch(chr(code)))
@@ -22,13 +22,15 @@ PAST_ASCII = "\u00e9\u00b5\u0301\u20ac\u200b\ufeff\U0001f980\U0010ffff"
 PRINTED = (
     "1.5", "-0.0", "1e-7", "NaN", "1.5s", "150\u00b5s", "127.0.0.1:80", "::1", "::ffff:10.0.0.1", "0..5", "..=9", "..", "'a'..='z'",
     '"a".."b"', 'b"x\\x00"', "b'\\''", "'\\u{301}'", '"\\u{301}"', "<borrowed>", "PhantomData<alloc::vec::Vec<u8>>", "0x7f0012", "_",
-    "a::B", "1..=\"b\"",
+    "a::B", "1..=\"b\"", "f()", "a::b().c()", "fe80::", "::",
 )
 
 
 def letter_of(word, in_quotes, colons):
     if colons:
         return "C"
+    if not (word or in_quotes):
+        return "U"
     if in_quotes:
         if QUOTED_TEXT.fullmatch(in_quotes):
             return "t"
@@ -44,14 +46,14 @@ def shape(leaf):
 
 def is_shape(letters):
     """Whether a leaf that only debug documents have can have this shape."""
-    if letters in ("w", "t", "c") or letters.endswith(COLONS):
+    if letters in ("w", "t", "c", "U"):
         return False
     pairs = zip(letters, letters[1:])
-    return not any((a in WORDS and b in WORDS) or a == b == COLONS for a, b in pairs)
+    return not any((a in WORDS and b in WORDS) or (b == COLONS and a in QUOTES + COLONS) for a, b in pairs)
 
 
 # All shapes of up to three pieces.
-ROWS = ("".join(letters) for count in (1, 2, 3) for letters in itertools.product(WORDS + QUOTES + COLONS, repeat=count))
+ROWS = ("".join(letters) for count in (1, 2, 3) for letters in itertools.product(WORDS + QUOTES + COLONS + UNITS, repeat=count))
 SHAPES = list(filter(is_shape, ROWS))
 
 
@@ -66,6 +68,16 @@ def word_form(text):
         if len(text) == 1 + len(before + after) and text.startswith(before) and text.endswith(after):
             return position, ord(text[len(before)])
     return None
+
+
+def joined(pieces):
+    """The pieces in a row. A word that ends with a backslash before a quote ends with a point."""
+    found = ""
+    for piece in pieces:
+        if piece[0] in "\"'" and found.endswith("\\"):
+            found = found[:-1] + "."
+        found += piece
+    return found
 
 
 class LeafMaker:
@@ -112,16 +124,18 @@ class LeafMaker:
     def piece(self, letter, length):
         if letter in WORDS:
             return self.word(letter, length)
+        if letter == UNITS:
+            return "()"
         return ":" * length if letter == COLONS else self.in_quotes(letter, length)
 
     def of_shape(self, letters, longest=4):
-        return "".join(self.piece(letter, self.random.randint(1, longest)) for letter in letters)
+        return joined(self.piece(letter, self.random.randint(1, longest)) for letter in letters)
 
     def of_pieces(self, count):
         """A leaf of so many pieces: words and texts in quotes in turn."""
         in_quotes = self.random.choice(QUOTES)
         letters = (in_quotes if (count - number) % 2 else WORDS[number % 3] for number in range(count))
-        return "".join(self.piece(letter, 1) for letter in letters)
+        return joined(self.piece(letter, 1) for letter in letters)
 
     def of_length(self, kind, length):
         """A leaf of so many characters: a word, or with quotes."""

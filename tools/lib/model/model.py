@@ -177,19 +177,19 @@ def leaf_at(text, at):
 
 TOKEN = TextClass(leaf_at, WORD.fullmatch, has_open_structs=False)
 
-# A piece of a leaf of the class DEBUG: bytes of a word, a text in quotes, or colons before one of these. A backslash takes
-# the next character with it.
+# A piece of a leaf of the class DEBUG: bytes of a word, a text in quotes, `()`, or colons. In quotes a backslash takes the next
+# character with it. In a word it is no byte before a quote. A colon is no piece right after a closing quote, nor before a space
+# that no closing brace follows.
 CONTROLS = r"\x00-\x1f\x7f"
-WORD_BYTES = "[^" + CONTROLS + r""" "'(),:\[\]{}]+"""
+WORD_BYTES = "(?:[^" + CONTROLS + r""" "'(),:\[\]{}\\]|\\(?!["']))+"""
 IN_QUOTES = [quote + r"(?:[^\\" + quote + CONTROLS + r"]|\\[ -~])*" + quote for quote in "\"'"]
-COLONS = ":+(?=[^" + CONTROLS + r" (),:\[\]{}])"
-PIECE = re.compile("|".join([WORD_BYTES, *IN_QUOTES, COLONS]))
+UNIT = r"\(\)"
+COLONS = r"""(?:(?<!["']):(?! (?!\})))+"""
+PIECE = re.compile("|".join([WORD_BYTES, *IN_QUOTES, UNIT, COLONS]))
 
 
 def debug_leaf_at(text, at):
-    """`()`, or all pieces that come in a row. Quotes that nothing closes are no leaf, nor is what comes before them."""
-    if text.startswith("()", at):
-        return "()", at + 2
+    """All pieces that come in a row. Quotes that nothing closes are no leaf, nor is what comes before them."""
     end = at
     found = PIECE.match(text, end)
     while found:
@@ -201,7 +201,7 @@ def debug_leaf_at(text, at):
 
 
 def is_debug_name(leaf):
-    return leaf != "()" and '"' not in leaf and "'" not in leaf
+    return not leaf.endswith(":") and not any(character in leaf for character in "\"'(")
 
 
 DEBUG = TextClass(debug_leaf_at, is_debug_name, has_open_structs=True)

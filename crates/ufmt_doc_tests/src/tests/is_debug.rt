@@ -51,7 +51,7 @@ fn leaves_of_std_are_debug_documents(rt: HostRuntime) {
 }
 
 // Other documents, and whether they are debug documents. None is a token document.
-const DOCUMENTS: [(&str, Shape<'static>, bool); 38] = [
+const DOCUMENTS: [(&str, Shape<'static>, bool); 43] = [
     ("a path as a leaf", Leaf("a::B"), true),
     ("a backslash outside of quotes", Leaf("a\\b"), true),
     ("texts in quotes in a row", Leaf("\"a\"'b'c"), true),
@@ -91,8 +91,8 @@ const DOCUMENTS: [(&str, Shape<'static>, bool); 38] = [
         false,
     ),
     ("an empty leaf", Leaf(""), false),
-    ("a word that ends in a colon", Leaf("a:"), false),
-    ("an address of zeros", Leaf("::"), false),
+    ("a word that ends in a colon", Leaf("a:"), true),
+    ("an address of zeros", Leaf("::"), true),
     ("two colons before a space", Leaf("a:: b"), false),
     ("a space", Leaf("1 of 2"), false),
     (
@@ -102,8 +102,17 @@ const DOCUMENTS: [(&str, Shape<'static>, bool); 38] = [
     ),
     ("a comma", Leaf("1,2"), false),
     ("a bracket", Leaf("a[0]"), false),
-    ("parentheses after a word", Leaf("f()"), false),
-    ("parentheses twice", Leaf("()()"), false),
+    ("parentheses after a word", Leaf("f()"), true),
+    ("parentheses twice", Leaf("()()"), true),
+    ("half of a pair of parentheses", Leaf("f("), false),
+    ("a colon after a closing quote", Leaf("\"a\":b"), false),
+    (
+        "a backslash before a quote, outside of quotes",
+        Leaf("a\\\"b\""),
+        false,
+    ),
+    ("a name that ends in a colon", StructOf("a:", &[]), false),
+    ("a name with parentheses", StructOf("f()", &[]), false),
     ("an open quotation mark", Leaf("\"a"), false),
     ("an open apostrophe", Leaf("it's"), false),
     ("a quotation mark after a backslash", Leaf("\"a\\\""), false),

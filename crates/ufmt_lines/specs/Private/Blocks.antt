@@ -1,9 +1,9 @@
 -- The blocks that are open at a place of a text, and the first place at which a text begins.
 use Rattle.std.specs.Prelude.{◌≡◌, ◌<◌, ◌≤◌, ◌+◌, ℕ, zero, suc, Bool, true, false, List, [], ◌∷◌, ◌++◌, drop, length, is_some, Option, Some, None}
 use Rattle.ufmt.specs.Bytes.{apostrophe, quotation_mark}
-use Rattle.ufmt.specs.Leaves.{outside, between, after_backslash, is_opening}
+use Rattle.ufmt.specs.Leaves.{is_opening}
 use Rattle.ufmt_core.specs.declared.layout.Mode.{Mode}
-use Rattle.ufmt_lines.specs.Private.Brackets.{Closing, unread, pending, opened, none, closing, gaps, is_closing, may_begin_at}
+use Rattle.ufmt_lines.specs.Private.Brackets.{outside, between, after_backslash, Closing, unread, pending, opened, none, closing, gaps, is_closing, may_begin_at}
 use Rattle.ufmt_lines.specs.Readable.{converted_here}
 use Rattle.ufmt_lines.specs.declared.run.blocks.OpenBlocks.{OpenBlocks}
 

@@ -1,7 +1,7 @@
 -- The opening bracket that a text's last byte closes, looked for from the text's end on.
-use Rattle.std.specs.Prelude.{◌≡◌, ◌≢◌, ◌<◌, ◌≤◌, ◌-◌, ◌==◌, ◌||◌, ℕ, zero, suc, Bool, true, false, if◌then◌else◌, not, List, [], ◌∷◌, drop, take, length, slice_index_or, ⊤, Some, None}
+use Rattle.std.specs.Prelude.{◌≡◌, ◌≢◌, ◌<◌, ◌≤◌, ◌-◌, ◌==◌, ◌||◌, ℕ, zero, suc, Bool, true, false, if◌then◌else◌, not, List, [], ◌∷◌, ◌++◌, codes, drop, take, length, slice_index_or, ⊤, Some, None}
 use Rattle.ufmt.specs.Bytes.{backslash, closing_brace, closing_bracket, closing_parenthesis}
-use Rattle.ufmt.specs.Leaves.{Place, outside, between, after_backslash, is_opening, is_quote}
+use Rattle.ufmt.specs.Leaves.{is_opening, is_quote}
 use Rattle.ufmt_core.specs.declared.layout.Mode.{Mode}
 use Rattle.ufmt_lines.specs.Readable.{converted, may_begin_after}
 use Rattle.ufmt_lines.specs.declared.run.brackets.Found.{Found}
@@ -23,6 +23,10 @@ abbrev pub ends_closed : List ℕ → Bool
 ends_closed [] = false
 ends_closed (c ∷ []) = is_closing c
 ends_closed (c ∷ b ∷ t) = ends_closed (b ∷ t)
+
+-- the text ends with `()`
+abbrev pub EndsInUnit : List ℕ → Type 0
+EndsInUnit text = (front : List ℕ) × (text ≡ front ++ codes "()")
 
 -- what is known of the bracket that a text's last byte closes, after these bytes were read from the end on: no byte was read; it wasn't read, and so many brackets after it are closed and not opened; it was read; or there is none
 pub data Closing : Type 0 where
@@ -50,7 +54,13 @@ at_opening (pending (suc n)) = pending n
 at_opening opened = opened
 at_opening none = none
 
--- what is known after these bytes, if they begin at this place in a leaf; between quotes no bracket counts
+-- a place in a text: outside of quotes, between two of these quotes, or there after a backslash
+pub data Place : Type 0 where
+  outside : Place
+  between : ℕ → Place
+  after_backslash : ℕ → Place
+
+-- what is known after these bytes, if they begin at this place; between quotes no bracket counts
 abbrev pub closing : Place → List ℕ → Closing
 closing outside [] = unread
 closing (between quote) [] = none

@@ -1,9 +1,9 @@
 //! The output for a line or a group of lines: the bytes before its longest debug text, and that text
 //! in the other mode.
-ghost use Rattle.std.specs.Prelude.{◌≡◌, ◌⊎◌, ◌<◌, ◌≤◌, ◌+◌, ◌-◌, ◌++◌, [], ◌∷◌, List, ℕ, true, IfSome, IsNone, OnOk, Some, drop, is_some, length, slice_index, take, zero};
-ghost use Rattle.ufmt.specs.Leaves.{is_opening, outside};
+ghost use Rattle.std.specs.Prelude.{◌≡◌, ◌⊎◌, ◌<◌, ◌≤◌, ◌+◌, ◌-◌, ◌++◌, [], ◌∷◌, List, ℕ, true, IfSome, IsNone, OnOk, Some, drop, is_some, length, slice_index, take, zero, IsTrue, false};
+ghost use Rattle.ufmt.specs.Leaves.{is_opening};
 ghost use Rattle.ufmt_lines.specs.Private.Blocks.{AreLeft, IsFirstFrom};
-ghost use Rattle.ufmt_lines.specs.Private.Brackets.{ArePlain, HasNoGap, NoneBefore, SameFrom, closing, ends_closed, gaps_between, may_begin_at, pending};
+ghost use Rattle.ufmt_lines.specs.Private.Brackets.{ArePlain, EndsInUnit, HasNoGap, NoneBefore, SameFrom, closing, ends_closed, gaps_between, may_begin_at, outside, pending};
 ghost use Rattle.ufmt_lines.specs.Readable.{output_of, converted, converted_here, may_begin_after};
 
 use super::blocks::OpenBlocks;
@@ -104,11 +104,25 @@ fn text_start(mode: Mode, group: &[u8]) -> Option<usize>
         → output_of mode group.now ≡ take start group.now ++ other) }
     ensures none { IsNone result → output_of mode group.now ≡ group.now }
 {
+    // What ends with `()` and is a text is a leaf.
+    if ends_in_unit(group) {
+        return None;
+    }
     match last_opening(group) {
         Found::Nowhere => None,
         Found::At(opening) => first_start(mode, group, name_start(group, opening), opening + 1),
         Found::Unclear => first_start_by_blocks(mode, group),
     }
+}
+
+// Whether the text ends with `()`.
+#[inline(always)]
+fn ends_in_unit(text: &[u8]) -> bool
+    ensures yes { IsTrue result → EndsInUnit text.now }
+    ensures no { result ≡ false → EndsInUnit text.now → ⊥ }
+{
+    let size = text.len();
+    size >= 2 && text[size - 2] == b'(' && text[size - 1] == b')'
 }
 
 // The same, if no text begins before `low`, and any that begins at `high` or after it is the same in both modes.
@@ -136,7 +150,8 @@ fn first_start(mode: Mode, group: &[u8], low: usize, high: usize) -> Option<usiz
 // From the end on, each place is tried at which a text may begin whose first bracket is that one.
 #[inline(never)]
 fn first_start_by_blocks(mode: Mode, group: &[u8]) -> Option<usize>
-    requires { ends_closed group.now ≡ true }
+    requires ends { ends_closed group.now ≡ true }
+    requires no_unit { EndsInUnit group.now → ⊥ }
     ensures { IsFirstFrom mode group.now 0 result }
 {
     let last = group.len().checked_sub(1)?;
@@ -168,6 +183,7 @@ fn first_from(
 ) -> Option<usize>
     requires within { at < length group.now }
     requires ends { ends_closed group.now ≡ true }
+    requires no_unit { EndsInUnit group.now → ⊥ }
     requires left { AreLeft (drop at group.now) starts }
     requires later { IsFirstFrom mode group.now (at + 1) first }
     ensures { IsFirstFrom mode group.now at result }

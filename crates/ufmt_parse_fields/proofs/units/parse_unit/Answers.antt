@@ -1,4 +1,4 @@
-use Rattle.std.proofs.Common.{arith, inl}
+use Rattle.std.proofs.Common.{arith}
 use Rattle.std.proofs.lemmas.List.{append-nil}
 use Rattle.ufmt_parser.specs.Taking.{open_blocks, setting_in}
 use Rattle.ufmt_parser.proofs.Naming.{no_unit, tuple_alone, unit_leaves}
@@ -6,7 +6,7 @@ use Rattle.ufmt_parser.proofs.Words.{name_is}
 use Rattle.ufmt_parse_fields.proofs.units.parse_unit.Goals as goal
 
 pub returns-then-eats-clause-taken : goal.returns-then-eats-clause-taken
-returns-then-eats-clause-taken g c = (c.if-eats.ensures.eats, (inl (name_is c.args.name.now c.utf8.name c.requires).whole, omega (arith, c.eats.ensures.counted)))
+returns-then-eats-clause-taken g c = (c.if-eats.ensures.eats, ((name_is c.args.name.now c.utf8.name c.requires).whole, omega (arith, c.eats.ensures.counted)))
 
 pub returns-then-eats-clause-struct_taken : goal.returns-then-eats-clause-struct_taken
 returns-then-eats-clause-struct_taken g c =

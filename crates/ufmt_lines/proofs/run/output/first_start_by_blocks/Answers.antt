@@ -10,7 +10,7 @@ bytes-init c =
     let last = c.in_ok-last.last in
     let at = c.in_ok-last.ensures in
     let size : length group ≡ suc last = omega (arith, at) in
-    let end = last_is_closing group last size c.requires in
+    let end = last_is_closing group last size c.requires.ends in
     record {
       within = omega (arith, size);
       blocks = c.at_end-blocks.ensures (drop last group) end;
@@ -47,6 +47,11 @@ bytes-preserved c =
       within = omega (arith, order, inside, next);
       blocks = c.before_stretch-blocks.ensures blocks;
       left = left_over group start (at - 1) c.starts_before-starts.result order (omega (arith, inside, next)) c.stretch_start-start.ensures.plain left;
-      later = first_over c.args.mode group c.requires start (at - 1) c.starts_before-starts.result c.first_from-first.result order (omega (arith, inside, next)) c.stretch_start-start.ensures.plain
+      later = first_over c.args.mode group c.requires.ends c.requires.no_unit start (at - 1) c.starts_before-starts.result c.first_from-first.result order (omega (arith, inside, next)) c.stretch_start-start.ensures.plain
           c.stretch_start-start.ensures.passes left (subst (λ k. IsFirstFrom c.args.mode group k c.first_from-first.result) after c.first_from-first.ensures);
     }
+
+pub first_from-requires-clause-left : goal.first_from-requires-clause-left
+first_from-requires-clause-left c =
+    let start : c.bytes.at ≡ 0 = omega (arith, c.bytes-test.false) in
+    subst (λ k. AreLeft (drop k c.args.group.now) c.bytes.starts) start c.bytes.invariant.left
