@@ -1,8 +1,8 @@
-//! Tests of what `fields!` evaluates.
+//! Tests of what `fields!` and `variants!` evaluate.
 use super::super::asserts::has_wanted_rows;
 use super::Turns;
 use std::alloc::AllocError;
-use ufmt::{Formatter, fields};
+use ufmt::{Formatter, fields, variants};
 use ufmt_test_rows::rows::Table;
 
 #[derive(Drop)]
@@ -16,6 +16,13 @@ struct Pair {
 
 #[derive(Drop)]
 struct Two(u8, u8);
+
+#[derive(Drop)]
+enum Event {
+    Started,
+    Said(u8, u8),
+    Lost { since: u8 },
+}
 
 // A struct, one that ends in dots, and a tuple, with the values of these numbers.
 macro_rules! named {
@@ -137,6 +144,19 @@ fn print_thirteen_with_dots(f: &mut Formatter<String>, turns: &mut Turns) -> Eva
     )
 }
 
+// A variant of each kind.
+fn print_variant(number: usize, f: &mut Formatter<String>, turns: &mut Turns) -> Evaluated {
+    let (event, wanted) = match number {
+        23 => (Event::Started, "F=Started"),
+        24 => (Event::Said(1, 2), "F=Said(1, 2)"),
+        _ => (Event::Lost { since: 3 }, "F=Lost { since: 3 }"),
+    };
+    let event = &event;
+    let outcome =
+        variants!(turns.formatter(f), event, Event { Started, Said(a, b), Lost { since } });
+    (outcome, wanted)
+}
+
 // The turns, and the text that is printed.
 fn row(
     outcome: Result<(), AllocError>,
@@ -162,16 +182,17 @@ fn put_row(table: &mut Table, number: usize) {
         19 => print_twelve_with_dots(&mut f, &mut turns),
         20 => print_thirteen(&mut f, &mut turns),
         21 => print_thirteen_unnamed(&mut f, &mut turns),
-        _ => print_thirteen_with_dots(&mut f, &mut turns),
+        22 => print_thirteen_with_dots(&mut f, &mut turns),
+        _ => print_variant(number, &mut f, &mut turns),
     };
     table.put_made(row(outcome, turns, f));
     table.wants(wanted);
 }
 
 #[test]
-fn fields_evaluates_in_order(rt: HostRuntime) {
+fn fields_and_variants_evaluate_in_order(rt: HostRuntime) {
     let mut table = Table::new(rt.alloc());
-    for number in 0..23usize {
+    for number in 0..26usize {
         put_row(&mut table, number);
     }
     has_wanted_rows(&rt, &table);
