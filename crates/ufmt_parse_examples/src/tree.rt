@@ -8,9 +8,7 @@ ghost use Rattle.ufmt_parse_examples.specs.declared.tree.Tree.TheFolds.{fold-Tre
 
 use std::alloc::Global;
 use ufmt::{Formatter, fields, uDebug, uWrite};
-use ufmt_parse::{
-    By, ByType, Each, Fault, ParseMode, Parser, ProvesValue, parse_struct_2, uParse,
-};
+use ufmt_parse::{By, ByType, Each, Fault, ParseMode, Parser, ProvesValue, parse_struct_2, uParse};
 
 /// A number, and trees below it.
 #[derive(Drop)]

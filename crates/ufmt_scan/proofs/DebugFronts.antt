@@ -284,9 +284,11 @@ no_colon_next t rest named passes begins = record {
         × (is_outside (last_place after_quotes (leaf_from after_quotes rest)) ≡ is_outside (last_place outside (leaf_from outside rest)))
     same_from [] none = (refl, refl, refl)
     same_from (c ∷ u) none =
-        let step : place_after after_quotes c u ≡ place_outside c u = rw none refl in
-        (ap (λ o. choose o (λ n. c ∷ leaf_from n u) []) step, ap (λ o. choose o (λ n. after_leaf n u) (c ∷ u)) step,
-        ap (λ o. is_outside (last_place after_quotes (choose o (λ n. c ∷ leaf_from n u) []))) step ∙ alike c u none (place_outside c u))
+        let step : place_after after_quotes c u ≡ place_outside c u = rw none refl in (
+          ap (λ o. choose o (λ n. c ∷ leaf_from n u) []) step,
+          ap (λ o. choose o (λ n. after_leaf n u) (c ∷ u)) step,
+          ap (λ o. is_outside (last_place after_quotes (choose o (λ n. c ∷ leaf_from n u) []))) step ∙ alike c u none (place_outside c u),
+        )
 
     same : (leaf_from after_quotes rest ≡ leaf_from outside rest) × (after_leaf after_quotes rest ≡ after_leaf outside rest)
         × (is_outside (last_place after_quotes (leaf_from after_quotes rest)) ≡ is_outside (last_place outside (leaf_from outside rest)))
