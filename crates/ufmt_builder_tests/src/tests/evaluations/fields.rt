@@ -93,59 +93,65 @@ fn print_few_with_dots(number: usize, f: &mut Formatter<String>, turns: &mut Tur
     }
 }
 
-// Twelve fields, which one call takes, and thirteen, which make a chain. A function with such a form and its long text
-// takes the check past its limit, so the texts are in the next function.
-fn print_twelve(f: &mut Formatter<String>, turns: &mut Turns) -> Result<(), AllocError> {
-    named!(f, turns; a 1 b 2 c 3 d 4 e 5 f 6 g 7 h 8 i 9 j 10 k 11 l 12)
-}
-
-fn print_twelve_unnamed(f: &mut Formatter<String>, turns: &mut Turns) -> Result<(), AllocError> {
-    unnamed!(f, turns; 1 2 3 4 5 6 7 8 9 10 11 12)
-}
-
-fn print_twelve_with_dots(f: &mut Formatter<String>, turns: &mut Turns) -> Result<(), AllocError> {
-    with_dots!(f, turns; a 1 b 2 c 3 d 4 e 5 f 6 g 7 h 8 i 9 j 10 k 11 l 12)
-}
-
-fn print_thirteen(f: &mut Formatter<String>, turns: &mut Turns) -> Result<(), AllocError> {
-    named!(f, turns; a 1 b 2 c 3 d 4 e 5 f 6 g 7 h 8 i 9 j 10 k 11 l 12 m 13)
-}
-
-fn print_thirteen_unnamed(f: &mut Formatter<String>, turns: &mut Turns) -> Result<(), AllocError> {
-    unnamed!(f, turns; 1 2 3 4 5 6 7 8 9 10 11 12 13)
-}
-
-fn print_thirteen_with_dots(
+// Twelve fields, which one call takes, or thirteen, which make a chain. Beside a form of so many, its long text would take
+// the check past its limit of steps, so it is beside the call.
+fn print_named(
+    count: usize,
     f: &mut Formatter<String>,
     turns: &mut Turns,
 ) -> Result<(), AllocError> {
-    with_dots!(f, turns; a 1 b 2 c 3 d 4 e 5 f 6 g 7 h 8 i 9 j 10 k 11 l 12 m 13)
+    match count {
+        12 => named!(f, turns; a 1 b 2 c 3 d 4 e 5 f 6 g 7 h 8 i 9 j 10 k 11 l 12),
+        _ => named!(f, turns; a 1 b 2 c 3 d 4 e 5 f 6 g 7 h 8 i 9 j 10 k 11 l 12 m 13),
+    }
+}
+
+fn print_unnamed(
+    count: usize,
+    f: &mut Formatter<String>,
+    turns: &mut Turns,
+) -> Result<(), AllocError> {
+    match count {
+        12 => unnamed!(f, turns; 1 2 3 4 5 6 7 8 9 10 11 12),
+        _ => unnamed!(f, turns; 1 2 3 4 5 6 7 8 9 10 11 12 13),
+    }
+}
+
+fn print_with_dots(
+    count: usize,
+    f: &mut Formatter<String>,
+    turns: &mut Turns,
+) -> Result<(), AllocError> {
+    match count {
+        12 => with_dots!(f, turns; a 1 b 2 c 3 d 4 e 5 f 6 g 7 h 8 i 9 j 10 k 11 l 12),
+        _ => with_dots!(f, turns; a 1 b 2 c 3 d 4 e 5 f 6 g 7 h 8 i 9 j 10 k 11 l 12 m 13),
+    }
 }
 
 fn print_many(number: usize, f: &mut Formatter<String>, turns: &mut Turns) -> Evaluated {
     match number {
         17 => (
-            print_twelve(f, turns),
+            print_named(12, f, turns),
             "Fabcdefghijkl=S { a: 1, b: 2, c: 3, d: 4, e: 5, f: 6, g: 7, h: 8, i: 9, j: 10, k: 11, l: 12 }",
         ),
         18 => (
-            print_twelve_unnamed(f, turns),
+            print_unnamed(12, f, turns),
             "Fabcdefghijkl=S(1, 2, 3, 4, 5, 6, 7, 8, 9, 10, 11, 12)",
         ),
         19 => (
-            print_twelve_with_dots(f, turns),
+            print_with_dots(12, f, turns),
             "Fabcdefghijkl=S { a: 1, b: 2, c: 3, d: 4, e: 5, f: 6, g: 7, h: 8, i: 9, j: 10, k: 11, l: 12, .. }",
         ),
         20 => (
-            print_thirteen(f, turns),
+            print_named(13, f, turns),
             "Fabcdefghijklm=S { a: 1, b: 2, c: 3, d: 4, e: 5, f: 6, g: 7, h: 8, i: 9, j: 10, k: 11, l: 12, m: 13 }",
         ),
         21 => (
-            print_thirteen_unnamed(f, turns),
+            print_unnamed(13, f, turns),
             "Fabcdefghijklm=S(1, 2, 3, 4, 5, 6, 7, 8, 9, 10, 11, 12, 13)",
         ),
         _ => (
-            print_thirteen_with_dots(f, turns),
+            print_with_dots(13, f, turns),
             "Fabcdefghijklm=S { a: 1, b: 2, c: 3, d: 4, e: 5, f: 6, g: 7, h: 8, i: 9, j: 10, k: 11, l: 12, m: 13, .. }",
         ),
     }
