@@ -100,48 +100,68 @@ fn print_few_with_dots(number: usize, f: &mut Formatter<String>, turns: &mut Tur
     }
 }
 
-// Twelve fields, which one call takes.
-fn print_twelve(f: &mut Formatter<String>, turns: &mut Turns) -> Evaluated {
-    (
-        named!(f, turns; a 1 b 2 c 3 d 4 e 5 f 6 g 7 h 8 i 9 j 10 k 11 l 12),
-        "Fabcdefghijkl=S { a: 1, b: 2, c: 3, d: 4, e: 5, f: 6, g: 7, h: 8, i: 9, j: 10, k: 11, l: 12 }",
-    )
+// Twelve fields, which one call takes, or thirteen, which make a chain. Beside a form of so many, its long text would take
+// the check past its limit of steps, so it is beside the call.
+fn print_named(
+    count: usize,
+    f: &mut Formatter<String>,
+    turns: &mut Turns,
+) -> Result<(), AllocError> {
+    match count {
+        12 => named!(f, turns; a 1 b 2 c 3 d 4 e 5 f 6 g 7 h 8 i 9 j 10 k 11 l 12),
+        _ => named!(f, turns; a 1 b 2 c 3 d 4 e 5 f 6 g 7 h 8 i 9 j 10 k 11 l 12 m 13),
+    }
 }
 
-fn print_twelve_unnamed(f: &mut Formatter<String>, turns: &mut Turns) -> Evaluated {
-    (
-        unnamed!(f, turns; 1 2 3 4 5 6 7 8 9 10 11 12),
-        "Fabcdefghijkl=S(1, 2, 3, 4, 5, 6, 7, 8, 9, 10, 11, 12)",
-    )
+fn print_unnamed(
+    count: usize,
+    f: &mut Formatter<String>,
+    turns: &mut Turns,
+) -> Result<(), AllocError> {
+    match count {
+        12 => unnamed!(f, turns; 1 2 3 4 5 6 7 8 9 10 11 12),
+        _ => unnamed!(f, turns; 1 2 3 4 5 6 7 8 9 10 11 12 13),
+    }
 }
 
-fn print_twelve_with_dots(f: &mut Formatter<String>, turns: &mut Turns) -> Evaluated {
-    (
-        with_dots!(f, turns; a 1 b 2 c 3 d 4 e 5 f 6 g 7 h 8 i 9 j 10 k 11 l 12),
-        "Fabcdefghijkl=S { a: 1, b: 2, c: 3, d: 4, e: 5, f: 6, g: 7, h: 8, i: 9, j: 10, k: 11, l: 12, .. }",
-    )
+fn print_with_dots(
+    count: usize,
+    f: &mut Formatter<String>,
+    turns: &mut Turns,
+) -> Result<(), AllocError> {
+    match count {
+        12 => with_dots!(f, turns; a 1 b 2 c 3 d 4 e 5 f 6 g 7 h 8 i 9 j 10 k 11 l 12),
+        _ => with_dots!(f, turns; a 1 b 2 c 3 d 4 e 5 f 6 g 7 h 8 i 9 j 10 k 11 l 12 m 13),
+    }
 }
 
-// Thirteen fields, which make a chain.
-fn print_thirteen(f: &mut Formatter<String>, turns: &mut Turns) -> Evaluated {
-    (
-        named!(f, turns; a 1 b 2 c 3 d 4 e 5 f 6 g 7 h 8 i 9 j 10 k 11 l 12 m 13),
-        "Fabcdefghijklm=S { a: 1, b: 2, c: 3, d: 4, e: 5, f: 6, g: 7, h: 8, i: 9, j: 10, k: 11, l: 12, m: 13 }",
-    )
-}
-
-fn print_thirteen_unnamed(f: &mut Formatter<String>, turns: &mut Turns) -> Evaluated {
-    (
-        unnamed!(f, turns; 1 2 3 4 5 6 7 8 9 10 11 12 13),
-        "Fabcdefghijklm=S(1, 2, 3, 4, 5, 6, 7, 8, 9, 10, 11, 12, 13)",
-    )
-}
-
-fn print_thirteen_with_dots(f: &mut Formatter<String>, turns: &mut Turns) -> Evaluated {
-    (
-        with_dots!(f, turns; a 1 b 2 c 3 d 4 e 5 f 6 g 7 h 8 i 9 j 10 k 11 l 12 m 13),
-        "Fabcdefghijklm=S { a: 1, b: 2, c: 3, d: 4, e: 5, f: 6, g: 7, h: 8, i: 9, j: 10, k: 11, l: 12, m: 13, .. }",
-    )
+fn print_many(number: usize, f: &mut Formatter<String>, turns: &mut Turns) -> Evaluated {
+    match number {
+        17 => (
+            print_named(12, f, turns),
+            "Fabcdefghijkl=S { a: 1, b: 2, c: 3, d: 4, e: 5, f: 6, g: 7, h: 8, i: 9, j: 10, k: 11, l: 12 }",
+        ),
+        18 => (
+            print_unnamed(12, f, turns),
+            "Fabcdefghijkl=S(1, 2, 3, 4, 5, 6, 7, 8, 9, 10, 11, 12)",
+        ),
+        19 => (
+            print_with_dots(12, f, turns),
+            "Fabcdefghijkl=S { a: 1, b: 2, c: 3, d: 4, e: 5, f: 6, g: 7, h: 8, i: 9, j: 10, k: 11, l: 12, .. }",
+        ),
+        20 => (
+            print_named(13, f, turns),
+            "Fabcdefghijklm=S { a: 1, b: 2, c: 3, d: 4, e: 5, f: 6, g: 7, h: 8, i: 9, j: 10, k: 11, l: 12, m: 13 }",
+        ),
+        21 => (
+            print_unnamed(13, f, turns),
+            "Fabcdefghijklm=S(1, 2, 3, 4, 5, 6, 7, 8, 9, 10, 11, 12, 13)",
+        ),
+        _ => (
+            print_with_dots(13, f, turns),
+            "Fabcdefghijklm=S { a: 1, b: 2, c: 3, d: 4, e: 5, f: 6, g: 7, h: 8, i: 9, j: 10, k: 11, l: 12, m: 13, .. }",
+        ),
+    }
 }
 
 // A variant of each kind.
@@ -177,12 +197,7 @@ fn put_row(table: &mut Table, number: usize) {
         0..=7 => print_few(number, &mut f, &mut turns),
         8..=10 => print_apart(number, &mut f, &mut turns),
         11..=16 => print_few_with_dots(number, &mut f, &mut turns),
-        17 => print_twelve(&mut f, &mut turns),
-        18 => print_twelve_unnamed(&mut f, &mut turns),
-        19 => print_twelve_with_dots(&mut f, &mut turns),
-        20 => print_thirteen(&mut f, &mut turns),
-        21 => print_thirteen_unnamed(&mut f, &mut turns),
-        22 => print_thirteen_with_dots(&mut f, &mut turns),
+        17..=22 => print_many(number, &mut f, &mut turns),
         _ => print_variant(number, &mut f, &mut turns),
     };
     table.put_made(row(outcome, turns, f));
