@@ -379,19 +379,15 @@ port_alone : (c : ℕ) (t : List ℕ) → is_port (c ∷ t) ≡ true → is_port
 port_alone c [] h = absurd (cc)
 port_alone c (b ∷ []) h = absurd (cc)
 port_alone c (b ∷ d ∷ t) h =
-    let parts = both (c == closing_bracket) (b == colon && is_plain_byte d) h in
-    let more = both (b == colon) (is_plain_byte d) parts.1 in
-    let plain = both (is_debug_byte d) (not (d == backslash)) more.1 in
+    let all = both (c == closing_bracket && b == colon) (is_plain_byte d) h in
+    let parts = both (c == closing_bracket) (b == colon) all.0 in
+    let plain = both (is_debug_byte d) (not (d == backslash)) all.1 in
     let step : place_outside d t ≡ Some outside = rw (plain_in_word d t plain.0 (no (d == backslash) plain.1)) refl in
-    rw (eqb-true c closing_bracket parts.0, eqb-true b colon more.0) (ap (λ o. is_plain_byte_at o) step ∙ more.1)
+    rw (eqb-true c closing_bracket parts.0, eqb-true b colon parts.1) (ap (λ o. is_port (closing_bracket ∷ colon ∷ choose o (λ n. d ∷ leaf_from n t) [])) step ∙ all.1)
   where
     no : (x : Bool) → not x ≡ true → x ≡ false
     no true k = absurd (cc)
     no false k = refl
-
-    -- whether the address is closed, if the byte after its colon leads there
-    is_plain_byte_at : Option Place → Bool
-    is_plain_byte_at o = is_port (closing_bracket ∷ colon ∷ choose o (λ n. d ∷ leaf_from n t) [])
 
 address_past_alone : (t : List ℕ) → is_port (past is_name_byte t) ≡ true → is_port (past is_name_byte (leaf_from in_address t)) ≡ true
 address_past_alone [] h = absurd (cc)
