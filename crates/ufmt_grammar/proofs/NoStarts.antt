@@ -120,7 +120,7 @@ follower_no_port (c ∷ b ∷ u) (inl h) = each_ender (λ d. is_port (closing_br
 follower_no_port (c ∷ b ∷ u) (inr (inl h)) = rw (h.0, h.1) refl
 follower_no_port (c ∷ b ∷ u) (inr (inr h)) = rw h.0 refl
 
-address_by_port : (t : List ℕ) → is_port (past is_name_byte t) ≡ false → is_address_closed t ≡ false
+pub address_by_port : (t : List ℕ) → is_port (past is_name_byte t) ≡ false → is_address_closed t ≡ false
 address_by_port [] h = refl
 address_by_port (c ∷ t) h = go (is_name_byte c) h
   where
@@ -128,7 +128,7 @@ address_by_port (c ∷ t) h = go (is_name_byte c) h
     go true k = k
     go false k = refl
 
-word_by_end : (t : List ℕ) → begins_with closing_parenthesis (past is_debug_byte t) ≡ false → is_word_closed t ≡ false
+pub word_by_end : (t : List ℕ) → begins_with closing_parenthesis (past is_debug_byte t) ≡ false → is_word_closed t ≡ false
 word_by_end [] h = refl
 word_by_end (c ∷ t) h = go (is_debug_byte c) h
   where
