@@ -1,6 +1,6 @@
 -- Leaves of debug documents, byte by byte: what the scanner passes belongs to the leaf at the front.
-use Rattle.std.proofs.Common.{◌≡◌, inl, inr, refl, ap, sym, subst, ◌∙◌, ℕ, zero, suc, ◌<◌, ◌≤◌, ◌==◌, ◌&&◌, ◌||◌, not, nat_le, nat_lt, Bool, true, false, cond, List, [], ◌∷◌, ◌++◌, append_assoc, append-nil, length, length-append, length-drop, take, drop, codes, Option, Some, None, eq-eqb, eqb-true, arith}
-use Rattle.std.specs.Prelude.{⊤, ◌≢◌, ◌-◌, slice_index_or}
+use Rattle.std.proofs.Common.{◌≡◌, inl, inr, refl, ap, sym, subst, ◌∙◌, ℕ, suc, ◌<◌, ◌≤◌, ◌==◌, ◌&&◌, ◌||◌, not, nat_le, nat_lt, Bool, true, false, cond, List, [], ◌∷◌, ◌++◌, append_assoc, append-nil, length, length-append, length-drop, take, drop, codes, Option, Some, None, eqb-true, arith}
+use Rattle.std.specs.Prelude.{◌≢◌, ◌-◌, slice_index_or}
 use Rattle.std.specs.Str.{IsAscii, IsUtf8, encode_utf8_all, is_utf8}
 use Rattle.std.proofs.lemmas.Bool.Decides.{nat_tests}
 use Rattle.std.proofs.lemmas.Str.{IsUtf8-from_ascii, IsUtf8-from_is_utf8, is_utf8-from_IsUtf8}
@@ -8,13 +8,13 @@ use Rattle.std.proofs.lemmas.Str.Ascii.{IsAscii-cons, IsAscii-nil}
 use Rattle.std.proofs.Math.Seq.{take-append_seam}
 use borrow.Author.Tests.{ltb-true}
 use Rattle.ufmt_core.specs.Bytes.{closing_parenthesis}
-use Rattle.ufmt_grammar.specs.Leaves.{Place, beginning, outside, after_quotes, in_parentheses, in_word, in_address, after_address, is_plain_byte, is_name_byte, is_word_closed, is_address_closed, is_port, past, between, after_backslash, is_outside, place_outside, place_after, begins_quote, begins_with, is_in_word, is_spaced, is_control, is_quote, is_opening, is_ender, is_debug_byte, has_name_bytes, ends_in_colon, IsDebugLeaf}
+use Rattle.ufmt_grammar.specs.Leaves.{Place, beginning, outside, after_quotes, in_parentheses, in_word, in_address, after_address, is_plain_byte, is_name_byte, is_word_closed, is_address_closed, is_port, past, between, after_backslash, is_outside, place_outside, place_after, begins_quote, begins_with, is_in_word, is_spaced, is_control, is_quote, is_debug_byte, has_name_bytes, ends_in_colon, IsDebugLeaf}
 use Rattle.ufmt_grammar.specs.Reading.{choose, leaf_from, after_leaf, last_place, strip}
 use Rattle.ufmt_core.specs.Document.{leaf}
 use Rattle.ufmt_core.specs.Quoted.{IsQuote, IsQuoted, escaped_bytes, quoted}
 use Rattle.ufmt_grammar.specs.ReadingQuoted.{read_quoted}
 use Rattle.ufmt_grammar.proofs.ClassTokens.{tokens_are_debug}
-use Rattle.ufmt_grammar.proofs.DebugLeaves.{StopsLeaf, after_leaf-append, at_beginning, each_quote, kept_alone, some_begun, last_is_outside, leaf_from-append, plain_in_word, step_outside, stopped}
+use Rattle.ufmt_grammar.proofs.DebugLeaves.{StopsLeaf, after_leaf-append, at_beginning, each_quote, kept_alone, some_begun, last_is_outside, leaf_from-append, plain_in_word, stopped}
 use Rattle.ufmt_grammar.proofs.NoStarts.{address_by_port, word_by_end}
 use Rattle.ufmt_grammar.proofs.Parsing.{strip_found}
 use Rattle.ufmt_grammar.proofs.QuotedComplete.{quoted-bytes}
@@ -286,9 +286,11 @@ no_colon_next t rest named passes begins = record {
         × (is_outside (last_place after_quotes (leaf_from after_quotes rest)) ≡ is_outside (last_place outside (leaf_from outside rest)))
     same_from [] none = (refl, refl, refl)
     same_from (c ∷ u) none =
-        let step : place_after after_quotes c u ≡ place_outside c u = rw none refl in
-        (ap (λ o. choose o (λ n. c ∷ leaf_from n u) []) step, ap (λ o. choose o (λ n. after_leaf n u) (c ∷ u)) step,
-        ap (λ o. is_outside (last_place after_quotes (choose o (λ n. c ∷ leaf_from n u) []))) step ∙ alike c u none (place_outside c u))
+        let step : place_after after_quotes c u ≡ place_outside c u = rw none refl in (
+          ap (λ o. choose o (λ n. c ∷ leaf_from n u) []) step,
+          ap (λ o. choose o (λ n. after_leaf n u) (c ∷ u)) step,
+          ap (λ o. is_outside (last_place after_quotes (choose o (λ n. c ∷ leaf_from n u) []))) step ∙ alike c u none (place_outside c u),
+        )
 
     same : (leaf_from after_quotes rest ≡ leaf_from outside rest) × (after_leaf after_quotes rest ≡ after_leaf outside rest)
         × (is_outside (last_place after_quotes (leaf_from after_quotes rest)) ≡ is_outside (last_place outside (leaf_from outside rest)))
@@ -319,9 +321,11 @@ not_started t bare = record { bytes = []; whole = refl; front = (same t bare).0;
         × (is_outside (last_place beginning (leaf_from beginning t)) ≡ is_outside (last_place outside (leaf_from outside t)))
     same [] h = (refl, refl, refl)
     same (c ∷ u) h =
-        let is = step c u h in
-        (ap (λ o. choose o (λ n. c ∷ leaf_from n u) []) is, ap (λ o. choose o (λ n. after_leaf n u) (c ∷ u)) is,
-        ap (λ o. is_outside (last_place beginning (choose o (λ n. c ∷ leaf_from n u) []))) is ∙ ends c u (place_outside c u) refl)
+        let is = step c u h in (
+          ap (λ o. choose o (λ n. c ∷ leaf_from n u) []) is,
+          ap (λ o. choose o (λ n. after_leaf n u) (c ∷ u)) is,
+          ap (λ o. is_outside (last_place beginning (choose o (λ n. c ∷ leaf_from n u) []))) is ∙ ends c u (place_outside c u) refl,
+        )
 
 pub nothing_starts : (t : List ℕ) → length t ≡ 0 → Passes beginning t outside t true
 nothing_starts [] h = not_started [] refl

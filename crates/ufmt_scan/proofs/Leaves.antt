@@ -1,7 +1,7 @@
 -- Which whole texts are leaves and names.
-use Rattle.std.proofs.Common.{List, None, Some, [], ap, append-nil, arith, false, true, refl, subst, sym, ℕ, ◌==◌, ◌∙◌, ◌∷◌, ◌≡◌, ◌++◌, inl, inr, Bool, length}
+use Rattle.std.proofs.Common.{List, None, Some, [], ap, append-nil, arith, false, true, refl, subst, sym, ℕ, ◌==◌, ◌∙◌, ◌∷◌, ◌≡◌, ◌++◌, Bool, length}
 use Rattle.std.proofs.lemmas.Bool.Decides.{nat_tests}
-use Rattle.std.specs.Prelude.{◌↔◌, IsTrue, bytes_eq, codes}
+use Rattle.std.specs.Prelude.{◌↔◌, IsTrue}
 use Rattle.ufmt_grammar.specs.Leaves.{IsDebugLeaf, beginning}
 use Rattle.ufmt_grammar.specs.Reading.{Parse, after_front, front_of, is_whole, read_name, read_symbol}
 use Rattle.ufmt_grammar.specs.declared.class.Class.{Class}

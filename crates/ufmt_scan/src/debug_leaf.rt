@@ -1,4 +1,5 @@
-//! Leaves of debug documents: words, texts in quotes and `()` in a row.
+//! Leaves of debug documents: words, texts in quotes and `()` in a row, with a word in parentheses or an
+//! address in brackets before them.
 ghost use Rattle.std.specs.Prelude.{◌≡◌, ◌<◌, ◌≤◌, ◌==◌, ◌&&◌, ◌||◌, ◌≢◌, ◌∷◌, [], ℕ, IfSome, IsTrue, MatchOption, None, false, length, nat_le, not, true};
 ghost use Rattle.ufmt_grammar.specs.declared.class.Class.TheVariants.{Debug};
 ghost use Rattle.ufmt_grammar.specs.Leaves.{after_quotes, beginning, begins_quote, begins_with, between, ends_in_colon, is_address_closed, is_control, is_in_word, is_plain_byte, is_quote, is_spaced, is_word_closed, outside, place_outside};
@@ -214,7 +215,11 @@ fn after_closed_address(input: &[u8]) -> Option<&[u8]>
     }
     let rest = strip_piece("]:", after)?;
     let (&byte, _) = rest.split_first()?;
-    if is_plain_byte(byte) { Some(rest) } else { None }
+    if is_plain_byte(byte) {
+        Some(rest)
+    } else {
+        None
+    }
 }
 
 // What follows the bytes of a word, if there are any.

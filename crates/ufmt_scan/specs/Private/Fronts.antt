@@ -2,7 +2,7 @@
 use Rattle.std.specs.Prelude.{◌≡◌, ℕ, ◌==◌, ◌&&◌, ◌||◌, nat_le, Bool, true, false, not, List, [], ◌∷◌, ◌++◌, Option, None, MatchOption, ⊤}
 use Rattle.ufmt_core.specs.Bytes.{colon, opening_bracket, opening_parenthesis}
 use Rattle.ufmt_grammar.specs.declared.class.Class.{Class}
-use Rattle.ufmt_grammar.specs.Leaves.{Place, beginning, outside, between, is_outside, is_address_closed, is_plain_byte, is_word_closed, place_outside, has_name_bytes, is_debug_byte, is_quote}
+use Rattle.ufmt_grammar.specs.Leaves.{Place, beginning, between, is_outside, is_address_closed, is_plain_byte, is_word_closed, place_outside, has_name_bytes, is_debug_byte, is_quote}
 use Rattle.ufmt_grammar.specs.Reading.{front_of, after_front, is_whole, is_name, leaf_from, after_leaf, last_place}
 use Rattle.ufmt_scan.specs.declared.front.Front.{Front}
 

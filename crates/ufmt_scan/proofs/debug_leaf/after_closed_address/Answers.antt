@@ -1,4 +1,4 @@
-use Rattle.std.proofs.Common.{◌≡◌, ◌==◌, ◌∙◌, ap, sym, true, false}
+use Rattle.std.proofs.Common.{◌==◌, ◌∙◌, ap, sym}
 use Rattle.ufmt_scan.proofs.DebugFronts.{address_closed, no_address_here, no_closing, no_port_byte, nothing_after}
 use Rattle.ufmt_scan.proofs.debug_leaf.after_closed_address.Goals as goal
 

@@ -1,4 +1,4 @@
-use Rattle.std.proofs.Common.{◌≡◌, ◌==◌, ◌∙◌, ap, sym, true, false}
+use Rattle.std.proofs.Common.{◌==◌, ◌∙◌, ap, sym}
 use Rattle.ufmt_scan.proofs.DebugFronts.{no_word_here, word_closed, word_unclosed}
 use Rattle.ufmt_scan.proofs.debug_leaf.after_closed_word.Goals as goal
 
