@@ -140,6 +140,18 @@ fn texts_that_rustc_printed_are_read_and_converted(rt: HostRuntime) {
             "S {\n    ..: 1,\n    ..: 2,\n    ..\n}",
         ),
         ("[..]", "[\n    ..,\n]"),
+        ("f()", "f()"),
+        (
+            "[f(), a::b().c(), ()()]",
+            "[\n    f(),\n    a::b().c(),\n    ()(),\n]",
+        ),
+        ("Ok(())", "Ok(\n    (),\n)"),
+        ("S { a: :: }", "S {\n    a: ::,\n}"),
+        ("a { a: : }", "a {\n    a: :,\n}"),
+        (
+            "{fe80::: a:, b:: c}",
+            "{\n    fe80::: a:,\n    b:: c,\n}",
+        ),
     ];
     for (plain, pretty) in rows {
         for (mode, text, other) in [(Mode::Plain, plain, pretty), (Mode::Pretty, pretty, plain)] {
@@ -167,13 +179,21 @@ fn debug_texts_are_converted_without_memory(rt: HostRuntime) {
 
 #[test]
 fn other_texts_are_no_debug_texts(rt: HostRuntime) {
-    let rows: [&[u8]; 33] = [
+    let rows: [&[u8]; 41] = [
         b"",
         b"a b",
-        b"a:",
+        b"a: b",
         b"a:: b",
-        b"[a:]",
-        b"{a:}",
+        b"[a: b]",
+        b"{a: }",
+        b"\"a\":b",
+        b"\\\"a\"",
+        b"a:(1)",
+        b"a: { b: 1 }",
+        b"S { a:: 1 }",
+        b"f()(1)",
+        b"f(",
+        b"f)",
         b"{a: b, c}",
         b"S { a:1 }",
         b"S { \"a\": 1 }",
@@ -215,23 +235,23 @@ fn other_texts_are_no_debug_texts(rt: HostRuntime) {
     }
 }
 
-// Colons that belong to no leaf are looked at once.
+// Each colon is looked at once.
 #[test]
 fn many_colons_are_read(rt: HostRuntime) {
     let colons = [b':'; 1000];
     same(
         &rt,
         is_text(Class::Debug, Mode::Plain, &colons),
-        false,
+        true,
         "colons",
     );
-    let mut leaf = [b':'; 1001];
-    leaf[1000] = b'1';
+    let mut key = [b':'; 1001];
+    key[1000] = b' ';
     same(
         &rt,
-        is_text(Class::Debug, Mode::Plain, &leaf),
-        true,
-        "an address",
+        is_text(Class::Debug, Mode::Plain, &key),
+        false,
+        "a key",
     );
 }
 

@@ -25,8 +25,6 @@ const PLAIN: &str = "|\n\
     word| \n\
     [|\"a]\n\
     [\"a\", |'b]\n\
-    {1|:}\n\
-    {1: |}\n\
     {1: 2, 3|}\n\
     {1: 2, 3|, 4: 5}\n\
     {1, 2|: 3}\n\
@@ -34,7 +32,6 @@ const PLAIN: &str = "|\n\
     P { |}\n\
     P { |x 1 }\n\
     P { |x:1 }\n\
-    P { x: |}\n\
     P { x: 1|}\n\
     P { x: 1, |}\n\
     P { x: 1, |y }\n\
@@ -43,7 +40,6 @@ const PLAIN: &str = "|\n\
     (1, |)\n\
     (1, 2|,)\n\
     (|,)\n\
-    A(|)\n\
     A(1|,)";
 
 // The same of pretty texts, with `~` for a line feed.
@@ -83,16 +79,24 @@ const PLAIN_TOKENS: &str = "|é]\n\
     [|'ab']\n\
     [1|.5]\n\
     S { |.. }\n\
-    S { a: 1, |.. }";
+    S { a: 1, |.. }\n\
+    {1|:}\n\
+    {1: |}\n\
+    P { x: |}\n\
+    A(|)";
 
 const PLAIN_DEBUG: &str = "é|]\n\
     [1.5, |]\n\
-    [a::b|:]\n\
+    [a::b:|}\n\
     [\"a\\q\"b, |\"c\n\
     [0..5, 'ab'| ]\n\
     S { .. }| \n\
     S { a: 1, |..}\n\
-    S { a: 1, .. }|, ";
+    S { a: 1, .. }|, \n\
+    {1:| }\n\
+    P { |x: }\n\
+    A()|(\n\
+    [\"a\"|:b]";
 
 const PRETTY_TOKENS: &str = "S {~    a: 1,~    |..~}";
 
@@ -126,12 +130,12 @@ fn misplaced(
 #[test]
 fn a_text_is_valid_up_to_the_piece_that_does_not_fit(rt: HostRuntime) {
     for (class, mode, rows, count) in [
-        (Class::Token, Mode::Plain, PLAIN, 39usize),
-        (Class::Debug, Mode::Plain, PLAIN, 39),
+        (Class::Token, Mode::Plain, PLAIN, 35usize),
+        (Class::Debug, Mode::Plain, PLAIN, 35),
         (Class::Token, Mode::Pretty, PRETTY, 28),
         (Class::Debug, Mode::Pretty, PRETTY, 28),
-        (Class::Token, Mode::Plain, PLAIN_TOKENS, 7),
-        (Class::Debug, Mode::Plain, PLAIN_DEBUG, 8),
+        (Class::Token, Mode::Plain, PLAIN_TOKENS, 11),
+        (Class::Debug, Mode::Plain, PLAIN_DEBUG, 12),
         (Class::Token, Mode::Pretty, PRETTY_TOKENS, 1),
         (Class::Debug, Mode::Pretty, PRETTY_DEBUG, 3),
     ] {

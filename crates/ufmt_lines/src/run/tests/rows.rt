@@ -98,7 +98,7 @@ const DEBUG_TEXTS: [(&str, &str); 36] = [
 ];
 
 // Lines that stay as they are.
-const OTHERS: [&[u8]; 38] = [
+const OTHERS: [&[u8]; 45] = [
     b"",
     b" ",
     b"word",
@@ -119,6 +119,13 @@ const OTHERS: [&[u8]; 38] = [
     b"\xff [\"\xff\"]",
     b"\t[1]",
     b"()",
+    b"took f()",
+    b"\"a b\" \"c d\"()",
+    b"[1, 2] ()",
+    b"{\"a\":1}",
+    b"(\\' ( \\' a',)",
+    b"(\\' (\\' a',)",
+    b"[\\' [\\' a']",
     b"{}",
     b"}",
     b") ] }",
@@ -157,7 +164,7 @@ const TAILS: [(&[u8], &[u8]); 13] = [
 ];
 
 // Lines that end with a plain text with backslashes, and the same with the pretty text.
-const ESCAPES: [(&[u8], &[u8]); 18] = [
+const ESCAPES: [(&[u8], &[u8]); 15] = [
     // Of a bracket that a backslash comes after, in quotes.
     (b"[\"\\\"\"]", b"[\n    \"\\\"\",\n]"),
     (b"a [\"\\\"\"]", b"a [\n    \"\\\"\",\n]"),
@@ -179,7 +186,10 @@ const ESCAPES: [(&[u8], &[u8]); 18] = [
     (b"\\ [\"\\\"\", 'x']", b"\\ [\n    \"\\\"\",\n    'x',\n]"),
     // The first bracket that may be the one begins no text.
     (b"(\"\\\" [\"a\"]", b"(\"\\\" [\n    \"a\",\n]"),
-    (b"( \\' (\\' a',)", b"( \\' (\n    \\' a',\n)"),
+    (
+        b"( \\\" (\"\\\" a\",)",
+        b"( \\\" (\n    \"\\\" a\",\n)",
+    ),
     (
         b"b [c \"\\\"\" d, ['\"', \"\\\\\"]",
         b"b [c \"\\\"\" d, [\n    '\"',\n    \"\\\\\",\n]",
@@ -188,11 +198,6 @@ const ESCAPES: [(&[u8], &[u8]); 18] = [
         b"M { a: '\\'', M { a: \"\\\"\", .. }",
         b"M { a: '\\'', M {\n    a: \"\\\"\",\n    ..\n}",
     ),
-    // The second one begins no text.
-    (b"(\\' ( \\' a',)", b"(\n    \\' ( \\' a',\n)"),
-    // Both do.
-    (b"(\\' (\\' a',)", b"(\n    \\' (\\' a',\n)"),
-    (b"[\\' [\\' a']", b"[\n    \\' [\\' a',\n]"),
 ];
 
 // Groups of lines that end with a pretty text, and the same with the plain text.
