@@ -36,7 +36,6 @@ const PLAIN: &str = "|\n\
     P { x: 1, |}\n\
     P { x: 1, |y }\n\
     P { x: [1], |: 2 }\n\
-    (1|)\n\
     (1, |)\n\
     (1, 2|,)\n\
     (|,)\n\
@@ -83,7 +82,8 @@ const PLAIN_TOKENS: &str = "|é]\n\
     {1|:}\n\
     {1: |}\n\
     P { x: |}\n\
-    A(|)";
+    A(|)\n\
+    (1|)";
 
 const PLAIN_DEBUG: &str = "é|]\n\
     [1.5, |]\n\
@@ -96,7 +96,9 @@ const PLAIN_DEBUG: &str = "é|]\n\
     {1:| }\n\
     P { |x: }\n\
     A()|(\n\
-    [\"a\"|:b]";
+    [\"a\"|:b]\n\
+    (1)|(\n\
+    [1]|:";
 
 const PRETTY_TOKENS: &str = "S {~    a: 1,~    |..~}";
 
@@ -130,12 +132,12 @@ fn misplaced(
 #[test]
 fn a_text_is_valid_up_to_the_piece_that_does_not_fit(rt: HostRuntime) {
     for (class, mode, rows, count) in [
-        (Class::Token, Mode::Plain, PLAIN, 35usize),
-        (Class::Debug, Mode::Plain, PLAIN, 35),
+        (Class::Token, Mode::Plain, PLAIN, 34usize),
+        (Class::Debug, Mode::Plain, PLAIN, 34),
         (Class::Token, Mode::Pretty, PRETTY, 28),
         (Class::Debug, Mode::Pretty, PRETTY, 28),
-        (Class::Token, Mode::Plain, PLAIN_TOKENS, 11),
-        (Class::Debug, Mode::Plain, PLAIN_DEBUG, 12),
+        (Class::Token, Mode::Plain, PLAIN_TOKENS, 12),
+        (Class::Debug, Mode::Plain, PLAIN_DEBUG, 14),
         (Class::Token, Mode::Pretty, PRETTY_TOKENS, 1),
         (Class::Debug, Mode::Pretty, PRETTY_DEBUG, 3),
     ] {
