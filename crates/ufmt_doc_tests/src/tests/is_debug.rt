@@ -109,7 +109,11 @@ const DOCUMENTS: [(&str, Shape<'static>, bool); 48] = [
     ("two words in parentheses", Leaf("(a)(b)"), false),
     ("an address with a port", Leaf("[::1]:80"), true),
     ("an address without a port", Leaf("[::1]:"), false),
-    ("a word in parentheses as a name", StructOf("(a)", &[]), false),
+    (
+        "a word in parentheses as a name",
+        StructOf("(a)", &[]),
+        false,
+    ),
     ("a colon after a closing quote", Leaf("\"a\":b"), false),
     (
         "a backslash before a quote, outside of quotes",

@@ -153,10 +153,7 @@ fn texts_that_rustc_printed_are_read_and_converted(rt: HostRuntime) {
         ),
         ("S { a: :: }", "S {\n    a: ::,\n}"),
         ("a { a: : }", "a {\n    a: :,\n}"),
-        (
-            "{fe80::: a:, b:: c}",
-            "{\n    fe80::: a:,\n    b:: c,\n}",
-        ),
+        ("{fe80::: a:, b:: c}", "{\n    fe80::: a:,\n    b:: c,\n}"),
     ];
     for (plain, pretty) in rows {
         for (mode, text, other) in [(Mode::Plain, plain, pretty), (Mode::Pretty, pretty, plain)] {
