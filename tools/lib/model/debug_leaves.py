@@ -42,10 +42,15 @@ def letter_of(word, in_quotes, colons):
     return "p" if word.isascii() else "u"
 
 
-def shape(leaf):
+def pieces(leaf):
+    """The pieces of a leaf after its start."""
     start = START.match(leaf)
-    letter = "" if start is None else "W" if leaf[0] == "(" else "A"
-    return letter + "".join(letter_of(*found.groups()) for found in PIECE.finditer(leaf, start.end() if start else 0))
+    return list(PIECE.finditer(leaf, start.end() if start else 0))
+
+
+def shape(leaf):
+    letter = "" if START.match(leaf) is None else "W" if leaf[0] == "(" else "A"
+    return letter + "".join(letter_of(*found.groups()) for found in pieces(leaf))
 
 
 def is_shape(letters):
