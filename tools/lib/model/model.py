@@ -150,7 +150,7 @@ def unquoted(leaf):
     return ESCAPE.sub(decoded, leaf[1:-1])
 
 
-# ---- The leaves of each class. A call returns a leaf and where it ends, or None.
+# ---- The leaves of each class. A call returns a leaf and where it ends, or None, or False.
 
 # A byte that isn't UTF-8, as `surrogateescape` decodes it.
 NO_UTF8 = re.compile("[\ud800-\udfff]")
@@ -195,16 +195,17 @@ START = re.compile(r"\(" + ANY_BYTE + r"+\)|\[" + NAME_BYTE + r"+\]:(?=" + PLAIN
 
 
 def debug_leaf_at(text, at):
-    """The start, and all pieces that come in a row. Quotes that nothing closes are no leaf, nor is what comes before them."""
+    """The start, and all pieces that come in a row. Quotes that nothing closes are no leaf, nor is what comes before them. False
+    says so, and that no block begins here either."""
     started = START.match(text, at)
     end = started.end() if started else at
     found = PIECE.match(text, end)
     while found:
         end = found.end()
         found = PIECE.match(text, end)
-    if end == at or text.startswith(('"', "'"), end) or NO_UTF8.search(text, at, end):
-        return None
-    return text[at:end], end
+    if text.startswith(('"', "'"), end) or NO_UTF8.search(text, at, end):
+        return False
+    return (text[at:end], end) if end > at else None
 
 
 def is_debug_name(leaf):
@@ -250,7 +251,10 @@ class Reader:
         return at
 
     def document_at(self, text, at, depth):
-        found = self.text_class.leaf_at(text, at) or empty_at(text, at)
+        found = self.text_class.leaf_at(text, at)
+        if found is False:
+            return None
+        found = found or empty_at(text, at)
         name = ""
         if found is not None:
             document, end = found

@@ -1,4 +1,4 @@
-use Rattle.std.proofs.Common.{arith, codes, inl, refl}
+use Rattle.std.proofs.Common.{arith, codes, refl}
 use Rattle.std.proofs.lemmas.Str.{is_utf8-from_IsUtf8}
 use Rattle.ufmt.specs.Leaves.{outside}
 use Rattle.ufmt_parse.proofs.core_impls.ranges.RangeFulluParse.parse_from.Goals as goal
@@ -9,11 +9,11 @@ unfolding lib.Utf8.encode
 returns-then-eats-clause-taken g c = (
   c.if-eats.ensures.eats,
   (
-    inl (record {
+    record {
       some = λ none. absurd (cc);
       pieces = (outside, refl, (outside, refl, refl));
       utf8 = is_utf8-from_IsUtf8 (codes "..") (codes "..", (refl, refl));
-    }),
+    },
     omega (arith, c.eats.ensures.counted),
   ),
 )
