@@ -9,6 +9,7 @@ use Rattle.std.proofs.lemmas.Str.Ascii.{IsAscii-cons, IsAscii-nil}
 use Rattle.ufmt_core.specs.Decimal.{decimal_byte, sign_of}
 use Rattle.ufmt.specs.FixedPoint.{fixed, fixed_digits, point_and}
 use Rattle.ufmt_grammar.specs.Leaves.{EndsLeaf, IsDebugLeaf, outside}
+use Rattle.ufmt_grammar.proofs.DebugLeaves.{from_beginning}
 use Rattle.ufmt_grammar.proofs.ClassTokens.{IsPlainByte, plain_byte_in_word, word_byte_is_plain}
 use Rattle.ufmt.proofs.FixedPoint.{fixed-denotes}
 use Rattle.ufmt_grammar.proofs.NumbersAreWords.{decimal_byte_is_word}
@@ -28,7 +29,7 @@ plain_is_ascii (c ∷ text) plain = IsAscii-cons c text plain.0.ascii (plain_is_
 plain_is_text : (c : ℕ) (text : List ℕ) → ArePlain (c ∷ text) → IsDebugLeaf (c ∷ text)
 plain_is_text c text plain = record {
   some = λ none. absurd (cc);
-  pieces = plain_ends (c ∷ text) plain;
+  pieces = from_beginning (c ∷ text) (plain_ends (c ∷ text) plain);
   utf8 = is_utf8-from_IsUtf8 (c ∷ text) (IsUtf8-from_ascii (c ∷ text) (plain_is_ascii (c ∷ text) plain));
 }
 

@@ -1,5 +1,6 @@
 -- Names and leaves of each class: how they begin, that each is read, and that only they are read as names and leaves.
 use Rattle.std.proofs.Common.{◌≡◌, ◌≢◌, ◌⊎◌, inl, inr, refl, ap, sym, ◌∙◌, subst, ℕ, ◌==◌, ◌&&◌, not, Bool, true, false, cond, List, [], ◌∷◌, ◌++◌, Option, Some, None, codes, append_assoc, eqb-true, arith}
+use Rattle.std.specs.Prelude.{⊤}
 use Rattle.std.specs.Str.{is_utf8}
 use Rattle.std.proofs.lemmas.Str.{IsUtf8-from_ascii, is_utf8-from_IsUtf8}
 use Rattle.std.proofs.lemmas.Str.Ascii.{IsAscii-cons, IsAscii-nil}
@@ -8,14 +9,14 @@ use Rattle.ufmt_core.specs.Document.{Document, leaf}
 use Rattle.ufmt_core.specs.Layout.{inside, brace_space, new_line}
 use Rattle.ufmt_core.specs.Quoted.{IsQuoted, escaped_all}
 use Rattle.ufmt_core.specs.declared.layout.Setting.{Setting}
-use Rattle.ufmt_grammar.specs.Leaves.{Class, Token, Debug, is_word_byte, IsWordOrEmpty, IsWord, IsSymbol, IsFollower, IsDebugFollower, IsDebugLeaf, outside, in_parentheses, is_outside, begins_with, is_spaced, has_name_bytes, ends_in_colon, IsTokenLeaf, IsName, IsLeaf, MayFollow, is_ender}
+use Rattle.ufmt_grammar.specs.Leaves.{Class, Token, Debug, is_word_byte, IsWordOrEmpty, IsWord, IsSymbol, IsFollower, IsDebugFollower, IsDebugLeaf, is_word_closed, is_address_closed, beginning, outside, in_parentheses, is_outside, begins_with, is_spaced, has_name_bytes, ends_in_colon, IsTokenLeaf, IsName, IsLeaf, MayFollow, is_ender}
 use Rattle.ufmt_grammar.specs.Reading.{Parse, choose, strip, strip_only_dots, front_of, after_front, leaf_from, last_place, is_whole, is_name, if_name, read_name, read_symbol, read_without_name, read_named, read_unnamed, read_with, word_of}
 use Rattle.ufmt_grammar.specs.ReadingQuoted.{read_quoted}
 use Rattle.ufmt_grammar.proofs.Parsing.{chosen_from, same_parts, strip_found}
 use Rattle.ufmt_grammar.proofs.QuotedComplete.{read_quoted-complete}
 use Rattle.ufmt_grammar.proofs.QuotedSound.{read_quoted-sound}
 use Rattle.ufmt_grammar.proofs.ReadingWords.{StopsWord, each_closer, each_ender, no_ender, ender_closes, follower_stops, words_whole, word_of_bytes, word_of-append, after_word-append, word_bytes}
-use Rattle.ufmt_grammar.proofs.DebugLeaves.{StopsLeaf, follower_stops_leaf, follower_unspaced, leaf_from-append, after_leaf-append, leaves_whole, last_is_outside, front_ends_leaf, leaf_no_ender}
+use Rattle.ufmt_grammar.proofs.DebugLeaves.{StopsLeaf, follower_stops_leaf, follower_unspaced, leaf_from-append, after_leaf-append, leaves_whole, last_is_outside, front_ends_leaf, leaf_no_ender, some_begun}
 
 -- the text has a first byte, which is no comma and no closing bracket
 pub record Begins (text : List ℕ) : Type 0 where
@@ -144,7 +145,7 @@ stops_at_space Debug u = (refl, refl)
 
 pub fronts_whole : (class : Class) (t : List ℕ) → t ≡ front_of class t ++ after_front class t
 fronts_whole Token t = words_whole t
-fronts_whole Debug t = leaves_whole outside t
+fronts_whole Debug t = leaves_whole beginning t
 
 -- bytes that are the longest front before this text
 pub record IsFront (class : Class) (w u : List ℕ) : Type 0 where
@@ -162,9 +163,9 @@ word_fronts w u h stops = record {
 -- a leaf's bytes, if no colon at its end is before a space
 text_fronts : (w u : List ℕ) → IsDebugLeaf w → StopsLeaf u → (ends_in_colon w ≡ true → is_spaced u ≡ false) → IsFront Debug w u
 text_fronts w u h stops seam = record {
-  front = leaf_from-append outside w u h.pieces stops seam;
-  after = after_leaf-append outside w u h.pieces stops seam;
-  whole = rw (last_is_outside outside w h.pieces, h.utf8) refl;
+  front = leaf_from-append beginning w u (some_begun beginning w h.some) h.pieces stops seam;
+  after = after_leaf-append beginning w u (some_begun beginning w h.some) h.pieces stops seam;
+  whole = rw (last_is_outside beginning w h.pieces, h.utf8) refl;
 }
 
 pub name_fronts : (class : Class) (w u : List ℕ) → IsName class w → Stops class u → IsFront class w u
@@ -201,12 +202,12 @@ front_is Debug t = record {
 }
   where
     front : List ℕ
-    front = leaf_from outside t
+    front = leaf_from beginning t
 
     text : front ≢ [] → is_whole Debug front ≡ true → IsDebugLeaf front
     text some whole =
-        let parts = both (is_outside (last_place outside front)) (is_utf8 front) whole in
-        record { some = some; pieces = front_ends_leaf outside t parts.0; utf8 = parts.1 }
+        let parts = both (is_outside (last_place beginning front)) (is_utf8 front) whole in
+        record { some = some; pieces = front_ends_leaf beginning t parts.0; utf8 = parts.1 }
 
     ends : (b : Bool) → ends_in_colon front ≡ b → not (ends_in_colon front) ≡ true → ends_in_colon front ≡ false
     ends false e h = e
@@ -261,19 +262,29 @@ pub name_leads : (class : Class) (s : Setting) (p : Parse Document) (w t u : Lis
     → read_with class s p ((w ++ t) ++ u) ≡ read_named class s p w (t ++ u)
 name_leads class s p w t u h stops = ap (read_with class s p) (append_assoc w t u) ∙ at_name class s p w (t ++ u) h stops
 
+-- the text after a bracket isn't that of a word in parentheses or an address at a leaf's start
+abbrev pub IsNoAddress : Class → List ℕ → Type 0
+IsNoAddress Token t = ⊤
+IsNoAddress Debug t = is_address_closed t ≡ false
+
+abbrev pub IsNoWord : Class → List ℕ → Type 0
+IsNoWord Token t = ⊤
+IsNoWord Debug t = is_word_closed t ≡ false
+
 -- a text that begins with an opening bracket begins with no name
-pub at_bracket : (class : Class) (s : Setting) (p : Parse Document) (u : List ℕ) → read_with class s p (opening_bracket ∷ u) ≡ read_without_name class s p (opening_bracket ∷ u)
-at_bracket Token s p u = refl
-at_bracket Debug s p u = refl
+pub at_bracket : (class : Class) (s : Setting) (p : Parse Document) (u : List ℕ) → IsNoAddress class u
+    → read_with class s p (opening_bracket ∷ u) ≡ read_without_name class s p (opening_bracket ∷ u)
+at_bracket Token s p u none = refl
+at_bracket Debug s p u none = rw none refl
 
 pub at_brace : (class : Class) (s : Setting) (p : Parse Document) (u : List ℕ) → read_with class s p (opening_brace ∷ u) ≡ read_without_name class s p (opening_brace ∷ u)
 at_brace Token s p u = refl
 at_brace Debug s p u = refl
 
-pub at_parenthesis : (class : Class) (s : Setting) (p : Parse Document) (u : List ℕ) → Begins u
+pub at_parenthesis : (class : Class) (s : Setting) (p : Parse Document) (u : List ℕ) → Begins u → IsNoWord class u
     → read_with class s p (opening_parenthesis ∷ u) ≡ read_without_name class s p (opening_parenthesis ∷ u)
-at_parenthesis Token s p u begins = refl
-at_parenthesis Debug s p u begins = rw (begins_no begins closing_parenthesis refl) refl
+at_parenthesis Token s p u begins none = refl
+at_parenthesis Debug s p u begins none = rw (none, begins_no begins closing_parenthesis refl) refl
 
 -- a name before what may follow is read as a leaf
 only_name : (class : Class) (s : Setting) (p : Parse Document) (w u : List ℕ) → w ≢ [] → MayFollow class u → read_named class s p w u ≡ Some (leaf w, u)

@@ -4,7 +4,7 @@ use Rattle.std.proofs.lemmas.Bool.{false≢true}
 use Rattle.ufmt_core.specs.Document.{Document, leaf, joined, list_of, set_of, map_of, struct_of, non_exhaustive_of, tuple_of, pretty_part, Documents, no_documents, first_document, Pairs, no_pairs, first_pair, Fields, no_fields, first_field}
 use Rattle.ufmt_core.specs.Shift.{IsOneLine, HasNoLineFeed, HaveNoLineFeed, PairsHaveNoLineFeed, FieldsHaveNoLineFeed}
 use Rattle.ufmt_grammar.specs.Token.{Class, Token, Debug, is_word_byte, IsWordOrEmpty, IsWord, IsTokenLeaf, OrEmpty, IsName, IsLeaf, IsBuilt, AreBuilt, PairsAreBuilt, FieldsAreBuilt}
-use Rattle.ufmt_grammar.specs.Leaves.{Place, outside, after_quotes, in_parentheses, between, after_backslash, place_after, EndsLeaf}
+use Rattle.ufmt_grammar.specs.Leaves.{Place, beginning, outside, after_quotes, in_parentheses, in_word, in_address, after_address, between, after_backslash, place_after, EndsLeaf}
 use Rattle.ufmt_grammar.proofs.QuotedLines.{quoted_is_one_line}
 
 is_word_byte-line_feed : (c : ℕ) → is_word_byte c ≡ true → c ≢ 10
@@ -28,9 +28,13 @@ leaf_byte_no_line_feed : (place : Place) (c : ℕ) (t : List ℕ) (next : Place)
 leaf_byte_no_line_feed place c t next h = λ e. none place (subst (λ b. place_after place b t ≡ Some next) e h)
   where
     none : (place : Place) → place_after place 10 t ≡ Some next → ⊥
+    none beginning k = absurd (cc)
     none outside k = absurd (cc)
     none after_quotes k = absurd (cc)
     none in_parentheses k = absurd (cc)
+    none in_word k = absurd (cc)
+    none in_address k = absurd (cc)
+    none after_address k = absurd (cc)
     none (between quote) k = absurd (cc)
     none (after_backslash quote) k = absurd (cc)
 
@@ -40,7 +44,7 @@ EndsLeaf-IsOneLine place (c ∷ text) h = (leaf_byte_no_line_feed place c text h
 
 name_line : (class : Class) (name : List ℕ) → IsName class name → IsOneLine name
 name_line Token name h = IsWord-IsOneLine name h
-name_line Debug name h = EndsLeaf-IsOneLine outside name h.whole.pieces
+name_line Debug name h = EndsLeaf-IsOneLine beginning name h.whole.pieces
 
 tuple_name_line : (class : Class) (name : List ℕ) → OrEmpty (IsName class) name → IsOneLine name
 tuple_name_line class [] h = tt
@@ -48,7 +52,7 @@ tuple_name_line class (c ∷ name) h = name_line class (c ∷ name) h
 
 leaf_line : (class : Class) (text : List ℕ) → IsLeaf class text → IsOneLine text
 leaf_line Token text h = IsTokenLeaf-IsOneLine text h
-leaf_line Debug text h = EndsLeaf-IsOneLine outside text h.pieces
+leaf_line Debug text h = EndsLeaf-IsOneLine beginning text h.pieces
 
 module _ (class : Class) where
   mutual

@@ -11,9 +11,10 @@ use Rattle.ufmt_core.specs.Bytes.{apostrophe, backslash, closing_brace, colon, o
 use Rattle.ufmt_core.specs.Quoted.{IsQuote, escaped_byte, escaped_bytes, hex_digits, quoted}
 use Rattle.ufmt_core.specs.Document.{Document, leaf, joined, list_of, set_of, map_of, struct_of, non_exhaustive_of, tuple_of, pretty_part, Documents, no_documents, first_document, Pairs, no_pairs, first_pair, Fields, no_fields, first_field}
 use Rattle.ufmt_grammar.specs.Token.{Token, Debug, IsWord, IsWordOrEmpty, OrEmpty, IsName, IsLeaf, IsBuilt, AreBuilt, PairsAreBuilt, FieldsAreBuilt}
-use Rattle.ufmt_grammar.specs.Leaves.{is_word_byte, is_debug_byte, is_control, is_in_word, has_name_bytes, ends_in_colon, outside, after_quotes, between, after_backslash, place_after, EndsLeaf, IsSymbol, IsTokenLeaf, IsDebugLeaf, IsDebugWord}
+use Rattle.ufmt_grammar.specs.Leaves.{is_word_byte, is_debug_byte, is_control, is_in_word, has_name_bytes, ends_in_colon, beginning, outside, after_quotes, between, after_backslash, place_after, EndsLeaf, IsSymbol, IsTokenLeaf, IsDebugLeaf, IsDebugWord}
 use Rattle.ufmt_grammar.specs.ReadingLaws.{TokensAreDebug}
 use Rattle.ufmt_grammar.proofs.ClassLeaves.{unit_leaf}
+use Rattle.ufmt_grammar.proofs.DebugLeaves.{from_beginning}
 use Rattle.ufmt_grammar.proofs.QuotedComplete.{quoted-bytes}
 use Rattle.ufmt_grammar.proofs.QuotedDecoded.{each_row}
 use Rattle.ufmt_grammar.proofs.QuotedUtf8.{quoted-utf8}
@@ -72,7 +73,7 @@ word_is_ascii (c ∷ w) h = IsAscii-cons c w (word_byte_is_plain c h.0).ascii (w
 word_is_text : (w : List ℕ) → IsWord w → IsDebugLeaf w
 word_is_text w h = record {
   some = λ none. absurd (subst IsWord none h);
-  pieces = word_ends w (word_bytes w h);
+  pieces = from_beginning w (word_ends w (word_bytes w h));
   utf8 = is_utf8-from_IsUtf8 w (IsUtf8-from_ascii w (word_is_ascii w (word_bytes w h)));
 }
 
@@ -148,7 +149,7 @@ module _ (q : ℕ) (quote : IsQuote q) where
   quoted_is_text : (cs : List ℕ) → all_scalars cs ≡ true → IsDebugLeaf (quoted q cs)
   quoted_is_text cs scalars = record {
     some = λ none. absurd (cc);
-    pieces = subst (EndsLeaf outside) (sym (quoted-bytes q cs quote)) (between q, of_quote (λ c. place_after outside c (escaped_bytes q bytes ++ (q ∷ [])) ≡ Some (between c)) refl refl, bytes_inside bytes);
+    pieces = subst (EndsLeaf beginning) (sym (quoted-bytes q cs quote)) (between q, of_quote (λ c. place_after beginning c (escaped_bytes q bytes ++ (q ∷ [])) ≡ Some (between c)) refl refl, bytes_inside bytes);
     utf8 = is_utf8-from_IsUtf8 (quoted q cs) (subst IsUtf8 (sym (quoted-bytes q cs quote)) ((quoted-utf8 q quote bytes).1 (cs, (scalars, refl))));
   }
     where

@@ -1,9 +1,9 @@
 -- Leaves of debug documents: what follows a leaf doesn't change where it ends, and only leaves are found at the front of a text.
-use Rattle.std.proofs.Common.{◌≡◌, ◌⊎◌, inl, inr, refl, ap, sym, subst, ◌∙◌, ℕ, ◌==◌, ◌||◌, ◌&&◌, not, Bool, true, false, cond, List, [], ◌∷◌, ◌++◌, Option, Some, None, eqb-true, arith}
+use Rattle.std.proofs.Common.{◌≡◌, ◌⊎◌, inl, inr, refl, ap, sym, subst, ◌∙◌, ◌≢◌, ℕ, nat_le, ◌==◌, ◌||◌, ◌&&◌, not, Bool, true, false, cond, List, [], ◌∷◌, ◌++◌, Option, Some, None, eqb-true, arith}
 use Rattle.std.specs.Prelude.{⊤}
 use Rattle.std.proofs.lemmas.Bool.Decides.{nat_tests}
-use Rattle.ufmt_core.specs.Bytes.{apostrophe, backslash, closing_parenthesis, colon, opening_parenthesis, quotation_mark, space}
-use Rattle.ufmt_grammar.specs.Leaves.{is_quote, is_ender, is_debug_byte, begins_with, begins_quote, is_spaced, is_in_word, Place, outside, after_quotes, in_parentheses, between, after_backslash, is_outside, place_outside, place_after, EndsLeaf, ends_in_colon, IsDebugFollower}
+use Rattle.ufmt_core.specs.Bytes.{apostrophe, backslash, closing_bracket, closing_parenthesis, colon, opening_bracket, opening_parenthesis, quotation_mark, space}
+use Rattle.ufmt_grammar.specs.Leaves.{is_control, is_quote, is_ender, is_debug_byte, begins_with, begins_quote, is_spaced, is_in_word, is_plain_byte, is_name_byte, past, is_word_closed, is_port, is_address_closed, Place, beginning, outside, after_quotes, in_parentheses, in_word, in_address, after_address, between, after_backslash, is_outside, place_outside, place_after, EndsLeaf, ends_in_colon, IsDebugFollower}
 use Rattle.ufmt_grammar.specs.Parse.{choose}
 use Rattle.ufmt_grammar.specs.Reading.{leaf_from, after_leaf, last_place}
 use Rattle.ufmt_grammar.proofs.ReadingWords.{each_ender}
@@ -52,6 +52,33 @@ no_space c t next h = go (c == space) refl
     go false e = e
     go true e = let at = subst (λ b. place_outside b t ≡ Some next) (eqb-true c space e) h in absurd (cc)
 
+-- a byte outside of quotes belongs to the leaf at its start too
+pub at_beginning : (c : ℕ) (t : List ℕ) (next : Place) → place_outside c t ≡ Some next → place_after beginning c t ≡ Some next
+at_beginning c t next h = go (c == opening_parenthesis) (c == opening_bracket) refl refl
+  where
+    no_word : (t : List ℕ) → place_outside opening_parenthesis t ≡ Some next → is_word_closed t ≡ false
+    no_word [] e = refl
+    no_word (b ∷ t) e = closes (b == closing_parenthesis) refl e
+      where
+        closes : (same : Bool) → (b == closing_parenthesis) ≡ same → cond same (Some in_parentheses) None ≡ Some next → is_word_closed (b ∷ t) ≡ false
+        closes true is f = rw (eqb-true b closing_parenthesis is) refl
+        closes false is f = absurd (cc)
+
+    go : (parenthesis bracket : Bool) → (c == opening_parenthesis) ≡ parenthesis → (c == opening_bracket) ≡ bracket
+        → cond (parenthesis && is_word_closed t) (Some in_word) (cond (bracket && is_address_closed t) (Some in_address) (place_outside c t)) ≡ Some next
+    go true bracket e f =
+        let is = eqb-true c opening_parenthesis e in
+        let none = no_word t (subst (λ b. place_outside b t ≡ Some next) is h) in
+        let other : bracket ≡ false = sym f ∙ ap (λ b. b == opening_bracket) is in
+        rw (none, other) h
+    go false true e f = let at = subst (λ b. place_outside b t ≡ Some next) (eqb-true c opening_bracket f) h in absurd (cc)
+    go false false e f = h
+
+-- so what is a leaf's rest outside of quotes is a leaf
+pub from_beginning : (w : List ℕ) → EndsLeaf outside w → EndsLeaf beginning w
+from_beginning [] h = refl
+from_beginning (c ∷ w) h = (h.0, at_beginning c w h.0 h.1, h.2)
+
 -- ---- what is read ahead
 
 -- what is looked at after a byte of a leaf, before the place `next`, is the same in the text `u` as in the text `t`
@@ -59,6 +86,8 @@ record SameAhead (c : ℕ) (next : Place) (t u : List ℕ) : Type 0 where
   unspaced : next ≡ outside → (c == colon) ≡ true → is_spaced t ≡ false → is_spaced u ≡ false
   no_quote : begins_quote t ≡ false → begins_quote u ≡ false
   closes : next ≡ in_parentheses → begins_with closing_parenthesis t ≡ true → begins_with closing_parenthesis u ≡ true
+  word : next ≡ in_word → is_word_closed t ≡ true → is_word_closed u ≡ true
+  address : next ≡ in_address → is_address_closed t ≡ true → is_address_closed u ≡ true
 
 word_too : (c : ℕ) (t u : List ℕ) → ((c == colon) ≡ true → is_spaced t ≡ false → is_spaced u ≡ false) → (begins_quote t ≡ false → begins_quote u ≡ false)
     → is_in_word c t ≡ true → is_in_word c u ≡ true
@@ -83,6 +112,20 @@ outside_too c t u next same h = step_outside c u next (go (outside_step c t next
 
 -- a byte of the leaf belongs to it too where the same comes next
 after_too : (place : Place) (c : ℕ) (t u : List ℕ) (next : Place) → SameAhead c next t u → place_after place c t ≡ Some next → place_after place c u ≡ Some next
+after_too beginning c t u next same h = go (c == opening_parenthesis) (is_word_closed t) (c == opening_bracket) (is_address_closed t) refl refl refl refl h
+  where
+    go : (parenthesis word bracket address : Bool) → (c == opening_parenthesis) ≡ parenthesis → is_word_closed t ≡ word → (c == opening_bracket) ≡ bracket → is_address_closed t ≡ address
+        → cond (parenthesis && word) (Some in_word) (cond (bracket && address) (Some in_address) (place_outside c t)) ≡ Some next → place_after beginning c u ≡ Some next
+    go true true bracket address e f g k l =
+        let place : next ≡ in_word = cc in
+        rw (e, same.word place f, place) refl
+    go true false true address e f g k l = let is = eqb-true c opening_parenthesis e in let none = subst (λ b. (b == opening_bracket) ≡ true) is g in absurd (cc)
+    go true false false address e f g k l = at_beginning c u next (outside_too c t u next same l)
+    go false word true true e f g k l =
+        let place : next ≡ in_address = cc in
+        rw (e, g, same.address place k, place) refl
+    go false word true false e f g k l = at_beginning c u next (outside_too c t u next same l)
+    go false word false address e f g k l = at_beginning c u next (outside_too c t u next same l)
 after_too outside c t u next same h = outside_too c t u next same h
 after_too after_quotes c t u next same h = go (c == colon) h
   where
@@ -90,6 +133,9 @@ after_too after_quotes c t u next same h = go (c == colon) h
     go true k = absurd (cc)
     go false k = outside_too c t u next same k
 after_too in_parentheses c t u next same h = h
+after_too in_word c t u next same h = h
+after_too in_address c t u next same h = h
+after_too after_address c t u next same h = h
 after_too (between quote) c t u next same h = h
 after_too (after_backslash quote) c t u next same h = h
 
@@ -115,6 +161,37 @@ follower_unspaced (c ∷ b ∷ u) (inl h) = each_ender (λ d. is_spaced (d ∷ b
 follower_unspaced (c ∷ b ∷ u) (inr (inl h)) = rw h.0 refl
 follower_unspaced (c ∷ b ∷ u) (inr (inr h)) = rw (h.0, h.1) refl
 
+-- what is found past such bytes is found there too if the text is longer
+past_more : (is : ℕ → Bool) (found : List ℕ → Bool) → found [] ≡ false → ((c : ℕ) (t u : List ℕ) → found (c ∷ t) ≡ true → found (c ∷ (t ++ u)) ≡ true)
+    → (w u : List ℕ) → found (past is w) ≡ true → found (past is (w ++ u)) ≡ true
+past_more is found none more [] u h = absurd (cc)
+past_more is found none more (c ∷ w) u h = go (is c) h (λ k. past_more is found none more w u k)
+  where
+    go : (b : Bool) → found (cond b (past is w) (c ∷ w)) ≡ true → (found (past is w) ≡ true → found (past is (w ++ u)) ≡ true) → found (cond b (past is (w ++ u)) (c ∷ (w ++ u))) ≡ true
+    go true k others = others k
+    go false k others = more c w u k
+
+port_more : (c : ℕ) (t u : List ℕ) → is_port (c ∷ t) ≡ true → is_port (c ∷ (t ++ u)) ≡ true
+port_more c [] u h = absurd (cc)
+port_more c (b ∷ []) u h = absurd (cc)
+port_more c (b ∷ d ∷ t) u h = h
+
+both : (a b : Bool) → a && b ≡ true → (a ≡ true) × (b ≡ true)
+both true b h = (refl, h)
+both false b h = absurd (cc)
+
+word_more : (w u : List ℕ) → is_word_closed w ≡ true → is_word_closed (w ++ u) ≡ true
+word_more [] u h = absurd (cc)
+word_more (c ∷ w) u h =
+    let parts = both (is_debug_byte c) (begins_with closing_parenthesis (past is_debug_byte w)) h in
+    rw (parts.0, past_more is_debug_byte (begins_with closing_parenthesis) refl (λ b t v k. k) w u parts.1) refl
+
+address_more : (w u : List ℕ) → is_address_closed w ≡ true → is_address_closed (w ++ u) ≡ true
+address_more [] u h = absurd (cc)
+address_more (c ∷ w) u h =
+    let parts = both (is_name_byte c) (is_port (past is_name_byte w)) h in
+    rw (parts.0, past_more is_name_byte is_port refl port_more w u parts.1) refl
+
 no_quote_next : (u : List ℕ) → StopsLeaf u → begins_quote u ≡ false
 no_quote_next [] stops = refl
 no_quote_next (c ∷ u) stops = stops.1
@@ -125,40 +202,132 @@ same_before c next [] u ends stops seam = record {
   unspaced = λ place is h. seam is;
   no_quote = λ h. no_quote_next u stops;
   closes = λ place h. absurd (cc);
+  word = λ place h. absurd (cc);
+  address = λ place h. absurd (cc);
 }
 same_before c next (b ∷ w) u ends stops seam = record {
   unspaced = λ place is h. let none = no_space b w ends.0 (subst (λ p. place_after p b w ≡ Some ends.0) place ends.1) in rw none refl;
   no_quote = λ h. h;
   closes = λ place h. h;
+  word = λ place h. word_more (b ∷ w) u h;
+  address = λ place h. address_more (b ∷ w) u h;
 }
 
-pub stopped : (place : Place) (u : List ℕ) → is_outside place ≡ true → StopsLeaf u → (leaf_from place u ≡ []) × (after_leaf place u ≡ u)
-stopped place [] h stops = (refl, refl)
-stopped outside (c ∷ u) h stops = rw stops.0 (refl, refl)
-stopped after_quotes (c ∷ u) h stops = go (c == colon) stops.0
+-- the leaf has begun at this place, or it isn't over
+abbrev pub HasBegun : Place → List ℕ → Type 0
+HasBegun beginning [] = ⊥
+HasBegun beginning (c ∷ w) = ⊤
+HasBegun outside w = ⊤
+HasBegun after_quotes w = ⊤
+HasBegun in_parentheses w = ⊤
+HasBegun in_word w = ⊤
+HasBegun in_address w = ⊤
+HasBegun after_address w = ⊤
+HasBegun (between quote) w = ⊤
+HasBegun (after_backslash quote) w = ⊤
+
+pub some_begun : (place : Place) (w : List ℕ) → w ≢ [] → HasBegun place w
+some_begun beginning [] some = absurd (some refl)
+some_begun beginning (c ∷ w) some = tt
+some_begun outside w some = tt
+some_begun after_quotes w some = tt
+some_begun in_parentheses w some = tt
+some_begun in_word w some = tt
+some_begun in_address w some = tt
+some_begun after_address w some = tt
+some_begun (between quote) w some = tt
+some_begun (after_backslash quote) w some = tt
+
+-- after a byte it has
+begun_outside : (c : ℕ) (t : List ℕ) (next : Place) (w : List ℕ) → place_outside c t ≡ Some next → HasBegun next w
+begun_outside c t next w h = go (outside_step c t next h)
+  where
+    go : OutsideStep c t next → HasBegun next w
+    go (inl step) = subst (λ p. HasBegun p w) (sym step.1) tt
+    go (inr (inl step)) = subst (λ p. HasBegun p w) (sym step.1) tt
+    go (inr (inr step)) = subst (λ p. HasBegun p w) (sym step.2) tt
+
+pub begun_after : (place : Place) (c : ℕ) (t : List ℕ) (next : Place) (w : List ℕ) → place_after place c t ≡ Some next → HasBegun next w
+begun_after place c t beginning [] h = absurd (none place h)
+  where
+    at_outside : place_outside c t ≡ Some beginning → ⊥
+    at_outside e = begun_outside c t beginning [] e
+
+    two : (a b : Bool) (x y : Place) → (x ≡ beginning → ⊥) → (y ≡ beginning → ⊥) → cond a (Some x) (cond b (Some y) None) ≡ Some beginning → ⊥
+    two true b x y no_x no_y e = no_x cc
+    two false true x y no_x no_y e = no_y cc
+    two false false x y no_x no_y e = absurd (cc)
+
+    none : (place : Place) → place_after place c t ≡ Some beginning → ⊥
+    none beginning e = start (c == opening_parenthesis && is_word_closed t) (c == opening_bracket && is_address_closed t) e
+      where
+        start : (a b : Bool) → cond a (Some in_word) (cond b (Some in_address) (place_outside c t)) ≡ Some beginning → ⊥
+        start true b f = absurd (cc)
+        start false true f = absurd (cc)
+        start false false f = at_outside f
+    none outside e = at_outside e
+    none after_quotes e = colon_or (c == colon) e
+      where
+        colon_or : (a : Bool) → cond a None (place_outside c t) ≡ Some beginning → ⊥
+        colon_or true f = absurd (cc)
+        colon_or false f = at_outside f
+    none in_parentheses e = two (c == closing_parenthesis) false outside outside (λ k. absurd (cc)) (λ k. absurd (cc)) e
+    none in_word e = two (c == closing_parenthesis) (is_debug_byte c) outside in_word (λ k. absurd (cc)) (λ k. absurd (cc)) e
+    none in_address e = two (c == closing_bracket) (is_name_byte c) after_address in_address (λ k. absurd (cc)) (λ k. absurd (cc)) e
+    none after_address e = two (c == colon) false outside outside (λ k. absurd (cc)) (λ k. absurd (cc)) e
+    none (between quote) e = quoted (is_control c) (c == quote) (c == backslash) e
+      where
+        quoted : (x y z : Bool) → cond x None (cond y (Some after_quotes) (cond z (Some (after_backslash quote)) (Some (between quote)))) ≡ Some beginning → ⊥
+        quoted true y z f = absurd (cc)
+        quoted false true z f = absurd (cc)
+        quoted false false true f = absurd (cc)
+        quoted false false false f = absurd (cc)
+    none (after_backslash quote) e = taken (is_control c || nat_le 128 c) e
+      where
+        taken : (x : Bool) → cond x None (Some (between quote)) ≡ Some beginning → ⊥
+        taken true f = absurd (cc)
+        taken false f = absurd (cc)
+begun_after place c t beginning (b ∷ w) h = tt
+begun_after place c t outside w h = tt
+begun_after place c t after_quotes w h = tt
+begun_after place c t in_parentheses w h = tt
+begun_after place c t in_word w h = tt
+begun_after place c t in_address w h = tt
+begun_after place c t after_address w h = tt
+begun_after place c t (between quote) w h = tt
+begun_after place c t (after_backslash quote) w h = tt
+
+pub stopped : (place : Place) (u : List ℕ) → HasBegun place [] → is_outside place ≡ true → StopsLeaf u → (leaf_from place u ≡ []) × (after_leaf place u ≡ u)
+stopped place [] begun h stops = (refl, refl)
+stopped beginning (c ∷ u) begun h stops = absurd begun
+stopped outside (c ∷ u) begun h stops = rw stops.0 (refl, refl)
+stopped after_quotes (c ∷ u) begun h stops = go (c == colon) stops.0
   where
     go : (ends : Bool) → place_outside c u ≡ None
         → (choose (cond ends None (place_outside c u)) (λ next. c ∷ leaf_from next u) [] ≡ []) × (choose (cond ends None (place_outside c u)) (λ next. after_leaf next u) (c ∷ u) ≡ c ∷ u)
     go true e = (refl, refl)
     go false e = rw e (refl, refl)
-stopped in_parentheses (c ∷ u) h stops = absurd (cc)
-stopped (between quote) (c ∷ u) h stops = absurd (cc)
-stopped (after_backslash quote) (c ∷ u) h stops = absurd (cc)
+stopped in_parentheses (c ∷ u) begun h stops = absurd (cc)
+stopped in_word (c ∷ u) begun h stops = absurd (cc)
+stopped in_address (c ∷ u) begun h stops = absurd (cc)
+stopped after_address (c ∷ u) begun h stops = absurd (cc)
+stopped (between quote) (c ∷ u) begun h stops = absurd (cc)
+stopped (after_backslash quote) (c ∷ u) begun h stops = absurd (cc)
 
 tail_seam : (c : ℕ) (w u : List ℕ) → (ends_in_colon (c ∷ w) ≡ true → is_spaced u ≡ false) → ends_in_colon w ≡ true → is_spaced u ≡ false
 tail_seam c [] u seam = λ h. absurd (cc)
 tail_seam c (b ∷ w) u seam = seam
 
 -- a leaf ends where it did, if no byte of a leaf follows, and no colon at its end is before a space
-pub leaf_from-append : (place : Place) (w u : List ℕ) → EndsLeaf place w → StopsLeaf u → (ends_in_colon w ≡ true → is_spaced u ≡ false) → leaf_from place (w ++ u) ≡ w
-leaf_from-append place [] u h stops seam = (stopped place u h stops).0
-leaf_from-append place (c ∷ w) u h stops seam =
-    rw (after_too place c w (w ++ u) h.0 (same_before c h.0 w u h.2 stops seam) h.1) (ap (λ t. c ∷ t) (leaf_from-append h.0 w u h.2 stops (tail_seam c w u seam)))
+pub leaf_from-append : (place : Place) (w u : List ℕ) → HasBegun place w → EndsLeaf place w → StopsLeaf u → (ends_in_colon w ≡ true → is_spaced u ≡ false) → leaf_from place (w ++ u) ≡ w
+leaf_from-append place [] u begun h stops seam = (stopped place u begun h stops).0
+leaf_from-append place (c ∷ w) u begun h stops seam =
+    rw (after_too place c w (w ++ u) h.0 (same_before c h.0 w u h.2 stops seam) h.1) (ap (λ t. c ∷ t) (leaf_from-append h.0 w u (begun_after place c w h.0 w h.1) h.2 stops (tail_seam c w u seam)))
 
-pub after_leaf-append : (place : Place) (w u : List ℕ) → EndsLeaf place w → StopsLeaf u → (ends_in_colon w ≡ true → is_spaced u ≡ false) → after_leaf place (w ++ u) ≡ u
-after_leaf-append place [] u h stops seam = (stopped place u h stops).1
-after_leaf-append place (c ∷ w) u h stops seam =
-    rw (after_too place c w (w ++ u) h.0 (same_before c h.0 w u h.2 stops seam) h.1) (after_leaf-append h.0 w u h.2 stops (tail_seam c w u seam))
+pub after_leaf-append : (place : Place) (w u : List ℕ) → HasBegun place w → EndsLeaf place w → StopsLeaf u → (ends_in_colon w ≡ true → is_spaced u ≡ false) → after_leaf place (w ++ u) ≡ u
+after_leaf-append place [] u begun h stops seam = (stopped place u begun h stops).1
+after_leaf-append place (c ∷ w) u begun h stops seam =
+    rw (after_too place c w (w ++ u) h.0 (same_before c h.0 w u h.2 stops seam) h.1) (after_leaf-append h.0 w u (begun_after place c w h.0 w h.1) h.2 stops (tail_seam c w u seam))
 
 pub leaves_whole : (place : Place) (t : List ℕ) → t ≡ leaf_from place t ++ after_leaf place t
 leaves_whole place [] = refl
@@ -176,9 +345,71 @@ last_is_outside place (c ∷ w) h = rw h.1 (last_is_outside h.0 w h.2)
 
 -- ---- the leaf at the front of a text
 
+-- the word or the address at its start is closed in the leaf alone too
+name_stays : (c : ℕ) (t : List ℕ) → is_name_byte c ≡ true → place_after in_address c t ≡ Some in_address
+name_stays c t h = let other : (c == closing_bracket) ≡ false = go (c == closing_bracket) refl in rw (h, other) refl
+  where
+    go : (same : Bool) → (c == closing_bracket) ≡ same → (c == closing_bracket) ≡ false
+    go false e = e
+    go true e = let none = subst (λ b. is_name_byte b ≡ true) (eqb-true c closing_bracket e) h in absurd (cc)
+
+word_past_alone : (t : List ℕ) → begins_with closing_parenthesis (past is_debug_byte t) ≡ true → begins_with closing_parenthesis (past is_debug_byte (leaf_from in_word t)) ≡ true
+word_past_alone [] h = absurd (cc)
+word_past_alone (c ∷ t) h = go (is_debug_byte c) refl h (λ k. word_past_alone t k)
+  where
+    go : (word : Bool) → is_debug_byte c ≡ word → begins_with closing_parenthesis (cond word (past is_debug_byte t) (c ∷ t)) ≡ true
+        → (begins_with closing_parenthesis (past is_debug_byte t) ≡ true → begins_with closing_parenthesis (past is_debug_byte (leaf_from in_word t)) ≡ true)
+        → begins_with closing_parenthesis (past is_debug_byte (leaf_from in_word (c ∷ t))) ≡ true
+    go true e k more =
+        let other : (c == closing_parenthesis) ≡ false = grind (arith, nat_tests) in
+        let step : place_after in_word c t ≡ Some in_word = rw (e, other) refl in
+        rw step (rw e (more k))
+    go false e k more = rw (eqb-true c closing_parenthesis k) refl
+
+word_alone : (t : List ℕ) → is_word_closed t ≡ true → is_word_closed (leaf_from in_word t) ≡ true
+word_alone [] h = absurd (cc)
+word_alone (c ∷ t) h =
+    let parts = both (is_debug_byte c) (begins_with closing_parenthesis (past is_debug_byte t)) h in
+    let word = parts.0 in
+    let other : (c == closing_parenthesis) ≡ false = grind (arith, nat_tests) in
+    let step : place_after in_word c t ≡ Some in_word = rw (word, other) refl in
+    rw step (rw (word, word_past_alone t parts.1) refl)
+
+port_alone : (c : ℕ) (t : List ℕ) → is_port (c ∷ t) ≡ true → is_port (past is_name_byte (leaf_from in_address (c ∷ t))) ≡ true
+port_alone c [] h = absurd (cc)
+port_alone c (b ∷ []) h = absurd (cc)
+port_alone c (b ∷ d ∷ t) h =
+    let all = both (c == closing_bracket && b == colon) (is_plain_byte d) h in
+    let parts = both (c == closing_bracket) (b == colon) all.0 in
+    let plain = both (is_debug_byte d) (not (d == backslash)) all.1 in
+    let step : place_outside d t ≡ Some outside = rw (plain_in_word d t plain.0 (no (d == backslash) plain.1)) refl in
+    rw (eqb-true c closing_bracket parts.0, eqb-true b colon parts.1) (ap (λ o. is_port (closing_bracket ∷ colon ∷ choose o (λ n. d ∷ leaf_from n t) [])) step ∙ all.1)
+  where
+    no : (x : Bool) → not x ≡ true → x ≡ false
+    no true k = absurd (cc)
+    no false k = refl
+
+address_past_alone : (t : List ℕ) → is_port (past is_name_byte t) ≡ true → is_port (past is_name_byte (leaf_from in_address t)) ≡ true
+address_past_alone [] h = absurd (cc)
+address_past_alone (c ∷ t) h = go (is_name_byte c) refl h (λ k. address_past_alone t k)
+  where
+    go : (name : Bool) → is_name_byte c ≡ name → is_port (cond name (past is_name_byte t) (c ∷ t)) ≡ true
+        → (is_port (past is_name_byte t) ≡ true → is_port (past is_name_byte (leaf_from in_address t)) ≡ true) → is_port (past is_name_byte (leaf_from in_address (c ∷ t))) ≡ true
+    go true e k more =
+        let step = name_stays c t e in
+        rw step (rw e (more k))
+    go false e k more = port_alone c t k
+
+address_alone : (t : List ℕ) → is_address_closed t ≡ true → is_address_closed (leaf_from in_address t) ≡ true
+address_alone [] h = absurd (cc)
+address_alone (c ∷ t) h =
+    let parts = both (is_name_byte c) (is_port (past is_name_byte t)) h in
+    let step = name_stays c t parts.0 in
+    rw step (rw (parts.0, address_past_alone t parts.1) refl)
+
 -- the same comes next in the leaf alone
 same_alone : (c : ℕ) (next : Place) (t : List ℕ) → SameAhead c next t (leaf_from next t)
-same_alone c next [] = record { unspaced = λ place is h. h; no_quote = λ h. h; closes = λ place h. h }
+same_alone c next [] = record { unspaced = λ place is h. h; no_quote = λ h. h; closes = λ place h. h; word = λ place h. h; address = λ place h. h }
 same_alone c next (b ∷ t) = go (place_after next b t) refl
   where
     none_outside : next ≡ in_parentheses → (b == closing_parenthesis) ≡ true → place_after next b t ≡ None → ⊥
@@ -186,12 +417,26 @@ same_alone c next (b ∷ t) = go (place_after next b t) refl
         let at : place_after in_parentheses b t ≡ None = subst (λ p. place_after p b t ≡ None) place none in
         absurd (cc (at, is))
 
+    word_here : next ≡ in_word → is_word_closed (b ∷ t) ≡ true → is_word_closed (leaf_from next (b ∷ t)) ≡ true
+    word_here place h = subst (λ p. is_word_closed (leaf_from p (b ∷ t)) ≡ true) (sym place) (word_alone (b ∷ t) h)
+
+    address_here : next ≡ in_address → is_address_closed (b ∷ t) ≡ true → is_address_closed (leaf_from next (b ∷ t)) ≡ true
+    address_here place h = subst (λ p. is_address_closed (leaf_from p (b ∷ t)) ≡ true) (sym place) (address_alone (b ∷ t) h)
+
     go : (o : Option Place) → place_after next b t ≡ o → SameAhead c next (b ∷ t) (choose o (λ n. b ∷ leaf_from n t) [])
-    go None e = record { unspaced = λ place is h. refl; no_quote = λ h. refl; closes = λ place h. absurd (none_outside place h e) }
+    go None e = record {
+      unspaced = λ place is h. refl;
+      no_quote = λ h. refl;
+      closes = λ place h. absurd (none_outside place h e);
+      word = λ place h. subst (λ o. is_word_closed (choose o (λ n. b ∷ leaf_from n t) []) ≡ true) e (word_here place h);
+      address = λ place h. subst (λ o. is_address_closed (choose o (λ n. b ∷ leaf_from n t) []) ≡ true) e (address_here place h);
+    }
     go (Some n) e = record {
       unspaced = λ place is h. let none = no_space b t n (subst (λ p. place_after p b t ≡ Some n) place e) in rw none refl;
       no_quote = λ h. h;
       closes = λ place h. h;
+      word = λ place h. subst (λ o. is_word_closed (choose o (λ n. b ∷ leaf_from n t) []) ≡ true) e (word_here place h);
+      address = λ place h. subst (λ o. is_address_closed (choose o (λ n. b ∷ leaf_from n t) []) ≡ true) e (address_here place h);
     }
 
 -- a byte that belongs to the leaf at the front belongs to it without what follows the leaf
@@ -212,9 +457,9 @@ front_ends_leaf place (c ∷ t) h = go (place_after place c t) refl (λ next. fr
         (next, kept, more next (sym (ap (λ o. is_outside (choose o (λ n. last_place n (leaf_from next t)) place)) kept) ∙ h))
 
 -- the first byte of a leaf ends no entry
-pub leaf_no_ender : (c : ℕ) (t : List ℕ) (next : Place) → place_after outside c t ≡ Some next → is_ender c ≡ false
+pub leaf_no_ender : (c : ℕ) (t : List ℕ) (next : Place) → place_after beginning c t ≡ Some next → is_ender c ≡ false
 leaf_no_ender c t next h = go (is_ender c) refl
   where
     go : (b : Bool) → is_ender c ≡ b → is_ender c ≡ false
     go false e = e
-    go true e = let none = each_ender (λ b. place_after outside b t ≡ None) refl refl refl refl c e in absurd (cc)
+    go true e = let none = each_ender (λ b. place_after beginning b t ≡ None) refl refl refl refl c e in absurd (cc)

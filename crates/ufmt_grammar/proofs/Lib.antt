@@ -6,6 +6,7 @@ pub mod ClassTokens
 pub mod DebugLeaves
 pub mod DottedStructs
 pub mod FramesClose
+pub mod NoStarts
 pub mod NormalForms
 pub mod NormalRows
 pub mod NumbersAreWords

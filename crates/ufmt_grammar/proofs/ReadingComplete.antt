@@ -13,6 +13,7 @@ use Rattle.ufmt_grammar.proofs.BlocksComplete.{IsRead, AreRead, NoDotsIn, Strips
 use Rattle.ufmt_grammar.proofs.DottedStructs.{rest_text, rest_text-false, dotted_layout}
 use Rattle.ufmt_grammar.proofs.FramesClose.{Fits, fits_inside, fits_less, ender_begins_none, begins_after, closes, no_colon, name_no_dots, field_no_only_dots, dots_stripped}
 use Rattle.ufmt_core.proofs.ListedDocuments.{listed, documents-listed, listed_pairs, pairs_of-listed_pairs, listed_fields, fields_of-listed_fields}
+use Rattle.ufmt_grammar.proofs.NoStarts.{list_no_address, tuple_no_word, no_entry_no_address}
 use Rattle.ufmt_grammar.proofs.TextsBegin.{document_begins}
 use Rattle.ufmt_grammar.proofs.ClassLeaves.{Begins, Begins-append, name_begins, name_some, name_leaf, leaf_complete, follower_ends_front, stops_at_parenthesis, stops_at_space, colon_follows, read_name_complete, at_bracket, at_brace, at_parenthesis, no_symbol, name_leads}
 
@@ -69,13 +70,13 @@ module _ (class : Class) where
 
   -- a list with entries is read
   list_complete : (s : Setting) (p : Parse Document) (n : ℕ) → ReadsBelow p (inside s) n → Fits s n
-      → (d : Document) (ds : Documents) (u : List ℕ) → IsBuilt class d → AreBuilt class ds → nest (list_of (first_document d ds)) ≤ n
+      → (d : Document) (ds : Documents) (u : List ℕ) → IsBuilt class d → AreBuilt class ds → nest (list_of (first_document d ds)) ≤ n → MayFollow class u
       → read_with class s p (layout s (list_of (first_document d ds)) ++ u) ≡ Some (normal (list_of (first_document d ds)), u)
-  list_complete s p n below fits d ds u h hs less =
+  list_complete s p n below fits d ds u h hs less follows =
       let first : IsRead class p (normal d) (layout (inside s) d) = below.reads d h (omega arith) in
       let more : AreRead class p (listed (normal_all ds)) (texts (inside s) ds) = documents_complete p (inside s) n below ds hs (omega arith) in
       let close = closes class s Brackets (fits_less s 1 n (omega arith) fits) in
-      at_bracket class s p (block_tail (frame s.mode Brackets) s Zero (texts (inside s) (first_document d ds)) ++ u)
+      at_bracket class s p (block_tail (frame s.mode Brackets) s Zero (texts (inside s) (first_document d ds)) ++ u) (list_no_address class s d (texts (inside s) ds) u h follows)
       ∙ rw (ender_begins_none closing_bracket [] refl (entries_begin s first.begins (trail s.mode ++ block_tail (frame s.mode Brackets) s One (texts (inside s) ds)) u))
       (rw (block_complete class p (frame s.mode Brackets) s list_with close (normal d) (listed (normal_all ds))
       (layout (inside s) d) (texts (inside s) ds) u first more)
@@ -198,7 +199,7 @@ module _ (class : Class) where
       let close = closes class s Unnamed (fits_less s 1 n (omega arith) fits) in
       let begins = entries_begin s first.begins (trail s.mode ++ block_tail (frame s.mode Unnamed) s One (texts (inside s) ds)) u in
       at_parenthesis class s p ((new_line (inside s).mode (inside s).depth
-      ++ (layout (inside s) d ++ (trail s.mode ++ block_tail (frame s.mode Unnamed) s One (texts (inside s) ds)))) ++ u) begins
+      ++ (layout (inside s) d ++ (trail s.mode ++ block_tail (frame s.mode Unnamed) s One (texts (inside s) ds)))) ++ u) begins (tuple_no_word class s d (texts (inside s) ds) u h)
       ∙ rw (no_symbol class _ (ender_begins_none closing_parenthesis [] refl begins))
       (rw (block_complete class p (frame s.mode Unnamed) s (tuple_with []) close (normal d) (listed (normal_all ds))
       (layout (inside s) d) (texts (inside s) ds) u first more)
@@ -225,8 +226,8 @@ module _ (class : Class) where
       → IsBuilt class d → nest d ≤ n → MayFollow class u → read_with class s p (layout s d ++ u) ≡ Some (normal d, u)
   read_with_complete s p n below fits (leaf text) u h less follows = leaf_complete class s p text u h follows
   read_with_complete s p n below fits (joined ds) u h less follows = absurd h
-  read_with_complete s p n below fits (list_of no_documents) u h less follows = at_bracket class s p (closing_bracket ∷ u)
-  read_with_complete s p n below fits (list_of (first_document d ds)) u h less follows = list_complete s p n below fits d ds u h.0 h.1 less
+  read_with_complete s p n below fits (list_of no_documents) u h less follows = at_bracket class s p (closing_bracket ∷ u) (no_entry_no_address class u)
+  read_with_complete s p n below fits (list_of (first_document d ds)) u h less follows = list_complete s p n below fits d ds u h.0 h.1 less follows
   read_with_complete s p n below fits (set_of no_documents) u h less follows = at_brace class s p (closing_brace ∷ u)
   read_with_complete s p n below fits (set_of (first_document d ds)) u h less follows = set_complete s p n below fits d ds u h.0 h.1 less
   read_with_complete s p n below fits (map_of no_pairs) u h less follows = at_brace class s p (closing_brace ∷ u)

@@ -129,6 +129,26 @@ debug_calls : map (read_text Debug Plain) (codes "f()" ∷ codes "a::b()?.c()" �
 unfolding read read_rest read_quoted is_utf8 chars lib.Utf8.encode
 debug_calls = refl
 
+-- a word in parentheses, or an address in brackets and a colon, at a leaf's start
+debug_starts : map (read_text Debug Plain) (codes "(Weak)" ∷ codes "[::1]:80" ∷ codes "(a)b::" ∷ codes "[a]:b\"\"" ∷ codes "(a)()" ∷ [])
+    ≡ map (λ text. Some (leaf text)) (codes "(Weak)" ∷ codes "[::1]:80" ∷ codes "(a)b::" ∷ codes "[a]:b\"\"" ∷ codes "(a)()" ∷ [])
+unfolding read read_rest read_quoted is_utf8 chars lib.Utf8.encode
+debug_starts = refl
+
+-- a list, a map whose key is one, and tuples, as before
+debug_no_starts : map (read_text Debug Plain) (codes "[a]" ∷ codes "{[a]: b}" ∷ codes "(a,)" ∷ codes "f(a)" ∷ [])
+    ≡ map Some (list_of (lone (leaf (codes "a"))) ∷ map_of (first_pair (list_of (lone (leaf (codes "a")))) (leaf (codes "b")) no_pairs)
+    ∷ tuple_of (codes "") (lone (leaf (codes "a"))) ∷ tuple_of (codes "f") (lone (leaf (codes "a"))) ∷ [])
+unfolding read read_rest read_quoted is_utf8 chars lib.Utf8.encode
+debug_no_starts = refl
+
+-- such a word or address in another place, with other bytes in it, or with nothing after its colon
+debug_wrong_starts : map (read_text Debug Plain) (codes "a(Weak)()" ∷ codes "(a)(b)" ∷ codes "(a:)" ∷ codes "(a b)" ∷ codes "(\"a\")" ∷ codes "[a]:" ∷ codes "[]:a" ∷ codes "[a]b" ∷ codes "[a]:\"b\""
+    ∷ codes "[a]:(b)" ∷ codes "(a) { b: 1 }" ∷ codes "(a" ∷ [])
+    ≡ replicate 12 None
+unfolding read read_rest read_quoted is_utf8 chars lib.Utf8.encode
+debug_wrong_starts = refl
+
 debug_colons : map (read_text Debug Plain) (codes "S { a: : }" ∷ codes "S { a: :: }" ∷ codes "{a:: b}" ∷ codes "{\"a\": b}" ∷ codes "Ok(())" ∷ [])
     ≡ map Some (struct_of (codes "S") (first_field (codes "a") (leaf (codes ":")) no_fields) ∷ struct_of (codes "S") (first_field (codes "a") (leaf (codes "::")) no_fields)
     ∷ map_of (first_pair (leaf (codes "a:")) (leaf (codes "b")) no_pairs) ∷ map_of (first_pair (leaf (codes "\"a\"")) (leaf (codes "b")) no_pairs)
@@ -138,8 +158,8 @@ debug_colons = refl
 
 -- a name that ends in a colon, or has `()`; a backslash before a quote; a colon after a closing quote; a name before `()`
 debug_no_names : map (read_text Debug Plain) (codes "a: { b: 1 }" ∷ codes "a:(b)" ∷ codes "S { a:: 1 }" ∷ codes "f()(a)" ∷ codes "f() { a: 1 }" ∷ codes "\\\"a\"" ∷ codes "\"a\":b"
-    ∷ codes "\"a\"::b" ∷ codes "'a':" ∷ codes "(a)" ∷ codes "f()a(b)" ∷ [])
-    ≡ replicate 11 None
+    ∷ codes "\"a\"::b" ∷ codes "'a':" ∷ codes "f()a(b)" ∷ [])
+    ≡ replicate 10 None
 unfolding read read_rest read_quoted is_utf8 chars lib.Utf8.encode
 debug_no_names = refl
 

@@ -85,19 +85,55 @@ is_spaced (c ∷ t) = c == space && not (begins_with closing_brace t)
 abbrev pub is_in_word : ℕ → List ℕ → Bool
 is_in_word c t = if c == colon then not (is_spaced t) else is_debug_byte c && not (c == backslash && begins_quote t)
 
--- a place in a leaf: outside of quotes, right after a closing quote, between the parentheses of `()`, between two of these quotes, or there after a backslash
+-- a byte of a word that is in it whatever follows
+abbrev pub is_plain_byte : ℕ → Bool
+is_plain_byte c = is_debug_byte c && not (c == backslash)
+
+-- a byte that a name may have
+abbrev pub is_name_byte : ℕ → Bool
+is_name_byte c = is_debug_byte c || c == colon
+
+-- what is left of a text after the bytes at its front that are such
+abbrev pub past : (ℕ → Bool) → List ℕ → List ℕ
+past is [] = []
+past is (c ∷ t) = if is c then past is t else c ∷ t
+
+-- a word, and then the parenthesis that closes it
+abbrev pub is_word_closed : List ℕ → Bool
+is_word_closed [] = false
+is_word_closed (c ∷ t) = is_debug_byte c && begins_with closing_parenthesis (past is_debug_byte t)
+
+-- the bracket that closes an address, a colon, and the byte of a word
+abbrev pub is_port : List ℕ → Bool
+is_port (c ∷ b ∷ d ∷ t) = c == closing_bracket && b == colon && is_plain_byte d
+is_port t = false
+
+-- bytes of words and colons, and then what closes such an address
+abbrev pub is_address_closed : List ℕ → Bool
+is_address_closed [] = false
+is_address_closed (c ∷ t) = is_name_byte c && is_port (past is_name_byte t)
+
+-- a place in a leaf: before its first byte; outside of quotes; right after a closing quote; between the parentheses of `()`; in a word in parentheses, or an address in brackets, at the leaf's start, and right after these brackets; between two of these quotes, or there after a backslash
 pub data Place : Type 0 where
+  beginning : Place
   outside : Place
   after_quotes : Place
   in_parentheses : Place
+  in_word : Place
+  in_address : Place
+  after_address : Place
   between : ℕ → Place
   after_backslash : ℕ → Place
 
 -- whether a leaf may end at this place
 abbrev pub is_outside : Place → Bool
+is_outside beginning = true
 is_outside outside = true
 is_outside after_quotes = true
 is_outside in_parentheses = false
+is_outside in_word = false
+is_outside in_address = false
+is_outside after_address = false
 is_outside (between quote) = false
 is_outside (after_backslash quote) = false
 
@@ -108,9 +144,14 @@ place_outside c t =
 
 -- the place after a byte of a leaf; None if the byte, with the rest of the text after it, doesn't belong to the leaf. No colon belongs to it right after a closing quote
 abbrev pub place_after : Place → ℕ → List ℕ → Option Place
+place_after beginning c t =
+    if c == opening_parenthesis && is_word_closed t then Some in_word else if c == opening_bracket && is_address_closed t then Some in_address else place_outside c t
 place_after outside c t = place_outside c t
 place_after after_quotes c t = if c == colon then None else place_outside c t
 place_after in_parentheses c t = if c == closing_parenthesis then Some outside else None
+place_after in_word c t = if c == closing_parenthesis then Some outside else if is_debug_byte c then Some in_word else None
+place_after in_address c t = if c == closing_bracket then Some after_address else if is_name_byte c then Some in_address else None
+place_after after_address c t = if c == colon then Some outside else None
 place_after (between quote) c t = if is_control c then None else if c == quote then Some after_quotes else if c == backslash then Some (after_backslash quote) else Some (between quote)
 place_after (after_backslash quote) c t = if is_control c || nat_le 128 c then None else Some (between quote)
 
@@ -119,16 +160,16 @@ abbrev pub EndsLeaf : Place → List ℕ → Type 0
 EndsLeaf place [] = is_outside place ≡ true
 EndsLeaf place (c ∷ t) = (next : Place) × (place_after place c t ≡ Some next) × EndsLeaf next t
 
--- a debug leaf, which can be read again: one or more words, texts in quotes and `()` in a row, in UTF-8
+-- a debug leaf, which can be read again: words, texts in quotes and `()` in a row, in UTF-8; before them there may be a word in parentheses, or an address in brackets and a colon
 pub record IsDebugLeaf (text : List ℕ) : Type 0 where
   pub some : text ≢ []
-  pub pieces : EndsLeaf outside text
+  pub pieces : EndsLeaf beginning text
   pub utf8 : is_utf8 text ≡ true
 
 -- only bytes of words and colons
 abbrev pub has_name_bytes : List ℕ → Bool
 has_name_bytes [] = true
-has_name_bytes (c ∷ t) = (is_debug_byte c || c == colon) && has_name_bytes t
+has_name_bytes (c ∷ t) = is_name_byte c && has_name_bytes t
 
 abbrev pub ends_in_colon : List ℕ → Bool
 ends_in_colon [] = false

@@ -10,7 +10,7 @@ use Rattle.ufmt_core.specs.declared.layout.Kind.TheVariants.{Brackets, Braces, S
 use Rattle.ufmt_core.specs.declared.layout.Count.{Count}
 use Rattle.ufmt_core.specs.declared.layout.Count.TheVariants.{Zero, One}
 use Rattle.ufmt_grammar.specs.ReadingQuoted.{read_quoted}
-use Rattle.ufmt_grammar.specs.Leaves.{Class, Token, Debug, is_word_byte, Place, outside, is_outside, place_after, has_name_bytes, ends_in_colon}
+use Rattle.ufmt_grammar.specs.Leaves.{Class, Token, Debug, is_word_byte, Place, beginning, is_outside, place_after, has_name_bytes, ends_in_colon}
 pub use Rattle.ufmt_grammar.specs.Parse.{Parse, choose, parse_map, strip}
 
 -- the word bytes at the front of a text
@@ -41,17 +41,17 @@ last_place place (c ∷ t) = choose (place_after place c t) (λ next. last_place
 -- the name or the leaf at the front of a text, as long as it may be; of a token document only a word
 abbrev pub front_of : Class → List ℕ → List ℕ
 front_of Token t = word_of t
-front_of Debug t = leaf_from outside t
+front_of Debug t = leaf_from beginning t
 
 -- what follows it
 abbrev pub after_front : Class → List ℕ → List ℕ
 after_front Token t = after_word t
-after_front Debug t = after_leaf outside t
+after_front Debug t = after_leaf beginning t
 
 -- whether these bytes, if there are any, are a leaf: the quotes are closed, and it is UTF-8
 abbrev pub is_whole : Class → List ℕ → Bool
 is_whole Token front = true
-is_whole Debug front = is_outside (last_place outside front) && is_utf8 front
+is_whole Debug front = is_outside (last_place beginning front) && is_utf8 front
 
 -- whether such a leaf is a name
 abbrev pub is_name : Class → List ℕ → Bool

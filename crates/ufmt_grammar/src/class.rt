@@ -9,6 +9,7 @@ pub enum Class {
     Token,
     /// What `{:?}` of most types prints. Words have any bytes but spaces, quotes, brackets, commas and
     /// controls; a colon before a space and a value ends a key. Leaves are words, texts in quotes and
-    /// `()` in a row; names are words that don't end in a colon. A struct may end in `..`.
+    /// `()` in a row, with a word in parentheses before them or an address in brackets and a colon, as
+    /// `(Weak)` and `[::1]:80`. Names are words that don't end in a colon. A struct may end in `..`.
     Debug,
 }

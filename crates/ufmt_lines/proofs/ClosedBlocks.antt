@@ -5,8 +5,8 @@ use Rattle.std.specs.Prelude.{⊤}
 use Rattle.ufmt_grammar.proofs.DottedStructs.{rest_text, rest_text-false, dotted_layout}
 use Rattle.ufmt.specs.Document.{Document, leaf, joined, list_of, set_of, map_of, struct_of, non_exhaustive_of, tuple_of, pretty_part, Documents, no_documents, first_document, Pairs, no_pairs, first_pair, Fields, no_fields, first_field}
 use Rattle.ufmt.specs.Layout.{Frame, frame, brace_space, indentation, inside, line_start, lead, later_lead, lone_comma, new_line, next, ending, trail, layout, block_tail, texts, pair_texts, field_texts}
-use Rattle.ufmt.specs.Leaves.{EndsLeaf, IsDebugLeaf, IsDebugWord, begins_with, begins_quote, has_name_bytes, is_control, is_debug_byte, is_in_word, is_opening, is_quote, is_spaced, place_outside}
-use Rattle.ufmt.specs.Leaves.{Place as LeafPlace, outside as leaf_outside, after_quotes as leaf_after_quotes, in_parentheses as leaf_in_parentheses, between as leaf_between, after_backslash as leaf_after_backslash}
+use Rattle.ufmt.specs.Leaves.{EndsLeaf, IsDebugLeaf, IsDebugWord, begins_with, begins_quote, is_address_closed, is_name_byte, is_word_closed, has_name_bytes, is_control, is_debug_byte, is_in_word, is_opening, is_quote, is_spaced, place_outside}
+use Rattle.ufmt.specs.Leaves.{Place as LeafPlace, beginning as leaf_beginning, in_word as leaf_in_word, in_address as leaf_in_address, after_address as leaf_after_address, outside as leaf_outside, after_quotes as leaf_after_quotes, in_parentheses as leaf_in_parentheses, between as leaf_between, after_backslash as leaf_after_backslash}
 use Rattle.ufmt_grammar.proofs.ClassLeaves.{Begins, Begins-append, begins_no}
 use Rattle.ufmt_grammar.proofs.DebugLeaves.{OutsideStep, outside_step}
 use Rattle.ufmt_grammar.proofs.FramesClose.{begins_after}
@@ -69,17 +69,25 @@ at_word_byte c t h = rw (h.no_quote, h.no_opening, h.no_closing) refl
 
 -- the quotes that a place in a leaf is between
 abbrev pub quotes_of : LeafPlace → Place
+quotes_of leaf_beginning = outside
 quotes_of leaf_outside = outside
 quotes_of leaf_after_quotes = outside
 quotes_of leaf_in_parentheses = outside
+quotes_of leaf_in_word = outside
+quotes_of leaf_in_address = outside
+quotes_of leaf_after_address = outside
 quotes_of (leaf_between quote) = between quote
 quotes_of (leaf_after_backslash quote) = after_backslash quote
 
--- between the parentheses of `()` one bracket more is closed
+-- in parentheses, and in the brackets of an address, one bracket more is closed
 abbrev pub known_at : LeafPlace → ℕ → Closing
+known_at leaf_beginning n = pending n
 known_at leaf_outside n = pending n
 known_at leaf_after_quotes n = pending n
 known_at leaf_in_parentheses n = pending (suc n)
+known_at leaf_in_word n = pending (suc n)
+known_at leaf_in_address n = pending (suc n)
+known_at leaf_after_address n = pending n
 known_at (leaf_between quote) n = pending n
 known_at (leaf_after_backslash quote) n = pending n
 
@@ -95,11 +103,66 @@ outside_through c w t n next h known = go (outside_step c w next h)
 
 -- what is known after a leaf is what was known before it
 pub leaf_through : (place : LeafPlace) (w t : List ℕ) (n : ℕ) → EndsLeaf place w → closing outside t ≡ pending n → closing (quotes_of place) (w ++ t) ≡ known_at place n
+leaf_through leaf_beginning [] t n h known = known
 leaf_through leaf_outside [] t n h known = known
 leaf_through leaf_after_quotes [] t n h known = known
 leaf_through leaf_in_parentheses [] t n h known = absurd (cc)
+leaf_through leaf_in_word [] t n h known = absurd (cc)
+leaf_through leaf_in_address [] t n h known = absurd (cc)
+leaf_through leaf_after_address [] t n h known = absurd (cc)
 leaf_through (leaf_between quote) [] t n h known = absurd (cc)
 leaf_through (leaf_after_backslash quote) [] t n h known = absurd (cc)
+leaf_through leaf_beginning (c ∷ w) t n h known = go (c == 40) (is_word_closed w) (c == 91) (is_address_closed w) refl refl h.1 (leaf_through h.0 w t n h.2 known)
+  where
+    go : (parenthesis word bracket address : Bool) → (c == 40) ≡ parenthesis → (c == 91) ≡ bracket
+        → cond (parenthesis && word) (Some leaf_in_word) (cond (bracket && address) (Some leaf_in_address) (place_outside c w)) ≡ Some h.0
+        → closing (quotes_of h.0) (w ++ t) ≡ known_at h.0 n → closing outside (c ∷ (w ++ t)) ≡ pending n
+    go true true bracket address is other e more =
+        let same : h.0 ≡ leaf_in_word = cc in
+        let inside : closing outside (w ++ t) ≡ pending (suc n) = subst (λ p. closing (quotes_of p) (w ++ t) ≡ known_at p n) same more in
+        rw (eqb-true c 40 is) (ap at_opening inside)
+    go true false true address is other e more = let none = subst (λ b. (b == 91) ≡ true) (eqb-true c 40 is) other in absurd (cc)
+    go true false false address is other e more = outside_through c w t n h.0 e more
+    go false word true true is other e more =
+        let same : h.0 ≡ leaf_in_address = cc in
+        let inside : closing outside (w ++ t) ≡ pending (suc n) = subst (λ p. closing (quotes_of p) (w ++ t) ≡ known_at p n) same more in
+        rw (eqb-true c 91 other) (ap at_opening inside)
+    go false word true false is other e more = outside_through c w t n h.0 e more
+    go false word false address is other e more = outside_through c w t n h.0 e more
+leaf_through leaf_in_word (c ∷ w) t n h known = go (c == 41) (is_debug_byte c) refl refl h.1 (leaf_through h.0 w t n h.2 known)
+  where
+    go : (closes word : Bool) → (c == 41) ≡ closes → is_debug_byte c ≡ word → cond closes (Some leaf_outside) (cond word (Some leaf_in_word) None) ≡ Some h.0
+        → closing (quotes_of h.0) (w ++ t) ≡ known_at h.0 n → closing outside (c ∷ (w ++ t)) ≡ pending (suc n)
+    go true word is other e more =
+        let same : h.0 ≡ leaf_outside = cc in
+        let after : closing outside (w ++ t) ≡ pending n = subst (λ p. closing (quotes_of p) (w ++ t) ≡ known_at p n) same more in
+        rw (eqb-true c 41 is) (ap at_closing after)
+    go false true is other e more =
+        let same : h.0 ≡ leaf_in_word = cc in
+        let after : closing outside (w ++ t) ≡ pending (suc n) = subst (λ p. closing (quotes_of p) (w ++ t) ≡ known_at p n) same more in
+        at_word_byte c (w ++ t) (debug_byte c other) ∙ ap at_plain after
+    go false false is other e more = absurd (cc)
+leaf_through leaf_in_address (c ∷ w) t n h known = go (c == 93) (is_name_byte c) refl refl h.1 (leaf_through h.0 w t n h.2 known)
+  where
+    go : (closes name : Bool) → (c == 93) ≡ closes → is_name_byte c ≡ name → cond closes (Some leaf_after_address) (cond name (Some leaf_in_address) None) ≡ Some h.0
+        → closing (quotes_of h.0) (w ++ t) ≡ known_at h.0 n → closing outside (c ∷ (w ++ t)) ≡ pending (suc n)
+    go true name is other e more =
+        let same : h.0 ≡ leaf_after_address = cc in
+        let after : closing outside (w ++ t) ≡ pending n = subst (λ p. closing (quotes_of p) (w ++ t) ≡ known_at p n) same more in
+        rw (eqb-true c 93 is) (ap at_closing after)
+    go false true is other e more =
+        let same : h.0 ≡ leaf_in_address = cc in
+        let after : closing outside (w ++ t) ≡ pending (suc n) = subst (λ p. closing (quotes_of p) (w ++ t) ≡ known_at p n) same more in
+        at_word_byte c (w ++ t) (name_byte c other) ∙ ap at_plain after
+    go false false is other e more = absurd (cc)
+leaf_through leaf_after_address (c ∷ w) t n h known = go (c == 58) refl h.1 (leaf_through h.0 w t n h.2 known)
+  where
+    go : (colon : Bool) → (c == 58) ≡ colon → cond colon (Some leaf_outside) None ≡ Some h.0 → closing (quotes_of h.0) (w ++ t) ≡ known_at h.0 n → closing outside (c ∷ (w ++ t)) ≡ pending n
+    go true is e more =
+        let same : h.0 ≡ leaf_outside = cc in
+        let after : closing outside (w ++ t) ≡ pending n = subst (λ p. closing (quotes_of p) (w ++ t) ≡ known_at p n) same more in
+        rw (eqb-true c 58 is) (ap at_plain after)
+    go false is e more = absurd (cc)
 leaf_through leaf_outside (c ∷ w) t n h known = outside_through c w t n h.0 h.1 (leaf_through h.0 w t n h.2 known)
 leaf_through leaf_after_quotes (c ∷ w) t n h known = go (c == 58) h.1 (leaf_through h.0 w t n h.2 known)
   where
@@ -150,7 +213,7 @@ no_text : Through []
 no_text n t h = h
 
 text_through : (w : List ℕ) → IsDebugLeaf w → Through w
-text_through w h n t known = leaf_through leaf_outside w t n h.pieces known
+text_through w h n t known = leaf_through leaf_beginning w t n h.pieces known
 
 -- ---- what is around entries
 

@@ -6,9 +6,9 @@ use Rattle.std.proofs.lemmas.List.{drop-drop, drop_all, take-append-drop}
 use Rattle.std.proofs.Math.Seq.{drop-append_seam, take-append_seam}
 use Rattle.std.specs.Prelude.{slice_index_or, ⊤}
 use Rattle.ufmt.specs.Layout.{layout, setting}
-use Rattle.ufmt.specs.Leaves.{EndsLeaf, begins_with, is_control, is_opening, is_outside, is_quote, place_after, place_outside}
-use Rattle.ufmt.specs.Leaves.{Place as LeafPlace, outside as leaf_outside, after_quotes as leaf_after_quotes, in_parentheses as leaf_in_parentheses, between as leaf_between, after_backslash as leaf_after_backslash}
-use Rattle.ufmt_grammar.proofs.DebugLeaves.{OutsideStep, each_quote, outside_step}
+use Rattle.ufmt.specs.Leaves.{EndsLeaf, begins_with, is_address_closed, is_control, is_debug_byte, is_name_byte, is_word_closed, is_opening, is_outside, is_quote, place_after, place_outside}
+use Rattle.ufmt.specs.Leaves.{Place as LeafPlace, beginning as leaf_beginning, in_word as leaf_in_word, in_address as leaf_in_address, after_address as leaf_after_address, outside as leaf_outside, after_quotes as leaf_after_quotes, in_parentheses as leaf_in_parentheses, between as leaf_between, after_backslash as leaf_after_backslash}
+use Rattle.ufmt_grammar.proofs.DebugLeaves.{OutsideStep, begun_after, each_quote, outside_step}
 use Rattle.ufmt_core.specs.declared.layout.Mode.{Mode}
 use Rattle.ufmt_lines.specs.Private.Brackets.{Place, outside, between, after_backslash, Closing, unread, pending, opened, none, ArePlain, EndsInUnit, HasBackslash, IsPending, IsQuotedPending, NoneBefore, SameFrom, IsLastOpening, IsOpeningQuote, NotFrom, OpensAt, at_closing, at_opening, at_plain, closing, ends_closed, gaps, gaps_between, is_closing, is_plain}
 use Rattle.ufmt_scan.specs.Texts.{other_mode}
@@ -16,7 +16,7 @@ use Rattle.ufmt_lines.specs.Readable.{converted}
 use Rattle.ufmt_lines.specs.declared.run.brackets.Found.{Found}
 use Rattle.ufmt_lines.specs.declared.run.brackets.Found.TheVariants.{At, Nowhere, Unclear}
 use Rattle.ufmt_lines.specs.declared.run.brackets.TheConstants.{PLAIN_BYTES}
-use Rattle.ufmt_lines.proofs.ClosedBlocks.{HasBlock, at_opening_byte, document_shape, word_byte}
+use Rattle.ufmt_lines.proofs.ClosedBlocks.{HasBlock, at_opening_byte, debug_byte, document_shape, word_byte}
 use Rattle.ufmt_lines.proofs.LongestTexts.{nothing_is_no_text}
 use Rattle.ufmt_lines.proofs.Tails.{is_converted}
 
@@ -428,87 +428,197 @@ block_from text start h =
       },
     )
 
--- a leaf ends with a closing bracket only if that is `()`
+-- a leaf ends with a closing bracket only if that is `()`, or if it is a word in parentheses
 abbrev IsQuotePlace : LeafPlace → Type 0
+IsQuotePlace leaf_beginning = ⊤
 IsQuotePlace leaf_outside = ⊤
 IsQuotePlace leaf_after_quotes = ⊤
 IsQuotePlace leaf_in_parentheses = ⊤
+IsQuotePlace leaf_in_word = ⊤
+IsQuotePlace leaf_in_address = ⊤
+IsQuotePlace leaf_after_address = ⊤
 IsQuotePlace (leaf_between quote) = is_quote quote ≡ true
 IsQuotePlace (leaf_after_backslash quote) = is_quote quote ≡ true
 
--- a byte of a leaf leads to such a place; it is no closing bracket if the leaf may end after it, but for that of `()`, whose opening one is before it
-record LeafStep (place : LeafPlace) (c : ℕ) (next : LeafPlace) : Type 0 where
+-- a byte of a leaf leads to such a place; it is no closing bracket if the leaf may end after it, but for that of `()` and of a word, whose opening ones are before them
+record LeafStep (place : LeafPlace) (c : ℕ) (t : List ℕ) (next : LeafPlace) : Type 0 where
   pub quotes : IsQuotePlace next
-  pub no_closing : is_outside next ≡ true → is_closing c ≡ true → (place ≡ leaf_in_parentheses) × (c ≡ 41)
+  pub no_closing : is_outside next ≡ true → is_closing c ≡ true → ((place ≡ leaf_in_parentheses) ⊎ (place ≡ leaf_in_word)) × (c ≡ 41)
   pub opens : next ≡ leaf_in_parentheses → c ≡ 40
+  pub word : next ≡ leaf_in_word → ((place ≡ leaf_in_word) × (is_debug_byte c ≡ true)) ⊎ ((place ≡ leaf_beginning) × (c ≡ 40) × (begins_with 41 t ≡ false))
 
-word_step : (place : LeafPlace) (c : ℕ) (t : List ℕ) (next : LeafPlace) → place_outside c t ≡ Some next → LeafStep place c next
+word_step : (place : LeafPlace) (c : ℕ) (t : List ℕ) (next : LeafPlace) → place_outside c t ≡ Some next → LeafStep place c t next
 word_step place c t next e = go (outside_step c t next e)
   where
-    go : OutsideStep c t next → LeafStep place c next
-    go (inl step) = subst (LeafStep place c) (sym step.1) (record { quotes = tt; no_closing = λ is closes. absurd (cc (closes, (word_byte c t step.0).no_closing)); opens = λ is. absurd (cc) })
-    go (inr (inl step)) = subst (LeafStep place c) (sym step.1) (record { quotes = step.0; no_closing = λ is closes. absurd (cc); opens = λ is. absurd (cc) })
-    go (inr (inr step)) = subst (LeafStep place c) (sym step.2) (record { quotes = tt; no_closing = λ is closes. absurd (cc); opens = λ is. step.0 })
+    go : OutsideStep c t next → LeafStep place c t next
+    go (inl step) = subst (LeafStep place c t) (sym step.1) (record { quotes = tt; no_closing = λ is closes. absurd (cc (closes, (word_byte c t step.0).no_closing)); opens = λ is. absurd (cc); word = λ is. absurd (cc) })
+    go (inr (inl step)) = subst (LeafStep place c t) (sym step.1) (record { quotes = step.0; no_closing = λ is closes. absurd (cc); opens = λ is. absurd (cc); word = λ is. absurd (cc) })
+    go (inr (inr step)) = subst (LeafStep place c t) (sym step.2) (record { quotes = tt; no_closing = λ is closes. absurd (cc); opens = λ is. step.0; word = λ is. absurd (cc) })
 
-leaf_step : (place : LeafPlace) (c : ℕ) (t : List ℕ) (next : LeafPlace) → IsQuotePlace place → place_after place c t ≡ Some next → LeafStep place c next
+-- a word that is closed isn't empty
+no_empty_word : (t : List ℕ) → is_word_closed t ≡ true → begins_with 41 t ≡ false
+no_empty_word [] h = refl
+no_empty_word (c ∷ t) h = go (c == 41) refl
+  where
+    go : (same : Bool) → (c == 41) ≡ same → (c == 41) ≡ false
+    go false e = e
+    go true e = let closed = subst (λ b. is_word_closed (b ∷ t) ≡ true) (eqb-true c 41 e) h in absurd (cc)
+
+bytes_no_closing : (c : ℕ) → is_name_byte c ≡ true → is_closing c ≡ false
+bytes_no_closing c h = grind (arith, nat_tests)
+
+leaf_step : (place : LeafPlace) (c : ℕ) (t : List ℕ) (next : LeafPlace) → IsQuotePlace place → place_after place c t ≡ Some next → LeafStep place c t next
+leaf_step leaf_beginning c t next good e = go (c == 40) (is_word_closed t) (c == 91) (is_address_closed t) refl refl e
+  where
+    go : (parenthesis word bracket address : Bool) → (c == 40) ≡ parenthesis → is_word_closed t ≡ word
+        → cond (parenthesis && word) (Some leaf_in_word) (cond (bracket && address) (Some leaf_in_address) (place_outside c t)) ≡ Some next → LeafStep leaf_beginning c t next
+    go true true bracket address is closed f =
+        let same : leaf_in_word ≡ next = cc in
+        subst (LeafStep leaf_beginning c t) same (record { quotes = tt; no_closing = λ outside closes. absurd (cc); opens = λ inside. absurd (cc); word = λ inside. inr (refl, eqb-true c 40 is, no_empty_word t closed) })
+    go true false true true is closed f =
+        let same : leaf_in_address ≡ next = cc in
+        subst (LeafStep leaf_beginning c t) same (record { quotes = tt; no_closing = λ outside closes. absurd (cc); opens = λ inside. absurd (cc); word = λ inside. absurd (cc) })
+    go false word true true is closed f =
+        let same : leaf_in_address ≡ next = cc in
+        subst (LeafStep leaf_beginning c t) same (record { quotes = tt; no_closing = λ outside closes. absurd (cc); opens = λ inside. absurd (cc); word = λ inside. absurd (cc) })
+    go true false true false is closed f = word_step leaf_beginning c t next f
+    go true false false address is closed f = word_step leaf_beginning c t next f
+    go false word true false is closed f = word_step leaf_beginning c t next f
+    go false word false address is closed f = word_step leaf_beginning c t next f
+leaf_step leaf_in_word c t next good e = go (c == 41) (is_debug_byte c) refl refl e
+  where
+    go : (closes word : Bool) → (c == 41) ≡ closes → is_debug_byte c ≡ word → cond closes (Some leaf_outside) (cond word (Some leaf_in_word) None) ≡ Some next → LeafStep leaf_in_word c t next
+    go true word is other f =
+        let same : leaf_outside ≡ next = cc in
+        subst (LeafStep leaf_in_word c t) same (record { quotes = tt; no_closing = λ outside closes. (inr refl, eqb-true c 41 is); opens = λ inside. absurd (cc); word = λ inside. absurd (cc) })
+    go false true is other f =
+        let same : leaf_in_word ≡ next = cc in
+        subst (LeafStep leaf_in_word c t) same (record { quotes = tt; no_closing = λ outside closes. absurd (cc); opens = λ inside. absurd (cc); word = λ inside. inl (refl, other) })
+    go false false is other f = absurd (cc)
+leaf_step leaf_in_address c t next good e = go (c == 93) (is_name_byte c) e
+  where
+    go : (closes name : Bool) → cond closes (Some leaf_after_address) (cond name (Some leaf_in_address) None) ≡ Some next → LeafStep leaf_in_address c t next
+    go true name f =
+        let same : leaf_after_address ≡ next = cc in
+        subst (LeafStep leaf_in_address c t) same (record { quotes = tt; no_closing = λ outside closes. absurd (cc); opens = λ inside. absurd (cc); word = λ inside. absurd (cc) })
+    go false true f =
+        let same : leaf_in_address ≡ next = cc in
+        subst (LeafStep leaf_in_address c t) same (record { quotes = tt; no_closing = λ outside closes. absurd (cc); opens = λ inside. absurd (cc); word = λ inside. absurd (cc) })
+    go false false f = absurd (cc)
+leaf_step leaf_after_address c t next good e = go (c == 58) refl e
+  where
+    go : (colon : Bool) → (c == 58) ≡ colon → cond colon (Some leaf_outside) None ≡ Some next → LeafStep leaf_after_address c t next
+    go true is f =
+        let same : leaf_outside ≡ next = cc in
+        let none : is_closing c ≡ false = subst (λ b. is_closing b ≡ false) (sym (eqb-true c 58 is)) refl in
+        subst (LeafStep leaf_after_address c t) same (record { quotes = tt; no_closing = λ outside closes. absurd (cc (closes, none)); opens = λ inside. absurd (cc); word = λ inside. absurd (cc) })
+    go false is f = absurd (cc)
 leaf_step leaf_outside c t next good e = word_step leaf_outside c t next e
 leaf_step leaf_after_quotes c t next good e = go (c == 58) e
   where
-    go : (colon : Bool) → cond colon None (place_outside c t) ≡ Some next → LeafStep leaf_after_quotes c next
+    go : (colon : Bool) → cond colon None (place_outside c t) ≡ Some next → LeafStep leaf_after_quotes c t next
     go true f = absurd (cc)
     go false f = word_step leaf_after_quotes c t next f
 leaf_step leaf_in_parentheses c t next good e = go (c == 41) refl e
   where
-    go : (closes : Bool) → (c == 41) ≡ closes → cond closes (Some leaf_outside) None ≡ Some next → LeafStep leaf_in_parentheses c next
+    go : (closes : Bool) → (c == 41) ≡ closes → cond closes (Some leaf_outside) None ≡ Some next → LeafStep leaf_in_parentheses c t next
     go true is f =
         let same : leaf_outside ≡ next = cc in
-        subst (LeafStep leaf_in_parentheses c) same (record { quotes = tt; no_closing = λ outside closes. (refl, eqb-true c 41 is); opens = λ inside. absurd (cc) })
+        subst (LeafStep leaf_in_parentheses c t) same (record { quotes = tt; no_closing = λ outside closes. (inl refl, eqb-true c 41 is); opens = λ inside. absurd (cc); word = λ inside. absurd (cc) })
     go false is f = absurd (cc)
 leaf_step (leaf_between quote) c t next good e = go (is_control c) (c == quote) (c == 92) refl e
   where
     go : (control closes escapes : Bool) → (c == quote) ≡ closes
-        → cond control None (cond closes (Some leaf_after_quotes) (cond escapes (Some (leaf_after_backslash quote)) (Some (leaf_between quote)))) ≡ Some next → LeafStep (leaf_between quote) c next
+        → cond control None (cond closes (Some leaf_after_quotes) (cond escapes (Some (leaf_after_backslash quote)) (Some (leaf_between quote)))) ≡ Some next → LeafStep (leaf_between quote) c t next
     go true closes escapes closes_is f = absurd (cc)
     go false true escapes closes_is f =
         let same : leaf_after_quotes ≡ next = cc in
         let quote_is : quote ≡ c = sym (eqb-true c quote closes_is) in
         let none = (quote_byte c (subst (λ q. is_quote q ≡ true) quote_is good)).0 in
-        subst (LeafStep (leaf_between quote) c) same (record { quotes = tt; no_closing = λ is closes. absurd (cc (closes, none)); opens = λ is. absurd (cc) })
+        subst (LeafStep (leaf_between quote) c t) same (record { quotes = tt; no_closing = λ is closes. absurd (cc (closes, none)); opens = λ is. absurd (cc); word = λ is. absurd (cc) })
     go false false true closes_is f =
         let same : leaf_after_backslash quote ≡ next = cc in
-        subst (LeafStep (leaf_between quote) c) same (record { quotes = good; no_closing = λ is. absurd (cc); opens = λ is. absurd (cc) })
+        subst (LeafStep (leaf_between quote) c t) same (record { quotes = good; no_closing = λ is. absurd (cc); opens = λ is. absurd (cc); word = λ is. absurd (cc) })
     go false false false closes_is f =
         let same : leaf_between quote ≡ next = cc in
-        subst (LeafStep (leaf_between quote) c) same (record { quotes = good; no_closing = λ is. absurd (cc); opens = λ is. absurd (cc) })
+        subst (LeafStep (leaf_between quote) c t) same (record { quotes = good; no_closing = λ is. absurd (cc); opens = λ is. absurd (cc); word = λ is. absurd (cc) })
 leaf_step (leaf_after_backslash quote) c t next good e = go (is_control c || nat_le 128 c) e
   where
-    go : (wrong : Bool) → cond wrong None (Some (leaf_between quote)) ≡ Some next → LeafStep (leaf_after_backslash quote) c next
+    go : (wrong : Bool) → cond wrong None (Some (leaf_between quote)) ≡ Some next → LeafStep (leaf_after_backslash quote) c t next
     go true f = absurd (cc)
     go false f =
         let same : leaf_between quote ≡ next = cc in
-        subst (LeafStep (leaf_after_backslash quote) c) same (record { quotes = good; no_closing = λ is. absurd (cc); opens = λ is. absurd (cc) })
+        subst (LeafStep (leaf_after_backslash quote) c t) same (record { quotes = good; no_closing = λ is. absurd (cc); opens = λ is. absurd (cc); word = λ is. absurd (cc) })
 
 -- the closing parenthesis of `()` alone
 abbrev IsUnitEnd : LeafPlace → ℕ → List ℕ → Type 0
 IsUnitEnd place c w = (place ≡ leaf_in_parentheses) × (c ≡ 41) × (w ≡ [])
 
-leaf_end : (place : LeafPlace) (c : ℕ) (w : List ℕ) → IsQuotePlace place → EndsLeaf place (c ∷ w) → ends_closed (c ∷ w) ≡ true → EndsInUnit (c ∷ w) ⊎ IsUnitEnd place c w
+-- a word, perhaps empty, and a closing parenthesis
+abbrev IsWordEnd : ℕ → List ℕ → Type 0
+IsWordEnd c [] = c ≡ 41
+IsWordEnd c (b ∷ w) = (is_debug_byte c ≡ true) × IsWordEnd b w
+
+-- a word in parentheses
+abbrev IsWordLeaf : ℕ → List ℕ → Type 0
+IsWordLeaf c [] = ⊥
+IsWordLeaf c (b ∷ w) = (c ≡ 40) × (begins_with 41 (b ∷ w) ≡ false) × IsWordEnd b w
+
+-- how a leaf ends that a closing bracket ends
+abbrev IsClosedEnd : LeafPlace → ℕ → List ℕ → Type 0
+IsClosedEnd place c w = EndsInUnit (c ∷ w) ⊎ IsUnitEnd place c w ⊎ ((place ≡ leaf_in_word) × IsWordEnd c w) ⊎ ((place ≡ leaf_beginning) × IsWordLeaf c w)
+
+leaf_end : (place : LeafPlace) (c : ℕ) (w : List ℕ) → IsQuotePlace place → EndsLeaf place (c ∷ w) → ends_closed (c ∷ w) ≡ true → IsClosedEnd place c w
 leaf_end place c [] good h closed =
     let step = leaf_step place c [] h.0 good h.1 in
     let is = step.no_closing h.2 closed in
-    inr (is.0, is.1, refl)
+    elim is.0 [ inl unit ↦ inr (inl (unit, is.1, refl)) | inr word ↦ inr (inr (inl (word, is.1))) ]
 leaf_end place c (b ∷ w) good h closed = go (leaf_end h.0 b w step.quotes h.2 closed)
   where
-    step : LeafStep place c h.0
+    step : LeafStep place c (b ∷ w) h.0
     step = leaf_step place c (b ∷ w) h.0 good h.1
 
-    go : EndsInUnit (b ∷ w) ⊎ IsUnitEnd h.0 b w → EndsInUnit (c ∷ b ∷ w) ⊎ IsUnitEnd place c (b ∷ w)
+    go : IsClosedEnd h.0 b w → IsClosedEnd place c (b ∷ w)
     go (inl unit) = inl (c ∷ unit.0, ap (λ t. c ∷ t) unit.1)
-    go (inr end) = inl ([], rw (step.opens end.0, end.1, end.2) refl)
+    go (inr (inl end)) = inl ([], rw (step.opens end.0, end.1, end.2) refl)
+    go (inr (inr (inl end))) = elim (step.word end.0) [ inl more ↦ inr (inr (inl (more.0, (more.1, end.1)))) | inr first ↦ inr (inr (inr (first.0, (first.1, first.2, end.1)))) ]
+    go (inr (inr (inr first))) = absurd (begun_after place c (b ∷ w) leaf_beginning [] (subst (λ p. place_after place c (b ∷ w) ≡ Some p) first.0 h.1))
 
-leaf_ends : (w : List ℕ) → EndsLeaf leaf_outside w → ends_closed w ≡ true → EndsInUnit w
+abbrev IsWordInParentheses : List ℕ → Type 0
+IsWordInParentheses [] = ⊥
+IsWordInParentheses (c ∷ w) = IsWordLeaf c w
+
+leaf_ends : (w : List ℕ) → EndsLeaf leaf_beginning w → ends_closed w ≡ true → EndsInUnit w ⊎ IsWordInParentheses w
 leaf_ends [] h closed = absurd (cc)
-leaf_ends (c ∷ w) h closed = elim (leaf_end leaf_outside c w tt h closed) [ inl unit ↦ unit | inr end ↦ absurd (cc (end.0)) ]
+leaf_ends (c ∷ w) h closed = go (leaf_end leaf_beginning c w tt h closed)
+  where
+    go : IsClosedEnd leaf_beginning c w → EndsInUnit (c ∷ w) ⊎ IsWordInParentheses (c ∷ w)
+    go (inl unit) = inl unit
+    go (inr (inl end)) = absurd (cc (end.0))
+    go (inr (inr (inl end))) = absurd (cc (end.0))
+    go (inr (inr (inr word))) = inr word.1
+
+-- such a word has a block, as a tuple has
+word_end_closes : (c : ℕ) (w : List ℕ) → IsWordEnd c w → (n : ℕ) (t : List ℕ) → at_closing (closing outside t) ≡ pending n → closing outside (c ∷ (w ++ t)) ≡ pending n
+word_end_closes c [] is n t h = rw is h
+word_end_closes c (b ∷ w) is n t h =
+    let byte = debug_byte c is.0 in
+    rw (byte.no_quote, byte.no_opening, byte.no_closing) (ap at_plain (word_end_closes b w is.1 n t h))
+
+word_block : (w : List ℕ) → IsWordInParentheses w → HasBlock w
+word_block [] is = absurd is
+word_block (c ∷ []) is = absurd is
+word_block (c ∷ b ∷ w) is = record {
+  front = [];
+  bracket = c;
+  body = b ∷ w;
+  is = refl;
+  through = λ n t h. h;
+  one_gap = omega arith;
+  opens = subst (λ k. is_opening k ≡ true) (sym is.0) refl;
+  closes = λ n t h. word_end_closes b w is.2 n t h;
+  no_unit = λ opens. is.1;
+}
 
 -- a text ends with `()` if its end does
 pub unit_dropped : (k : ℕ) (text : List ℕ) → EndsInUnit (drop k text) → EndsInUnit text
@@ -523,9 +633,14 @@ converted_shape mode text other h =
     let s = setting (other_mode mode) 0 in
     let to : layout (setting mode 0) d ≡ other = found.each d found.some.1 found.some.2 in
     elim (document_shape (setting mode 0) s d found.some.1.0) [
-      | inl leaf ↦ inl (sym to ∙ leaf.0 ∙ found.some.2, subst (λ t. ends_closed t ≡ true → EndsInUnit t) found.some.2 (leaf_ends (layout s d) leaf.1.pieces))
+      | inl leaf ↦ leaf_shape (sym to ∙ leaf.0 ∙ found.some.2) (ends_closed text) refl (subst (λ t. ends_closed t ≡ true → EndsInUnit t ⊎ IsWordInParentheses t) found.some.2 (leaf_ends (layout s d) leaf.1.pieces))
       | inr block ↦ inr (subst HasBlock found.some.2 block)
     ]
+  where
+    leaf_shape : other ≡ text → (closed : Bool) → ends_closed text ≡ closed → (ends_closed text ≡ true → EndsInUnit text ⊎ IsWordInParentheses text)
+        → ((other ≡ text) × (ends_closed text ≡ true → EndsInUnit text)) ⊎ HasBlock text
+    leaf_shape same false e ends = inl (same, λ closed. absurd (true≢false (sym closed ∙ e)))
+    leaf_shape same true e ends = elim (ends e) [ inl unit ↦ inl (same, λ closed. unit) | inr word ↦ inr (word_block text word) ]
 
 -- what ends with `()` has no block
 unit_past : AllPast (codes "()")

@@ -7,17 +7,17 @@ use Rattle.ufmt_core.specs.Document.{Document, leaf, joined, list_of, set_of, ma
 use Rattle.ufmt_core.specs.Layout.{inside, layout}
 use Rattle.ufmt_core.specs.declared.layout.Setting.{Setting}
 use Rattle.ufmt_grammar.specs.declared.class.Class.TheVariants.{Debug}
-use Rattle.ufmt_grammar.specs.Leaves.{EndsLeaf, IsDebugFollower, IsName, MayFollow, begins_with, ends_in_colon, is_debug_byte, is_ender, is_quote, is_spaced, outside, place_outside}
+use Rattle.ufmt_grammar.specs.Leaves.{EndsLeaf, IsDebugFollower, IsName, MayFollow, beginning, begins_with, ends_in_colon, is_debug_byte, is_ender, is_quote, is_spaced, outside, place_outside}
 use Rattle.ufmt_grammar.specs.Reading.{leaf_from}
 use Rattle.ufmt_grammar.specs.Token.{IsBuilt}
 use Rattle.ufmt_grammar.proofs.ClassLeaves.{Begins, Begins-append, begins_no, name_some}
 use Rattle.ufmt_grammar.proofs.FramesClose.{begins_after}
 use Rattle.ufmt_grammar.proofs.TextsBegin.{document_begins as text_begins}
-use Rattle.ufmt_grammar.proofs.DebugLeaves.{StopsLeaf, follower_unspaced, leaf_from-append}
+use Rattle.ufmt_grammar.proofs.DebugLeaves.{StopsLeaf, follower_unspaced, leaf_from-append, some_begun}
 use Rattle.ufmt_grammar.proofs.ReadingWords.{each_ender}
 use Rattle.ufmt_parser.specs.Naming.{document_name, ends_name, is_debug_name, is_past_name}
 use Rattle.ufmt_parser.specs.Taking.{DoesNotBegin}
-use Rattle.ufmt_parser.proofs.Words.{begins_name, name_ends, name_ends_in_no_colon}
+use Rattle.ufmt_parser.proofs.Words.{begins_name, name_ends, name_ends_in_no_colon, name_is_some}
 
 -- ---- where a name is over
 
@@ -73,7 +73,8 @@ parenthesis_past begins = rw (begins_no begins 41 refl) refl
 pub record IsNamed (name text : List ℕ) : Type 0 where
   pub tail : List ℕ
   pub is : text ≡ name ++ tail
-  pub ends : EndsLeaf outside name
+  pub some : name ≢ []
+  pub ends : EndsLeaf beginning name
   pub past : is_past_name tail ≡ true
   pub seam : ends_in_colon name ≡ true → is_spaced tail ≡ false
 
@@ -95,12 +96,12 @@ pub record IsBracketed (name text : List ℕ) : Type 0 where
   pub no_name : BeginsNoName name
 
 named : (name tail text : List ℕ) → IsName Debug name → text ≡ name ++ tail → is_past_name tail ≡ true → IsNamed name text
-named name tail text is whole past = record { tail = tail; is = whole; ends = is.whole.pieces; past = past; seam = λ colon. absurd (cc (colon, is.ends)) }
+named name tail text is whole past = record { tail = tail; is = whole; some = is.whole.some; ends = is.whole.pieces; past = past; seam = λ colon. absurd (cc (colon, is.ends)) }
 
 -- a document's text begins with its name or with a bracket
 pub document_begins : (s : Setting) (d : Document) (u : List ℕ) → IsBuilt Debug d → MayFollow Debug u
     → IsNamed (document_name d) (layout s d ++ u) ⊎ IsBracketed (document_name d) (layout s d ++ u)
-document_begins s (leaf text) u is may = inl (record { tail = u; is = refl; ends = is.pieces; past = follower_is_past u may; seam = λ colon. follower_unspaced u may })
+document_begins s (leaf text) u is may = inl (record { tail = u; is = refl; some = is.some; ends = is.pieces; past = follower_is_past u may; seam = λ colon. follower_unspaced u may })
 document_begins s (joined ds) u is may = absurd is
 document_begins s (pretty_part d) u is may = absurd is
 document_begins s (list_of ds) u is may = inr (record { bracket = 91; tail = _; is = refl; no_byte = refl; no_name = tt })
@@ -142,9 +143,9 @@ pub name_is_next : (name other text after : List ℕ) → is_debug_name name ≡
 name_is_next name other text after is (inl named) at = go (is_past_name after) refl
   where
     whole : is_past_name after ≡ true → other ≡ name
-    whole past = sym (leaf_from-append outside other named.tail named.ends (past_name_stops named.tail named.past) named.seam)
-        ∙ ap (leaf_from outside) (sym named.is ∙ at)
-        ∙ leaf_from-append outside name after (name_ends name is) (past_name_stops after past) (λ colon. absurd (cc (colon, name_ends_in_no_colon name is)))
+    whole past = sym (leaf_from-append beginning other named.tail (some_begun beginning other named.some) named.ends (past_name_stops named.tail named.past) named.seam)
+        ∙ ap (leaf_from beginning) (sym named.is ∙ at)
+        ∙ leaf_from-append beginning name after (some_begun beginning name (name_is_some name is)) (name_ends name is) (past_name_stops after past) (λ colon. absurd (cc (colon, name_ends_in_no_colon name is)))
 
     longer : is_past_name after ≡ false → other ≢ name
     longer past same =

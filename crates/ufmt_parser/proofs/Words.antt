@@ -1,13 +1,14 @@
 -- Words as leaves of debug documents, and names that pass the test of a name.
-use Rattle.std.proofs.Common.{◌≡◌, refl, ℕ, ◌==◌, ◌||◌, ◌&&◌, not, Bool, true, false, List, [], ◌∷◌, inl, arith}
+use Rattle.std.proofs.Common.{◌≡◌, ◌≢◌, refl, ℕ, ◌==◌, ◌||◌, ◌&&◌, not, Bool, true, false, List, [], ◌∷◌, inl, arith}
 use Rattle.std.proofs.lemmas.Bool.Decides.{nat_tests}
 use Rattle.std.specs.Str.{IsUtf8}
 use Rattle.std.proofs.lemmas.Str.{is_utf8-from_IsUtf8}
 use Rattle.ufmt_core.specs.Document.{leaf}
 use Rattle.ufmt_grammar.specs.declared.class.Class.TheVariants.{Debug}
-use Rattle.ufmt_grammar.specs.Leaves.{EndsLeaf, IsName, IsWord, OrEmpty, begins_quote, ends_in_colon, has_name_bytes, is_debug_byte, is_in_word, is_quote, is_spaced, outside}
+use Rattle.ufmt_grammar.specs.Leaves.{EndsLeaf, IsName, IsWord, OrEmpty, beginning, begins_quote, ends_in_colon, has_name_bytes, is_debug_byte, is_in_word, is_quote, is_spaced, outside}
 use Rattle.ufmt_grammar.specs.Token.{IsBuilt}
 use Rattle.ufmt_grammar.proofs.ClassTokens.{tokens_are_debug}
+use Rattle.ufmt_grammar.proofs.DebugLeaves.{from_beginning}
 use Rattle.ufmt_parser.specs.Naming.{are_debug_names, is_debug_name, is_debug_name_or_empty}
 use Rattle.ufmt_parser.specs.Fields.{AreNames}
 
@@ -62,14 +63,18 @@ bytes_end (c ∷ name) h =
     in_word name named true false e f h = rw (e, f, (next name named).1, and-false (c == 92)) refl
     in_word name named false false e f h = absurd (cc)
 
-pub name_ends : (name : List ℕ) → is_debug_name name ≡ true → EndsLeaf outside name
+pub name_ends : (name : List ℕ) → is_debug_name name ≡ true → EndsLeaf beginning name
 name_ends [] h = refl
-name_ends (c ∷ name) h = bytes_end (c ∷ name) (name_parts (c ∷ name) h).0
+name_ends (c ∷ name) h = from_beginning (c ∷ name) (bytes_end (c ∷ name) (name_parts (c ∷ name) h).0)
+
+pub name_is_some : (name : List ℕ) → is_debug_name name ≡ true → name ≢ []
+name_is_some [] h = absurd (cc)
+name_is_some (c ∷ name) h = λ none. absurd (cc)
 
 pub name_is : (name : List ℕ) → IsUtf8 name → is_debug_name name ≡ true → IsName Debug name
 name_is [] utf8 h = absurd (cc)
 name_is (c ∷ name) utf8 h = record {
-  whole = record { some = λ none. absurd (cc); pieces = bytes_end (c ∷ name) (name_parts (c ∷ name) h).0; utf8 = is_utf8-from_IsUtf8 (c ∷ name) utf8 };
+  whole = record { some = λ none. absurd (cc); pieces = from_beginning (c ∷ name) (bytes_end (c ∷ name) (name_parts (c ∷ name) h).0); utf8 = is_utf8-from_IsUtf8 (c ∷ name) utf8 };
   bytes = (name_parts (c ∷ name) h).0;
   ends = (name_parts (c ∷ name) h).1;
 }

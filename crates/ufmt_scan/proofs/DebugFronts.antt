@@ -1,6 +1,6 @@
 -- Leaves of debug documents, byte by byte: what the scanner passes belongs to the leaf at the front.
-use Rattle.std.proofs.Common.{◌≡◌, inl, inr, refl, ap, sym, subst, ◌∙◌, ℕ, zero, suc, ◌<◌, ◌≤◌, ◌==◌, ◌&&◌, ◌||◌, not, nat_le, nat_lt, Bool, true, false, cond, List, [], ◌∷◌, ◌++◌, append_assoc, append-nil, length, length-append, length-drop, take, drop, Option, Some, None, eq-eqb, eqb-true, arith}
-use Rattle.std.specs.Prelude.{⊤, ◌≢◌, ◌-◌, slice_index_or}
+use Rattle.std.proofs.Common.{◌≡◌, inl, inr, refl, ap, sym, subst, ◌∙◌, ℕ, suc, ◌<◌, ◌≤◌, ◌==◌, ◌&&◌, ◌||◌, not, nat_le, nat_lt, Bool, true, false, cond, List, [], ◌∷◌, ◌++◌, append_assoc, append-nil, length, length-append, length-drop, take, drop, codes, Option, Some, None, eqb-true, arith}
+use Rattle.std.specs.Prelude.{◌≢◌, ◌-◌, slice_index_or}
 use Rattle.std.specs.Str.{IsAscii, IsUtf8, encode_utf8_all, is_utf8}
 use Rattle.std.proofs.lemmas.Bool.Decides.{nat_tests}
 use Rattle.std.proofs.lemmas.Str.{IsUtf8-from_ascii, IsUtf8-from_is_utf8, is_utf8-from_IsUtf8}
@@ -8,21 +8,23 @@ use Rattle.std.proofs.lemmas.Str.Ascii.{IsAscii-cons, IsAscii-nil}
 use Rattle.std.proofs.Math.Seq.{take-append_seam}
 use borrow.Author.Tests.{ltb-true}
 use Rattle.ufmt_core.specs.Bytes.{closing_parenthesis}
-use Rattle.ufmt_grammar.specs.Leaves.{Place, outside, after_quotes, in_parentheses, between, after_backslash, is_outside, place_outside, place_after, begins_quote, begins_with, is_in_word, is_spaced, is_control, is_quote, is_opening, is_ender, is_debug_byte, has_name_bytes, ends_in_colon, IsDebugLeaf}
-use Rattle.ufmt_grammar.specs.Reading.{choose, leaf_from, after_leaf, last_place}
+use Rattle.ufmt_grammar.specs.Leaves.{Place, beginning, outside, after_quotes, in_parentheses, in_word, in_address, after_address, is_plain_byte, is_name_byte, is_word_closed, is_address_closed, is_port, past, between, after_backslash, is_outside, place_outside, place_after, begins_quote, begins_with, is_in_word, is_spaced, is_control, is_quote, is_debug_byte, has_name_bytes, ends_in_colon, IsDebugLeaf}
+use Rattle.ufmt_grammar.specs.Reading.{choose, leaf_from, after_leaf, last_place, strip}
 use Rattle.ufmt_core.specs.Document.{leaf}
 use Rattle.ufmt_core.specs.Quoted.{IsQuote, IsQuoted, escaped_bytes, quoted}
 use Rattle.ufmt_grammar.specs.ReadingQuoted.{read_quoted}
 use Rattle.ufmt_grammar.proofs.ClassTokens.{tokens_are_debug}
-use Rattle.ufmt_grammar.proofs.DebugLeaves.{StopsLeaf, after_leaf-append, each_quote, kept_alone, last_is_outside, leaf_from-append, plain_in_word, step_outside, stopped}
+use Rattle.ufmt_grammar.proofs.DebugLeaves.{StopsLeaf, after_leaf-append, at_beginning, each_quote, kept_alone, some_begun, last_is_outside, leaf_from-append, plain_in_word, stopped}
+use Rattle.ufmt_grammar.proofs.NoStarts.{address_by_port, word_by_end}
+use Rattle.ufmt_grammar.proofs.Parsing.{strip_found}
 use Rattle.ufmt_grammar.proofs.QuotedComplete.{quoted-bytes}
 use Rattle.ufmt_grammar.proofs.QuotedSound.{read_quoted-sound}
 use Rattle.ufmt_grammar.specs.declared.class.Class.TheVariants.{Debug}
 use Rattle.ufmt_grammar.specs.Reading.{is_whole}
 use Rattle.ufmt_scan.specs.declared.front.Front.{Front}
-use Rattle.ufmt_scan.specs.Private.Fronts.{EndsAt, EndsLeaf, IsSplit, Passes, StaysBetween, StopsWord, is_ending, is_plain_byte}
+use Rattle.ufmt_scan.specs.Private.Fronts.{EndsAt, EndsLeaf, IsSplit, Passes, StaysBetween, StopsWord, is_ending, is_started}
 use Rattle.ufmt_scan.specs.Private.MarkedBytes.{is_marked, marked_len}
-use Rattle.ufmt_scan.specs.declared.debug_leaf.TheConstants.{LEAF_BYTES, QUOTED_BYTES, WORD_BYTES}
+use Rattle.ufmt_scan.specs.declared.debug_leaf.TheConstants.{DEBUG_BYTES, LEAF_BYTES, NAME_BYTES, QUOTED_BYTES, WORD_BYTES}
 use Rattle.ufmt_scan.proofs.WordBytes.{marks, marks_with}
 
 has_name_bytes-append : (a b : List ℕ) → has_name_bytes (a ++ b) ≡ has_name_bytes a && has_name_bytes b
@@ -66,7 +68,7 @@ pass_byte place c t next e =
 
 -- ---- words
 
-words_are_marked : (c : ℕ) → is_marked WORD_BYTES c ≡ is_plain_byte c
+pub words_are_marked : (c : ℕ) → is_marked WORD_BYTES c ≡ is_plain_byte c
 words_are_marked c = marks WORD_BYTES is_plain_byte refl refl (λ c past. grind (arith, nat_tests)) c
 
 -- such a byte is one of a debug word, and no backslash
@@ -228,37 +230,37 @@ differ a b apart = go (a == b) refl
     go true e = absurd (apart (eqb-true a b e))
 
 -- the leaf ends where no byte of a leaf follows its last word
-pub ends_leaf : (t r e : List ℕ) (named : Bool) → Passes outside t outside r named → Passes outside r outside e true → StopsLeaf e → EndsLeaf t e named
+pub ends_leaf : (t r e : List ℕ) (named : Bool) → Passes beginning t outside r named → Passes outside r outside e true → StopsLeaf e → EndsLeaf t e named
 ends_leaf t r e named first word stops =
-    let none = stopped outside e refl stops in
-    record { place = outside; passes = subst (Passes outside t outside e) (and-true named) (passes_then first word); closed = refl; none = none.0; all = none.1 }
+    let none = stopped outside e tt refl stops in
+    record { place = outside; passes = subst (Passes beginning t outside e) (and-true named) (passes_then first word); closed = refl; none = none.0; all = none.1 }
 
 -- after a word, what is no byte of a word, no quote and no `()` ends the leaf
 pub stops_leaf : (e : List ℕ) (c : ℕ) (u : List ℕ) → e ≡ c ∷ u → is_quote c ≡ false → place_outside c u ≡ None → StopsLeaf e
 stops_leaf e c u first no_quote none = subst StopsLeaf (sym first) (none, no_quote)
 
 -- after a word, a text in quotes is passed
-pub quotes_next : {t r e u : List ℕ} {named : Bool} {place : Place} → Passes outside t outside r named → Passes outside r outside e true → Passes outside e place u false
-    → Passes outside t place u false
-quotes_next {t} {r} {e} {u} {named} {place} first word quotes = subst (Passes outside t place u) (and-false (named && true)) (passes_then (passes_then first word) quotes)
+pub quotes_next : {t r e u : List ℕ} {named : Bool} {place : Place} → Passes beginning t outside r named → Passes outside r outside e true → Passes outside e place u false
+    → Passes beginning t place u false
+quotes_next {t} {r} {e} {u} {named} {place} first word quotes = subst (Passes beginning t place u) (and-false (named && true)) (passes_then (passes_then first word) quotes)
   where
     and-false : (b : Bool) → b && false ≡ false
     and-false true = refl
     and-false false = refl
 
 -- and so is a byte of a word
-pub word_next : {t r e u : List ℕ} {named : Bool} → Passes outside t outside r named → Passes outside r outside e true → Passes outside e outside u true
-    → Passes outside t outside u named
+pub word_next : {t r e u : List ℕ} {named : Bool} → Passes beginning t outside r named → Passes outside r outside e true → Passes outside e outside u true
+    → Passes beginning t outside u named
 word_next {t} {r} {e} {u} {named} first word more =
-    subst (Passes outside t outside u) (and-true (named && true) ∙ and-true named) (passes_then (passes_then first word) more)
+    subst (Passes beginning t outside u) (and-true (named && true) ∙ and-true named) (passes_then (passes_then first word) more)
 
 -- after a closing quote a colon ends the leaf
-pub colon_ends : (t rest : List ℕ) → Passes outside t after_quotes rest false → begins_with 58 rest ≡ true → EndsLeaf t rest false
+pub colon_ends : (t rest : List ℕ) → Passes beginning t after_quotes rest false → begins_with 58 rest ≡ true → EndsLeaf t rest false
 colon_ends t [] passes begins = absurd (cc)
 colon_ends t (c ∷ u) passes begins = record { place = after_quotes; passes = passes; closed = refl; none = rw begins refl; all = rw begins refl }
 
 -- and without one it is as outside of quotes
-pub no_colon_next : (t rest : List ℕ) (named : Bool) → Passes outside t after_quotes rest named → begins_with 58 rest ≡ false → Passes outside t outside rest named
+pub no_colon_next : (t rest : List ℕ) (named : Bool) → Passes beginning t after_quotes rest named → begins_with 58 rest ≡ false → Passes beginning t outside rest named
 no_colon_next t rest named passes begins = record {
   bytes = passes.bytes;
   whole = passes.whole;
@@ -294,36 +296,244 @@ no_colon_next t rest named passes begins = record {
         × (is_outside (last_place after_quotes (leaf_from after_quotes rest)) ≡ is_outside (last_place outside (leaf_from outside rest)))
     same = same_from rest begins
 
+-- ---- the start of a leaf
+
+-- a leaf that has none of these at its start is as outside of quotes
+pub not_started : (t : List ℕ) → is_started t ≡ false → Passes beginning t outside t true
+not_started t bare = record { bytes = []; whole = refl; front = (same t bare).0; after = (same t bare).1; last = (same t bare).2; has = refl }
+  where
+    none : (a b : Bool) → a || b ≡ false → (a ≡ false) × (b ≡ false)
+    none true b h = absurd (cc)
+    none false b h = (refl, h)
+
+    step : (c : ℕ) (u : List ℕ) → is_started (c ∷ u) ≡ false → place_after beginning c u ≡ place_outside c u
+    step c u h = let parts = none ((c == 40) && is_word_closed u) ((c == 91) && is_address_closed u) h in rw (parts.0, parts.1) refl
+
+    ends : (c : ℕ) (u : List ℕ) (o : Option Place) → place_outside c u ≡ o
+        → is_outside (last_place beginning (choose o (λ n. c ∷ leaf_from n u) [])) ≡ is_outside (last_place outside (choose o (λ n. c ∷ leaf_from n u) []))
+    ends c u None e = refl
+    ends c u (Some n) e =
+        let kept = kept_alone outside c u n e in
+        ap (λ o. is_outside (choose o (λ m. last_place m (leaf_from n u)) beginning)) (at_beginning c (leaf_from n u) n kept)
+        ∙ sym (ap (λ o. is_outside (choose o (λ m. last_place m (leaf_from n u)) outside)) kept)
+
+    same : (t : List ℕ) → is_started t ≡ false → (leaf_from beginning t ≡ leaf_from outside t) × (after_leaf beginning t ≡ after_leaf outside t)
+        × (is_outside (last_place beginning (leaf_from beginning t)) ≡ is_outside (last_place outside (leaf_from outside t)))
+    same [] h = (refl, refl, refl)
+    same (c ∷ u) h =
+        let is = step c u h in (
+          ap (λ o. choose o (λ n. c ∷ leaf_from n u) []) is,
+          ap (λ o. choose o (λ n. after_leaf n u) (c ∷ u)) is,
+          ap (λ o. is_outside (last_place beginning (choose o (λ n. c ∷ leaf_from n u) []))) is ∙ ends c u (place_outside c u) refl,
+        )
+
+pub nothing_starts : (t : List ℕ) → length t ≡ 0 → Passes beginning t outside t true
+nothing_starts [] h = not_started [] refl
+nothing_starts (c ∷ t) h = absurd (omega (arith, h))
+
+pub no_word_starts : (t u : List ℕ) (c : ℕ) → t ≡ c ∷ u → c ≡ 40 → is_word_closed u ≡ false → Passes beginning t outside t true
+no_word_starts t u c first is none = not_started t (ap is_started first ∙ rw (is, none) refl)
+
+pub no_address_starts : (t u : List ℕ) (c : ℕ) → t ≡ c ∷ u → c ≡ 91 → is_address_closed u ≡ false → Passes beginning t outside t true
+no_address_starts t u c first is none = not_started t (ap is_started first ∙ rw (is, none) refl)
+
+pub no_bracket_starts : (t u : List ℕ) (c : ℕ) → t ≡ c ∷ u → c ≢ 40 → c ≢ 91 → Passes beginning t outside t true
+no_bracket_starts t u c first no_parenthesis no_bracket = not_started t (ap is_started first ∙ rw (differ c 40 no_parenthesis, differ c 91 no_bracket) refl)
+
+-- bytes that the table marks stay at such a place
+record PassesSome (place : Place) (t rest : List ℕ) : Type 0 where
+  pub named : Bool
+  pub passes : Passes place t place rest named
+
+module _ (place : Place) (is : ℕ → Bool) (stays : (c : ℕ) (t : List ℕ) → is c ≡ true → place_after place c t ≡ Some place) where
+  past_passes : (t : List ℕ) → PassesSome place t (past is t)
+  past_passes [] = record { named = true; passes = passes_none place [] }
+  past_passes (c ∷ t) = go (is c) refl (past_passes t)
+    where
+      go : (b : Bool) → is c ≡ b → PassesSome place t (past is t) → PassesSome place (c ∷ t) (cond b (past is t) (c ∷ t))
+      go true e more = record { named = _; passes = passes_then (pass_byte place c t place (stays c t e)) more.passes }
+      go false e more = record { named = true; passes = passes_none place (c ∷ t) }
+
+past_marked : (table : List ℕ) (is : ℕ → Bool) → ((c : ℕ) → is_marked table c ≡ is c) → (t : List ℕ) → drop (marked_len table t) t ≡ past is t
+past_marked table is marked [] = refl
+past_marked table is marked (c ∷ t) = go (is_marked table c) (is c) (marked c) (past_marked table is marked t)
+  where
+    go : (a b : Bool) → a ≡ b → drop (marked_len table t) t ≡ past is t → drop (cond a (suc (marked_len table t)) 0) (c ∷ t) ≡ cond b (past is t) (c ∷ t)
+    go true true e more = more
+    go false false e more = refl
+    go true false e more = absurd (cc)
+    go false true e more = absurd (cc)
+
+debug_bytes_are_marked : (c : ℕ) → is_marked DEBUG_BYTES c ≡ is_debug_byte c
+debug_bytes_are_marked c = marks DEBUG_BYTES is_debug_byte refl refl (λ c past. grind (arith, nat_tests)) c
+
+name_bytes_are_marked : (c : ℕ) → is_marked NAME_BYTES c ≡ is_name_byte c
+name_bytes_are_marked c = marks NAME_BYTES is_name_byte refl refl (λ c past. grind (arith, nat_tests)) c
+
+word_stays : (c : ℕ) (t : List ℕ) → is_debug_byte c ≡ true → place_after in_word c t ≡ Some in_word
+word_stays c t h = let other : (c == 41) ≡ false = grind (arith, nat_tests) in rw (h, other) refl
+
+address_stays : (c : ℕ) (t : List ℕ) → is_name_byte c ≡ true → place_after in_address c t ≡ Some in_address
+address_stays c t h = let other : (c == 93) ≡ false = go (c == 93) refl in rw (h, other) refl
+  where
+    go : (same : Bool) → (c == 93) ≡ same → (c == 93) ≡ false
+    go false e = e
+    go true e = let none = subst (λ b. is_name_byte b ≡ true) (eqb-true c 93 e) h in absurd (cc)
+
+-- the first byte is marked exactly if some are
+first_marked : (table : List ℕ) (c : ℕ) (t : List ℕ) (none : Bool) → (marked_len table (c ∷ t) == 0) ≡ none → is_marked table c ≡ not none
+first_marked table c t none h = go (is_marked table c) refl h
+  where
+    go : (b : Bool) → is_marked table c ≡ b → (cond b (suc (marked_len table t)) 0 == 0) ≡ none → is_marked table c ≡ not none
+    go true e k = let some : (suc (marked_len table t) == 0) ≡ false = grind (arith, nat_tests) in e ∙ sym (ap not (sym k ∙ some))
+    go false e k = e ∙ sym (ap not (sym k))
+
+module _ (t after : List ℕ) (n : ℕ) (len : n ≡ marked_len DEBUG_BYTES t) (back : after ≡ drop n t) where
+  word_past : after ≡ past is_debug_byte t
+  word_past = back ∙ ap (λ k. drop k t) len ∙ past_marked DEBUG_BYTES is_debug_byte debug_bytes_are_marked t
+
+  pub no_word_here : (n == 0) ≡ true → is_word_closed t ≡ false
+  no_word_here none = go t (ap (λ k. k == 0) (sym len) ∙ none)
+    where
+      go : (t : List ℕ) → (marked_len DEBUG_BYTES t == 0) ≡ true → is_word_closed t ≡ false
+      go [] e = refl
+      go (c ∷ u) e = rw (sym (debug_bytes_are_marked c) ∙ first_marked DEBUG_BYTES c u true e) refl
+
+  pub word_unclosed : strip (codes ")") after ≡ None → is_word_closed t ≡ false
+  word_unclosed none = word_by_end t (ap (begins_with 41) (sym word_past) ∙ go after none)
+    where
+      go : (u : List ℕ) → strip (codes ")") u ≡ None → begins_with 41 u ≡ false
+      go [] e = refl
+      go (c ∷ u) e = byte (41 == c) refl e
+        where
+          byte : (x : Bool) → (41 == c) ≡ x → cond x (Some u) None ≡ None → (c == 41) ≡ false
+          byte true f k = absurd (cc)
+          byte false f k = grind (arith, nat_tests)
+
+  pub word_closed : (rest : List ℕ) → (n == 0) ≡ false → strip (codes ")") after ≡ Some rest → (is_word_closed t ≡ true) × Passes beginning (40 ∷ t) outside rest false
+  word_closed rest some closes = (closed, passes_then (pass_byte beginning 40 t in_word (rw closed refl)) (passes_then inside.passes end))
+    where
+      all : past is_debug_byte t ≡ 41 ∷ rest
+      all = sym word_past ∙ strip_found (codes ")") after rest closes
+
+      go : (t : List ℕ) → (marked_len DEBUG_BYTES t == 0) ≡ false → past is_debug_byte t ≡ 41 ∷ rest → is_word_closed t ≡ true
+      go [] e is = absurd (cc)
+      go (c ∷ u) e is =
+          let word : is_debug_byte c ≡ true = sym (debug_bytes_are_marked c) ∙ first_marked DEBUG_BYTES c u false e in
+          let later : past is_debug_byte u ≡ 41 ∷ rest = sym (ap (λ b. cond b (past is_debug_byte u) (c ∷ u)) word) ∙ is in
+          rw (word, ap (begins_with 41) later) refl
+
+      closed : is_word_closed t ≡ true
+      closed = go t (ap (λ k. k == 0) (sym len) ∙ some) all
+
+      inside : PassesSome in_word t (past is_debug_byte t)
+      inside = past_passes in_word is_debug_byte word_stays t
+
+      end : Passes in_word (past is_debug_byte t) outside rest false
+      end = subst (λ u. Passes in_word u outside rest false) (sym all) (pass_byte in_word 41 rest outside refl)
+
+module _ (t after : List ℕ) (n : ℕ) (len : n ≡ marked_len NAME_BYTES t) (back : after ≡ drop n t) where
+  address_past : after ≡ past is_name_byte t
+  address_past = back ∙ ap (λ k. drop k t) len ∙ past_marked NAME_BYTES is_name_byte name_bytes_are_marked t
+
+  pub no_address_here : (n == 0) ≡ true → is_address_closed t ≡ false
+  no_address_here none = go t (ap (λ k. k == 0) (sym len) ∙ none)
+    where
+      go : (t : List ℕ) → (marked_len NAME_BYTES t == 0) ≡ true → is_address_closed t ≡ false
+      go [] e = refl
+      go (c ∷ u) e = rw (sym (name_bytes_are_marked c) ∙ first_marked NAME_BYTES c u true e) refl
+
+  unclosed : is_port after ≡ false → is_address_closed t ≡ false
+  unclosed none = address_by_port t (ap is_port (sym address_past) ∙ none)
+
+  pub no_closing : strip (codes "]:") after ≡ None → is_address_closed t ≡ false
+  no_closing none = unclosed (go after none)
+    where
+      go : (u : List ℕ) → strip (codes "]:") u ≡ None → is_port u ≡ false
+      go [] e = refl
+      go (c ∷ []) e = refl
+      go (c ∷ b ∷ []) e = refl
+      go (c ∷ b ∷ d ∷ u) e = bytes (93 == c) (58 == b) refl refl e
+        where
+          no_and : (x : Bool) → (x && false) && is_plain_byte d ≡ false
+          no_and true = refl
+          no_and false = refl
+
+          bytes : (x y : Bool) → (93 == c) ≡ x → (58 == b) ≡ y → cond x (cond y (Some (d ∷ u)) None) None ≡ None → is_port (c ∷ b ∷ d ∷ u) ≡ false
+          bytes true true f g k = absurd (cc)
+          bytes true false f g k = let other : (b == 58) ≡ false = grind (arith, nat_tests) in rw (other) (no_and (c == 93))
+          bytes false y f g k = let other : (c == 93) ≡ false = grind (arith, nat_tests) in rw other refl
+
+  module _ (rest : List ℕ) (closes : strip (codes "]:") after ≡ Some rest) where
+    parts : after ≡ 93 ∷ 58 ∷ rest
+    parts = strip_found (codes "]:") after rest closes
+
+    pub nothing_after : length rest ≡ 0 → is_address_closed t ≡ false
+    nothing_after none = unclosed (ap is_port parts ∙ go rest none)
+      where
+        go : (u : List ℕ) → length u ≡ 0 → is_port (93 ∷ 58 ∷ u) ≡ false
+        go [] e = refl
+        go (c ∷ u) e = absurd (omega (arith, e))
+
+    pub no_port_byte : (d : ℕ) (u : List ℕ) → rest ≡ d ∷ u → is_plain_byte d ≡ false → is_address_closed t ≡ false
+    no_port_byte d u first none = unclosed (ap is_port parts ∙ ap (λ v. is_port (93 ∷ 58 ∷ v)) first ∙ none)
+
+    pub address_closed : (d : ℕ) (u : List ℕ) → (n == 0) ≡ false → rest ≡ d ∷ u → is_plain_byte d ≡ true → (is_address_closed t ≡ true) × Passes beginning (91 ∷ t) outside rest false
+    address_closed d u some first plain = (closed, passes_then (pass_byte beginning 91 t in_address (rw closed refl)) (passes_then inside.passes end))
+      where
+        all : past is_name_byte t ≡ 93 ∷ 58 ∷ rest
+        all = sym address_past ∙ parts
+
+        port : is_port (past is_name_byte t) ≡ true
+        port = ap is_port all ∙ ap (λ v. is_port (93 ∷ 58 ∷ v)) first ∙ plain
+
+        go : (t : List ℕ) → (marked_len NAME_BYTES t == 0) ≡ false → is_port (past is_name_byte t) ≡ true → is_address_closed t ≡ true
+        go [] e is = absurd (cc)
+        go (c ∷ v) e is =
+            let name : is_name_byte c ≡ true = sym (name_bytes_are_marked c) ∙ first_marked NAME_BYTES c v false e in
+            let later : is_port (past is_name_byte v) ≡ true = sym (ap (λ b. is_port (cond b (past is_name_byte v) (c ∷ v))) name) ∙ is in
+            rw (name, later) refl
+
+        closed : is_address_closed t ≡ true
+        closed = go t (ap (λ k. k == 0) (sym len) ∙ some) port
+
+        inside : PassesSome in_address t (past is_name_byte t)
+        inside = past_passes in_address is_name_byte address_stays t
+
+        end : Passes in_address (past is_name_byte t) outside rest false
+        end = subst (λ v. Passes in_address v outside rest false) (sym all)
+            (passes_then (pass_byte in_address 93 (58 ∷ rest) after_address refl) (pass_byte after_address 58 rest outside refl))
+
 -- the bytes before the rest are the leaf at the front
 module _ (t rest leaf : List ℕ) (named : Bool) (ends : EndsLeaf t rest named) (front : leaf ≡ take (length t - length rest) t) where
-  leaf_is : leaf ≡ leaf_from outside t
+  leaf_is : leaf ≡ leaf_from beginning t
   leaf_is =
       let bytes = ends.passes.bytes in
       let count : length t - length rest ≡ length bytes = omega (arith, ap length ends.passes.whole, length-append bytes rest) in
       front ∙ ap (λ n. take n t) count ∙ ap (take (length bytes)) ends.passes.whole ∙ take-append_seam bytes rest
       ∙ sym (ends.passes.front ∙ ap (λ u. bytes ++ u) ends.none ∙ append-nil bytes)
 
-  closed_leaf : is_outside (last_place outside (leaf_from outside t)) ≡ true
+  closed_leaf : is_outside (last_place beginning (leaf_from beginning t)) ≡ true
   closed_leaf = ends.passes.last ∙ ap (λ w. is_outside (last_place ends.place w)) ends.none ∙ ends.closed
 
   pub leaf_splits : (found : Front) → found.text.now ≡ leaf → found.rest.now ≡ rest → found.is_name ≡ named && not (ends_in_colon leaf) → IsUtf8 leaf → IsSplit Debug t found
   leaf_splits found text after is_name utf8 = record {
     text = text ∙ leaf_is;
     rest = after ∙ sym (ends.passes.after ∙ ends.all);
-    name = is_name ∙ ap (λ w. named && not (ends_in_colon w)) leaf_is ∙ ap (λ b. b && not (ends_in_colon (leaf_from outside t))) (sym bytes_named);
-    whole = rw (closed_leaf, is_utf8-from_IsUtf8 (leaf_from outside t) (subst IsUtf8 leaf_is utf8)) refl;
+    name = is_name ∙ ap (λ w. named && not (ends_in_colon w)) leaf_is ∙ ap (λ b. b && not (ends_in_colon (leaf_from beginning t))) (sym bytes_named);
+    whole = rw (closed_leaf, is_utf8-from_IsUtf8 (leaf_from beginning t) (subst IsUtf8 leaf_is utf8)) refl;
   }
     where
-      bytes_named : has_name_bytes (leaf_from outside t) ≡ named
+      bytes_named : has_name_bytes (leaf_from beginning t) ≡ named
       bytes_named = ap has_name_bytes (ends.passes.front ∙ ap (λ u. ends.passes.bytes ++ u) ends.none ∙ append-nil ends.passes.bytes) ∙ ends.passes.has
 
-  pub leaf_is_broken : ¬ (IsUtf8 leaf) → is_whole Debug (leaf_from outside t) ≡ false
-  leaf_is_broken broken = go (is_outside (last_place outside (leaf_from outside t))) (is_utf8 (leaf_from outside t)) refl
+  pub leaf_is_broken : ¬ (IsUtf8 leaf) → is_whole Debug (leaf_from beginning t) ≡ false
+  leaf_is_broken broken = go (is_outside (last_place beginning (leaf_from beginning t))) (is_utf8 (leaf_from beginning t)) refl
     where
-      go : (ends utf8 : Bool) → is_utf8 (leaf_from outside t) ≡ utf8 → ends && utf8 ≡ false
+      go : (ends utf8 : Bool) → is_utf8 (leaf_from beginning t) ≡ utf8 → ends && utf8 ≡ false
       go false utf8 e = refl
       go true false e = refl
-      go true true e = absurd (broken (subst IsUtf8 (sym leaf_is) (IsUtf8-from_is_utf8 (leaf_from outside t) e)))
+      go true true e = absurd (broken (subst IsUtf8 (sym leaf_is) (IsUtf8-from_is_utf8 (leaf_from beginning t) e)))
 
 -- ---- leaves that are words in ASCII, and texts in quotes
 
@@ -380,13 +590,13 @@ module _ (t word : List ℕ) (n : ℕ) (len : n ≡ marked_len LEAF_BYTES t) (fr
   word_is_ascii = rw (front, len) (ascii_run t).ascii
 
   -- a word in ASCII at the front is the leaf, if the leaf ends after it
-  pub word_splits : (rest : List ℕ) → n ≤ length t → rest ≡ drop n t → EndsAt rest
+  pub word_splits : (rest : List ℕ) → n ≤ length t → rest ≡ drop n t → EndsAt rest → is_started t ≡ false
       → (found : Front) → found.text.now ≡ word → found.rest.now ≡ rest → found.is_name ≡ true → IsSplit Debug t found
-  word_splits rest within is ends found text after named =
+  word_splits rest within is ends bare found text after named =
       let count : length t - length rest ≡ n = omega (arith, within, ap length is, length-drop n t) in
       let passes : Passes outside t outside rest true = rw (is, len) (ascii_run t).passes in
       let no_colon : ends_in_colon word ≡ false = rw (front, len) (ascii_run t).no_colon in
-      leaf_splits t rest word true (ends_leaf t rest rest true passes (passes_none outside rest) ends) (front ∙ sym (ap (λ k. take k t) count)) found text after
+      leaf_splits t rest word true (ends_leaf t t rest true (not_started t bare) passes ends) (front ∙ sym (ap (λ k. take k t) count)) found text after
       (named ∙ sym (ap not no_colon)) (IsUtf8-from_ascii word word_is_ascii)
 
 -- a text whose last byte is no colon
@@ -433,12 +643,12 @@ module _ (t text rest : List ℕ) (reads : read_quoted t ≡ Some (text, rest)) 
   quotes_split stops found same after named =
       let pieces = is_debug_leaf.pieces in
       let seam : ends_in_colon text ≡ true → is_spaced rest ≡ false = λ ends. absurd (cc (ends, unnamed.ends)) in
-      let front : leaf_from outside t ≡ text = ap (leaf_from outside) whole_text ∙ leaf_from-append outside text rest pieces stops seam in
+      let front : leaf_from beginning t ≡ text = ap (leaf_from beginning) whole_text ∙ leaf_from-append beginning text rest (some_begun beginning text is_debug_leaf.some) pieces stops seam in
       record {
         text = same ∙ sym front;
-        rest = after ∙ sym (ap (after_leaf outside) whole_text ∙ after_leaf-append outside text rest pieces stops seam);
+        rest = after ∙ sym (ap (after_leaf beginning) whole_text ∙ after_leaf-append beginning text rest (some_begun beginning text is_debug_leaf.some) pieces stops seam);
         name = named ∙ sym (ap (λ w. has_name_bytes w && not (ends_in_colon w)) front ∙ rw unnamed.bytes refl);
-        whole = rw (front, last_is_outside outside text pieces, is_debug_leaf.utf8) refl;
+        whole = rw (front, last_is_outside beginning text pieces, is_debug_leaf.utf8) refl;
       }
 
 -- ---- where a leaf ends

@@ -1,15 +1,15 @@
 -- Which whole texts are leaves and names.
-use Rattle.std.proofs.Common.{List, None, Some, [], ap, append-nil, arith, false, true, refl, subst, sym, ℕ, ◌==◌, ◌∙◌, ◌∷◌, ◌≡◌, ◌++◌, inl, inr, Bool, length}
+use Rattle.std.proofs.Common.{List, None, Some, [], ap, append-nil, arith, false, true, refl, subst, sym, ℕ, ◌==◌, ◌∙◌, ◌∷◌, ◌≡◌, ◌++◌, Bool, length}
 use Rattle.std.proofs.lemmas.Bool.Decides.{nat_tests}
-use Rattle.std.specs.Prelude.{◌↔◌, IsTrue, bytes_eq, codes}
-use Rattle.ufmt_grammar.specs.Leaves.{IsDebugLeaf, outside}
+use Rattle.std.specs.Prelude.{◌↔◌, IsTrue}
+use Rattle.ufmt_grammar.specs.Leaves.{IsDebugLeaf, beginning}
 use Rattle.ufmt_grammar.specs.Reading.{Parse, after_front, front_of, is_whole, read_name, read_symbol}
 use Rattle.ufmt_grammar.specs.declared.class.Class.{Class}
 use Rattle.ufmt_grammar.specs.declared.class.Class.TheVariants.{Token, Debug}
 use Rattle.ufmt_grammar.specs.Token.{IsName, IsSymbol}
 use Rattle.ufmt_grammar.proofs.Parsing.{same_parts}
 use Rattle.ufmt_grammar.proofs.ClassLeaves.{follower_ends_front, front_is, fronts_whole, nothing_follows, read_name_complete, read_name_sound, read_symbol_complete, read_symbol_sound}
-use Rattle.ufmt_grammar.proofs.DebugLeaves.{after_leaf-append, last_is_outside, leaf_from-append}
+use Rattle.ufmt_grammar.proofs.DebugLeaves.{after_leaf-append, last_is_outside, leaf_from-append, some_begun}
 use Rattle.ufmt_scan.specs.Private.Fronts.{IsSplit}
 use Rattle.ufmt_scan.specs.declared.front.Front.{Front}
 
@@ -58,11 +58,11 @@ record IsAllFront (t : List ℕ) : Type 0 where
 
 all_front : (t : List ℕ) → IsDebugLeaf t → IsAllFront t
 all_front t h =
-    let front : front_of Debug t ≡ t = ap (front_of Debug) (sym (append-nil t)) ∙ leaf_from-append outside t [] h.pieces tt (λ ends. refl) in
+    let front : front_of Debug t ≡ t = ap (front_of Debug) (sym (append-nil t)) ∙ leaf_from-append beginning t [] (some_begun beginning t h.some) h.pieces tt (λ ends. refl) in
     record {
       front = front;
-      after = ap (after_front Debug) (sym (append-nil t)) ∙ after_leaf-append outside t [] h.pieces tt (λ ends. refl);
-      whole = ap (is_whole Debug) front ∙ rw (last_is_outside outside t h.pieces, h.utf8) refl;
+      after = ap (after_front Debug) (sym (append-nil t)) ∙ after_leaf-append beginning t [] (some_begun beginning t h.some) h.pieces tt (λ ends. refl);
+      whole = ap (is_whole Debug) front ∙ rw (last_is_outside beginning t h.pieces, h.utf8) refl;
     }
 
 -- a text is a leaf exactly if nothing follows the leaf at its front, and there is one

@@ -1,12 +1,14 @@
-//! Leaves of debug documents: words, texts in quotes and `()` in a row.
+//! Leaves of debug documents: words, texts in quotes and `()` in a row, with a word in parentheses or an
+//! address in brackets before them.
 ghost use Rattle.std.specs.Prelude.{◌≡◌, ◌<◌, ◌≤◌, ◌==◌, ◌&&◌, ◌||◌, ◌≢◌, ◌∷◌, [], ℕ, IfSome, IsTrue, MatchOption, None, false, length, nat_le, not, true};
 ghost use Rattle.ufmt_grammar.specs.declared.class.Class.TheVariants.{Debug};
-ghost use Rattle.ufmt_grammar.specs.Leaves.{after_quotes, begins_quote, begins_with, between, ends_in_colon, is_control, is_in_word, is_quote, is_spaced, outside, place_outside};
-ghost use Rattle.ufmt_scan.specs.Private.Fronts.{EndsAt, EndsLeaf, IsSplit, NeverCloses, Passes, SplitsFront, StaysBetween, StopsWord, is_ending, is_plain_byte};
+ghost use Rattle.ufmt_grammar.specs.Leaves.{after_quotes, beginning, begins_quote, begins_with, between, ends_in_colon, is_address_closed, is_control, is_in_word, is_plain_byte, is_quote, is_spaced, is_word_closed, outside, place_outside};
+ghost use Rattle.ufmt_scan.specs.Private.Fronts.{EndsAt, EndsLeaf, IsSplit, NeverCloses, Passes, SplitsFront, StaysBetween, StopsWord, is_ending, is_started};
 
 use crate::front::Front;
 use crate::leaf::marked_len;
 use crate::quoted::split_plain;
+use crate::strip::strip_piece;
 use ufmt_core::ascii::text_from;
 
 // `w` marks each ASCII byte that is in a word whatever follows, and `e` each byte that no leaf has outside
@@ -24,6 +26,20 @@ static WORD_BYTES: [u8; 256] = *b"\
     wwwwwwwwwwwwwwwwwwwwwwwwwwwwwwwwwwwwwwwwwwwwwwwwwwwwwwwwwwwwwwww\
     wwwwwwwwwwwwwwwwwwwwwwwwwwwwwwwwwwwwwwwwwwwwwwwwwwwwwwwwwwwwwwww";
 
+// Marks each byte of a word.
+static DEBUG_BYTES: [u8; 256] = *b"\
+    .................................w.wwww...ww.wwwwwwwwwwwww.wwwww\
+    wwwwwwwwwwwwwwwwwwwwwwwwwww.w.wwwwwwwwwwwwwwwwwwwwwwwwwwwww.w.w.\
+    wwwwwwwwwwwwwwwwwwwwwwwwwwwwwwwwwwwwwwwwwwwwwwwwwwwwwwwwwwwwwwww\
+    wwwwwwwwwwwwwwwwwwwwwwwwwwwwwwwwwwwwwwwwwwwwwwwwwwwwwwwwwwwwwwww";
+
+// Marks each byte that a name may have: that of a word, and a colon.
+static NAME_BYTES: [u8; 256] = *b"\
+    .................................w.wwww...ww.wwwwwwwwwwwwwwwwwww\
+    wwwwwwwwwwwwwwwwwwwwwwwwwww.w.wwwwwwwwwwwwwwwwwwwwwwwwwwwww.w.w.\
+    wwwwwwwwwwwwwwwwwwwwwwwwwwwwwwwwwwwwwwwwwwwwwwwwwwwwwwwwwwwwwwww\
+    wwwwwwwwwwwwwwwwwwwwwwwwwwwwwwwwwwwwwwwwwwwwwwwwwwwwwwwwwwwwwwww";
+
 // Marks each byte that stays between quotes, whichever they are, and is no backslash.
 static QUOTED_BYTES: [u8; 256] = *b"\
     ................................ww.wwww.wwwwwwwwwwwwwwwwwwwwwwww\
@@ -37,7 +53,7 @@ pub(crate) fn split_debug_word(input: &[u8]) -> Option<Front<'_>>
     ensures { IfSome result (λ front. IsSplit Debug input.now front) }
 {
     let (word, rest) = input.split_at(marked_len(&LEAF_BYTES, input));
-    if ends_here(rest) {
+    if ends_here(rest) && !is_started(input) {
         Some(Front {
             text: text_from(word, 0),
             is_name: true,
@@ -114,11 +130,10 @@ fn may_be_name(is_named: bool, leaf: &[u8]) -> bool
 
 // What follows the leaf, and whether it has only bytes of words and colons.
 fn after_leaf(input: &[u8]) -> Option<(&[u8], bool)>
-    ensures { MatchOption result (NeverCloses outside input.now)
+    ensures { MatchOption result (NeverCloses beginning input.now)
         (λ x. EndsLeaf input.now x.0.now x.1) }
 {
-    let mut rest = input;
-    let mut is_named = true;
+    let (mut rest, mut is_named) = after_start(input);
     'pieces: loop {
         let end = after_word(rest);
         let Some((&byte, after)) = end.split_first() else {
@@ -138,6 +153,72 @@ fn after_leaf(input: &[u8]) -> Option<(&[u8], bool)>
         } else {
             return Some((end, is_named));
         }
+    }
+}
+
+// Whether the leaf begins with a word in parentheses, or an address in brackets and a colon.
+#[inline(always)]
+fn is_started(input: &[u8]) -> bool
+    ensures { result ≡ is_started input.now }
+{
+    match input.split_first() {
+        Some((b'(', after)) => after_closed_word(after).is_some(),
+        Some((b'[', after)) => after_closed_address(after).is_some(),
+        _ => false,
+    }
+}
+
+// What follows these, and whether the leaf may be a name.
+#[tactic(auto, using(crate::proofs::DebugFronts::nothing_starts, crate::proofs::DebugFronts::no_word_starts, crate::proofs::DebugFronts::no_address_starts, crate::proofs::DebugFronts::no_bracket_starts))]
+fn after_start(input: &[u8]) -> (&[u8], bool)
+    ensures { Passes beginning input.now outside result.0.now result.1 }
+{
+    let Some((&byte, after)) = input.split_first() else {
+        return (input, true);
+    };
+    if byte == b'(' {
+        return match after_closed_word(after) {
+            Some(rest) => (rest, false),
+            None => (input, true),
+        };
+    }
+    if byte == b'[' {
+        return match after_closed_address(after) {
+            Some(rest) => (rest, false),
+            None => (input, true),
+        };
+    }
+    (input, true)
+}
+
+// What follows a word and the parenthesis that closes it.
+fn after_closed_word(input: &[u8]) -> Option<&[u8]>
+    ensures { MatchOption result (is_word_closed input.now ≡ false)
+        (λ rest. (is_word_closed input.now ≡ true) × Passes beginning (40 ∷ input.now) outside rest.now false) }
+{
+    let (word, after) = input.split_at(marked_len(&DEBUG_BYTES, input));
+    if word.is_empty() {
+        return None;
+    }
+    let rest = strip_piece(")", after)?;
+    Some(rest)
+}
+
+// What follows an address, the bracket that closes it and a colon, if a byte of a word does.
+fn after_closed_address(input: &[u8]) -> Option<&[u8]>
+    ensures { MatchOption result (is_address_closed input.now ≡ false)
+        (λ rest. (is_address_closed input.now ≡ true) × Passes beginning (91 ∷ input.now) outside rest.now false) }
+{
+    let (address, after) = input.split_at(marked_len(&NAME_BYTES, input));
+    if address.is_empty() {
+        return None;
+    }
+    let rest = strip_piece("]:", after)?;
+    let (&byte, _) = rest.split_first()?;
+    if is_plain_byte(byte) {
+        Some(rest)
+    } else {
+        None
     }
 }
 
@@ -296,4 +377,12 @@ fn is_ending(byte: u8) -> bool
     ensures { result ≡ is_ending byte }
 {
     LEAF_BYTES[byte as usize] == b'e'
+}
+
+#[inline(always)]
+#[tactic(auto, using(crate::proofs::DebugFronts::words_are_marked))]
+fn is_plain_byte(byte: u8) -> bool
+    ensures { result ≡ is_plain_byte byte }
+{
+    WORD_BYTES[byte as usize] == b'w'
 }

@@ -46,13 +46,17 @@ LEAVES = (
     # Quotes: empty ones, in a row, with the other quote in them, and a backslash with what it takes.
     '""', "''", '"a""b"', "'ab'", 'b"x"', "'a'..='z'", '"a b".."c"', "\"'\"", "'\"'", r'"\""', r"'\''", r'"\\"',
     r'"\q\ \{"', '"[]{}(),: .."',
+    # A word in parentheses, or an address in brackets and a colon, at the start.
+    "(Weak)", "(a)b", "(a)()", "(a):", "(a)\"b\"", "[::1]:80", "[a]:b", "[::]:0\"a\"", "[a%b]:1::", "(..)",
     # A backslash without quotes is a byte of a word. So is each other sign, and what is past ASCII.
     "a\\", "\\", "\\()", "..", ".", "-", "<u8>", "a=b;c", "é", "\u0085", "150µs", "日本", "🦀", "e\u0301",
     '"é\u200b🦀"', "()",
 )
 NO_LEAVES = (
     "", " ", "a b", "a ", " a", "a,", ",", ")", "(", "]", "[", "}", "{", "a)", "a[]", "a{}", "[]a", "()(1)", "()[]",
-    "a(", "(a)", "f( )", "f(()", "f()(1)",
+    "a(", "f( )", "f(()", "f()(1)",
+    "(a)(b)", "(a b)", "(a:)", "(a", "((a))", "(a)[]", "a(b)()", "[a]:", "[]:a", "[a]b", '[a]:"b"', "[a]:(b)", "[a]:()", "a[b]:c",
+    "[a, b]:c", "[a]: b", "[a]::",
     # A colon before a space, and one after a closing quote.
     "a: b", "a:: b", "a :b", "[a: b]", "(a: b)", "a: }", "{a: }", "{a: b: c}",
     MANY_COLONS + " a", "[" + MANY_COLONS + " a]",
@@ -97,6 +101,10 @@ BLOCKS = (
     ("{a:: b}", "{\n    a:: b,\n}"),
     ("{a" + MANY_COLONS + " b}", "{\n    a" + MANY_COLONS + " b,\n}"),
     ('{"a": "b"}', '{\n    "a": "b",\n}'),
+    ("(a, (b))", "(\n    a,\n    (b),\n)"),
+    ("[[::1]:80, [a]]", "[\n    [::1]:80,\n    [\n        a,\n    ],\n]"),
+    ("{[a]: [b]:c}", "{\n    [\n        a,\n    ]: [b]:c,\n}"),
+    ("S((a))", "S(\n    (a),\n)"),
     ("S { a: : }", "S {\n    a: :,\n}"),
     ("S { a: :: }", "S {\n    a: ::,\n}"),
     ("S(f(), ())", "S(\n    f(),\n    (),\n)"),
@@ -127,7 +135,7 @@ NO_PLAIN_BLOCKS = (
     # What isn't a name.
     '"a" { x: 1 }', '"a"(1)', 'a"b"(1)', "'a' { .. }", 'b"" { a: 1, .. }', "() { x: 1 }", "() { .. }",
     'A { "a": 1 }', "A { (): 1 }", "A { a'b': 1 }",
-    "a: { x: 1 }", "a:(1)", "A { a:: 1 }", ":: { .. }", "f() { x: 1 }", "f()(1,)", "A { f(): 1 }",
+    "a: { x: 1 }", "a:(1)", "A { a:: 1 }", ":: { .. }", "f() { x: 1 }", "f()(1,)", "A { f(): 1 }", "(a) { x: 1 }", "[a]:b(1)", "A { (a): 1 }",
     "A {}", "A { }", "A{ a: 1 }", "A { a:1 }", "A { a : 1 }", "A { a }", "A { a: }",
     # Dots with a comma after them, before another entry, or with other spaces.
     "A { .., }", "A { a: 1, .., }", "A { .., a: 1 }", "A { a: 1, .., b: 2 }", "A { a: 1, .., .. }", "A { .., .. }",

@@ -5,7 +5,7 @@ from lib.model import characters, debug_refused
 from lib.model.coverage import BLOCKS, DEPTHS, LEAVES, MANY, MODES, PLACE_IN, POSITIONS, counts, depth_class, entries_class
 from lib.model.coverage import kind_of, length_class, lengths, pairs, position, power, powers
 from lib.model.debug_covering import DEBUG_PLACES, DOTS, NAME_SHAPES, OPEN_STRUCTS
-from lib.model.debug_leaves import ENDS, ESCAPED, PIECE, SHAPES, is_in_word, shape, word_form
+from lib.model.debug_leaves import ENDS, ESCAPED, SHAPES, is_in_word, pieces, shape, word_form
 from lib.model.features import is_of_tokens
 from lib.model.model import STRUCTS, WORD, is_debug_name
 
@@ -84,10 +84,11 @@ class Walk:
             self.add("character after a backslash", leaf[-1], leaf[-2])
 
     def pieces(self, leaf):
-        found = list(PIECE.finditer(leaf))
-        self.add("pieces of a leaf", entries_class(len(found)))
-        if len(found) <= NOTED_PIECES:
-            self.add("shape of a leaf", shape(leaf))
+        found = pieces(leaf)
+        self.add("pieces of a leaf", entries_class(max(len(found), 1)))
+        letters = shape(leaf)
+        if len(letters) <= NOTED_PIECES:
+            self.add("shape of a leaf", letters)
         for piece in found:
             if piece[3]:
                 self.add("colons in a row", entries_class(len(piece[3])))

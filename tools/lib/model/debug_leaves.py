@@ -2,15 +2,16 @@
 
 A shape has a letter for each piece of a leaf. A word is `w` if a token document may have it, `p` if it has other ASCII
 characters, as points, and `u` if it has characters past ASCII. A piece in quotes is `t` or `c` if it is a text or a character
-that a token document may have, and `o` if it is spelled otherwise. Colons are `C`, and `()` is `U`.
+that a token document may have, and `o` if it is spelled otherwise. Colons are `C`, and `()` is `U`. At a leaf's start,
+`W` is a word in parentheses, and `A` an address in brackets and a colon.
 """
 import itertools
 import re
 
 from lib.model import characters
-from lib.model.model import CONTROLS, IN_QUOTES, QUOTED_CHARACTER, QUOTED_TEXT, UNIT, WORD, WORD_BYTES, quoted
+from lib.model.model import CONTROLS, IN_QUOTES, QUOTED_CHARACTER, QUOTED_TEXT, START, UNIT, WORD, WORD_BYTES, quoted
 
-WORDS, QUOTES, COLONS, UNITS = "wpu", "tco", "C", "U"
+WORDS, QUOTES, COLONS, UNITS, STARTS = "wpu", "tco", "C", "U", "WA"
 PIECE = re.compile("(%s)|(%s)|(:+)|%s" % (WORD_BYTES, "|".join(IN_QUOTES), UNIT))
 # Bytes that end a word, but for controls and colons.
 ENDS = " \"'(),[]{}"
@@ -22,7 +23,8 @@ PAST_ASCII = "\u00e9\u00b5\u0301\u20ac\u200b\ufeff\U0001f980\U0010ffff"
 PRINTED = (
     "1.5", "-0.0", "1e-7", "NaN", "1.5s", "150\u00b5s", "127.0.0.1:80", "::1", "::ffff:10.0.0.1", "0..5", "..=9", "..", "'a'..='z'",
     '"a".."b"', 'b"x\\x00"', "b'\\''", "'\\u{301}'", '"\\u{301}"', "<borrowed>", "PhantomData<alloc::vec::Vec<u8>>", "0x7f0012", "_",
-    "a::B", "1..=\"b\"", "f()", "a::b().c()", "fe80::", "::",
+    "a::B", "1..=\"b\"", "f()", "a::b().c()", "fe80::", "::", "(Weak)",
+    "[::1]:80",
 )
 
 
@@ -40,20 +42,29 @@ def letter_of(word, in_quotes, colons):
     return "p" if word.isascii() else "u"
 
 
+def pieces(leaf):
+    """The pieces of a leaf after its start."""
+    start = START.match(leaf)
+    return list(PIECE.finditer(leaf, start.end() if start else 0))
+
+
 def shape(leaf):
-    return "".join(letter_of(*found.groups()) for found in PIECE.finditer(leaf))
+    letter = "" if START.match(leaf) is None else "W" if leaf[0] == "(" else "A"
+    return letter + "".join(letter_of(*found.groups()) for found in pieces(leaf))
 
 
 def is_shape(letters):
     """Whether a leaf that only debug documents have can have this shape."""
-    if letters in ("w", "t", "c", "U"):
+    if letters in ("w", "t", "c", "U") or any(letter in STARTS for letter in letters[1:]):
+        return False
+    if letters[0] == "A" and (len(letters) == 1 or letters[1] not in WORDS):
         return False
     pairs = zip(letters, letters[1:])
     return not any((a in WORDS and b in WORDS) or (b == COLONS and a in QUOTES + COLONS) for a, b in pairs)
 
 
 # All shapes of up to three pieces.
-ROWS = ("".join(letters) for count in (1, 2, 3) for letters in itertools.product(WORDS + QUOTES + COLONS + UNITS, repeat=count))
+ROWS = ("".join(letters) for count in (1, 2, 3) for letters in itertools.product(STARTS + WORDS + QUOTES + COLONS + UNITS, repeat=count))
 SHAPES = list(filter(is_shape, ROWS))
 
 
@@ -76,6 +87,8 @@ def joined(pieces):
     for piece in pieces:
         if piece[0] in "\"'" and found.endswith("\\"):
             found = found[:-1] + "."
+        if found.startswith("[") and found.endswith("]:") and piece[0] == "\\":
+            piece = "." + piece[1:]
         found += piece
     return found
 
@@ -126,6 +139,10 @@ class LeafMaker:
             return self.word(letter, length)
         if letter == UNITS:
             return "()"
+        if letter == "W":
+            return "(" + self.word(self.random.choice(WORDS), length) + ")"
+        if letter == "A":
+            return "[" + self.word("w", length) + self.random.choice(("", ":", "::1")) + "]:"
         return ":" * length if letter == COLONS else self.in_quotes(letter, length)
 
     def of_shape(self, letters, longest=4):

@@ -150,7 +150,7 @@ def unquoted(leaf):
     return ESCAPE.sub(decoded, leaf[1:-1])
 
 
-# ---- The leaves of each class. A call returns a leaf and where it ends, or None.
+# ---- The leaves of each class. A call returns a leaf and where it ends, or None, or False.
 
 # A byte that isn't UTF-8, as `surrogateescape` decodes it.
 NO_UTF8 = re.compile("[\ud800-\udfff]")
@@ -177,7 +177,8 @@ def leaf_at(text, at):
 
 TOKEN = TextClass(leaf_at, WORD.fullmatch, has_open_structs=False)
 
-# A piece of a leaf of the class DEBUG: bytes of a word, a text in quotes, `()`, or colons. In quotes a backslash takes the next
+# A leaf of the class DEBUG may begin with a word in parentheses, or with an address in brackets, a colon and a byte of a word. A
+# piece of it is bytes of a word, a text in quotes, `()`, or colons. In quotes a backslash takes the next
 # character with it. In a word it is no byte before a quote. A colon is no piece right after a closing quote, nor before a space
 # that no closing brace follows.
 CONTROLS = r"\x00-\x1f\x7f"
@@ -186,22 +187,29 @@ IN_QUOTES = [quote + r"(?:[^\\" + quote + CONTROLS + r"]|\\[ -~])*" + quote for 
 UNIT = r"\(\)"
 COLONS = r"""(?:(?<!["']):(?! (?!\})))+"""
 PIECE = re.compile("|".join([WORD_BYTES, *IN_QUOTES, UNIT, COLONS]))
+# Any byte of a word, also a backslash before a quote; a byte that is in it whatever follows; and one that a name may have.
+ANY_BYTE = "[^" + CONTROLS + r""" "'(),:\[\]{}]"""
+PLAIN_BYTE = "[^" + CONTROLS + r""" "'(),:\[\]{}\\]"""
+NAME_BYTE = "[^" + CONTROLS + r""" "'(),\[\]{}]"""
+START = re.compile(r"\(" + ANY_BYTE + r"+\)|\[" + NAME_BYTE + r"+\]:(?=" + PLAIN_BYTE + ")")
 
 
 def debug_leaf_at(text, at):
-    """All pieces that come in a row. Quotes that nothing closes are no leaf, nor is what comes before them."""
-    end = at
+    """The start, and all pieces that come in a row. Quotes that nothing closes are no leaf, nor is what comes before them. False
+    says so, and that no block begins here either."""
+    started = START.match(text, at)
+    end = started.end() if started else at
     found = PIECE.match(text, end)
     while found:
         end = found.end()
         found = PIECE.match(text, end)
-    if end == at or text.startswith(('"', "'"), end) or NO_UTF8.search(text, at, end):
-        return None
-    return text[at:end], end
+    if text.startswith(('"', "'"), end) or NO_UTF8.search(text, at, end):
+        return False
+    return (text[at:end], end) if end > at else None
 
 
 def is_debug_name(leaf):
-    return not leaf.endswith(":") and not any(character in leaf for character in "\"'(")
+    return not leaf.endswith(":") and not any(character in leaf for character in "\"'([")
 
 
 DEBUG = TextClass(debug_leaf_at, is_debug_name, has_open_structs=True)
@@ -243,7 +251,10 @@ class Reader:
         return at
 
     def document_at(self, text, at, depth):
-        found = self.text_class.leaf_at(text, at) or empty_at(text, at)
+        found = self.text_class.leaf_at(text, at)
+        if found is False:
+            return None
+        found = found or empty_at(text, at)
         name = ""
         if found is not None:
             document, end = found

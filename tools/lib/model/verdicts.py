@@ -55,7 +55,7 @@ def half(text, document, debug_document, is_pretty):
 def kinds(text_class, text):
     """Whether the text is a leaf of the class, and whether it is a name of it."""
     found = text_class.leaf_at(text, 0)
-    is_leaf = found is not None and found[1] == len(text)
+    is_leaf = bool(found) and found[1] == len(text)
     is_name = is_leaf and bool(text_class.is_name(text))
     return "yes" if is_leaf else "no", "yes" if is_name else "no"
 

@@ -51,7 +51,7 @@ fn leaves_of_std_are_debug_documents(rt: HostRuntime) {
 }
 
 // Other documents, and whether they are debug documents. None is a token document.
-const DOCUMENTS: [(&str, Shape<'static>, bool); 43] = [
+const DOCUMENTS: [(&str, Shape<'static>, bool); 48] = [
     ("a path as a leaf", Leaf("a::B"), true),
     ("a backslash outside of quotes", Leaf("a\\b"), true),
     ("texts in quotes in a row", Leaf("\"a\"'b'c"), true),
@@ -105,6 +105,15 @@ const DOCUMENTS: [(&str, Shape<'static>, bool); 43] = [
     ("parentheses after a word", Leaf("f()"), true),
     ("parentheses twice", Leaf("()()"), true),
     ("half of a pair of parentheses", Leaf("f("), false),
+    ("a word in parentheses", Leaf("(Weak)"), true),
+    ("two words in parentheses", Leaf("(a)(b)"), false),
+    ("an address with a port", Leaf("[::1]:80"), true),
+    ("an address without a port", Leaf("[::1]:"), false),
+    (
+        "a word in parentheses as a name",
+        StructOf("(a)", &[]),
+        false,
+    ),
     ("a colon after a closing quote", Leaf("\"a\":b"), false),
     (
         "a backslash before a quote, outside of quotes",

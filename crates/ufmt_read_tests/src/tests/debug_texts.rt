@@ -146,6 +146,11 @@ fn texts_that_rustc_printed_are_read_and_converted(rt: HostRuntime) {
             "[\n    f(),\n    a::b().c(),\n    ()(),\n]",
         ),
         ("Ok(())", "Ok(\n    (),\n)"),
+        ("(Weak)", "(Weak)"),
+        (
+            "{[a]: [::1]:80, [b]:c: [(d)]}",
+            "{\n    [\n        a,\n    ]: [::1]:80,\n    [b]:c: [\n        (d),\n    ],\n}",
+        ),
         ("S { a: :: }", "S {\n    a: ::,\n}"),
         ("a { a: : }", "a {\n    a: :,\n}"),
         ("{fe80::: a:, b:: c}", "{\n    fe80::: a:,\n    b:: c,\n}"),
@@ -176,7 +181,7 @@ fn debug_texts_are_converted_without_memory(rt: HostRuntime) {
 
 #[test]
 fn other_texts_are_no_debug_texts(rt: HostRuntime) {
-    let rows: [&[u8]; 41] = [
+    let rows: [&[u8]; 45] = [
         b"",
         b"a b",
         b"a: b",
@@ -217,7 +222,11 @@ fn other_texts_are_no_debug_texts(rt: HostRuntime) {
         b"S { a: 1 .. }",
         b"\"S\" { .. }",
         b"[1.5,2.5]",
-        b"(1.5)",
+        b"(1.5 )",
+        b"(a)(b)",
+        b"[::1]:",
+        b"[a]b",
+        b"(a) { b: 1 }",
     ];
     for text in rows {
         same(

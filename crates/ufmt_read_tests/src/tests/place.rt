@@ -6,7 +6,7 @@ use ufmt::layout::Mode;
 use ufmt_scan::valid_up_to;
 
 // What was read of a text that is none, with a bar before the piece that doesn't fit.
-const PLAIN: [&str; 35] = [
+const PLAIN: [&str; 34] = [
     "|",
     "| ",
     "|]",
@@ -37,7 +37,6 @@ const PLAIN: [&str; 35] = [
     "P { x: 1, |}",
     "P { x: 1, |y }",
     "P { x: [1], |: 2 }",
-    "(1|)",
     "(1, |)",
     "(1, 2|,)",
     "(|,)",
@@ -77,7 +76,7 @@ const PRETTY: [&str; 28] = [
 ];
 
 // Texts that only one class has, or that the two read to different places.
-const PLAIN_TOKENS: [&str; 11] = [
+const PLAIN_TOKENS: [&str; 12] = [
     "|é]",
     "x|é",
     "[|\"a\\q\"]",
@@ -89,9 +88,10 @@ const PLAIN_TOKENS: [&str; 11] = [
     "{1: |}",
     "P { x: |}",
     "A(|)",
+    "(1|)",
 ];
 
-const PLAIN_DEBUG: [&str; 12] = [
+const PLAIN_DEBUG: [&str; 14] = [
     "é|]",
     "[1.5, |]",
     "[a::b:|}",
@@ -104,6 +104,8 @@ const PLAIN_DEBUG: [&str; 12] = [
     "P { |x: }",
     "A()|(",
     "[\"a\"|:b]",
+    "(1)|(",
+    "[1]|:",
 ];
 
 const PRETTY_TOKENS: [&str; 1] = ["S {\n    a: 1,\n    |..\n}"];

@@ -1,8 +1,8 @@
 -- The leaf at the front of a text, as the scanner splits it off.
 use Rattle.std.specs.Prelude.{◌≡◌, ℕ, ◌==◌, ◌&&◌, ◌||◌, nat_le, Bool, true, false, not, List, [], ◌∷◌, ◌++◌, Option, None, MatchOption, ⊤}
-use Rattle.ufmt_core.specs.Bytes.{backslash, colon, opening_parenthesis}
+use Rattle.ufmt_core.specs.Bytes.{colon, opening_bracket, opening_parenthesis}
 use Rattle.ufmt_grammar.specs.declared.class.Class.{Class}
-use Rattle.ufmt_grammar.specs.Leaves.{Place, outside, between, is_outside, place_outside, has_name_bytes, is_debug_byte, is_quote}
+use Rattle.ufmt_grammar.specs.Leaves.{Place, beginning, between, is_outside, is_address_closed, is_plain_byte, is_word_closed, place_outside, has_name_bytes, is_debug_byte, is_quote}
 use Rattle.ufmt_grammar.specs.Reading.{front_of, after_front, is_whole, is_name, leaf_from, after_leaf, last_place}
 use Rattle.ufmt_scan.specs.declared.front.Front.{Front}
 
@@ -30,11 +30,7 @@ pub record Passes (place : Place) (t : List ℕ) (next : Place) (rest : List ℕ
 pub record NeverCloses (place : Place) (t : List ℕ) : Type 0 where
   pub last : is_outside (last_place place (leaf_from place t)) ≡ false
 
--- a byte that is in a word, whatever follows
-abbrev pub is_plain_byte : ℕ → Bool
-is_plain_byte c = is_debug_byte c && not (c == backslash)
-
--- the text begins with no such byte
+-- the text begins with no byte that is in a word, whatever follows
 abbrev pub StopsWord : List ℕ → Type 0
 StopsWord [] = ⊤
 StopsWord (c ∷ t) = is_plain_byte c ≡ false
@@ -48,6 +44,11 @@ pub record StaysBetween (quote : ℕ) (t rest : List ℕ) : Type 0 where
 abbrev pub is_ending : ℕ → Bool
 is_ending c = nat_le c 255 && not (is_debug_byte c || is_quote c || c == colon || c == opening_parenthesis)
 
+-- the leaf begins with a word in parentheses, or an address in brackets and a colon
+abbrev pub is_started : List ℕ → Bool
+is_started [] = false
+is_started (c ∷ t) = c == opening_parenthesis && is_word_closed t || c == opening_bracket && is_address_closed t
+
 -- no byte of a leaf is at the front, and no quote
 abbrev pub EndsAt : List ℕ → Type 0
 EndsAt [] = ⊤
@@ -56,7 +57,7 @@ EndsAt (c ∷ t) = (place_outside c t ≡ None) × (is_quote c ≡ false)
 -- the leaf at the front ends here
 pub record EndsLeaf (t rest : List ℕ) (named : Bool) : Type 0 where
   pub place : Place
-  pub passes : Passes outside t place rest named
+  pub passes : Passes beginning t place rest named
   pub closed : is_outside place ≡ true
   pub none : leaf_from place rest ≡ []
   pub all : after_leaf place rest ≡ rest

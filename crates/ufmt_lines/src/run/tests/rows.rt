@@ -98,7 +98,7 @@ const DEBUG_TEXTS: [(&str, &str); 36] = [
 ];
 
 // Lines that stay as they are.
-const OTHERS: [&[u8]; 45] = [
+const OTHERS: [&[u8]; 47] = [
     b"",
     b" ",
     b"word",
@@ -120,6 +120,8 @@ const OTHERS: [&[u8]; 45] = [
     b"\t[1]",
     b"()",
     b"took f()",
+    b"took (Weak)",
+    b"[1] (\"a b\")(c)",
     b"\"a b\" \"c d\"()",
     b"[1, 2] ()",
     b"{\"a\":1}",
@@ -186,10 +188,7 @@ const ESCAPES: [(&[u8], &[u8]); 15] = [
     (b"\\ [\"\\\"\", 'x']", b"\\ [\n    \"\\\"\",\n    'x',\n]"),
     // The first bracket that may be the one begins no text.
     (b"(\"\\\" [\"a\"]", b"(\"\\\" [\n    \"a\",\n]"),
-    (
-        b"( \\\" (\"\\\" a\",)",
-        b"( \\\" (\n    \"\\\" a\",\n)",
-    ),
+    (b"( \\\" (\"\\\" a\",)", b"( \\\" (\n    \"\\\" a\",\n)"),
     (
         b"b [c \"\\\"\" d, ['\"', \"\\\\\"]",
         b"b [c \"\\\"\" d, [\n    '\"',\n    \"\\\\\",\n]",

@@ -1,5 +1,5 @@
 use Rattle.std.proofs.Common.{◌∷◌, ap, sym, subst, false, arith, length}
-use Rattle.ufmt_grammar.specs.Leaves.{after_quotes, between, outside}
+use Rattle.ufmt_grammar.specs.Leaves.{after_quotes, between}
 use Rattle.ufmt_scan.specs.Private.Fronts.{Passes}
 use Rattle.ufmt_scan.proofs.DebugFronts.{closed, differ, opened, passes_then}
 use Rattle.ufmt_scan.proofs.debug_leaf.after_text.Goals as goal

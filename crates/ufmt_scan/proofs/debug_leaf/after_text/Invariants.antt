@@ -1,6 +1,6 @@
 -- The quotes are still open after what was passed.
 use Rattle.std.proofs.Common.{◌≤◌, ◌∷◌, length, false}
-use Rattle.ufmt_grammar.specs.Leaves.{after_quotes, between, outside}
+use Rattle.ufmt_grammar.specs.Leaves.{between, outside}
 use Rattle.ufmt_scan.specs.Private.Fronts.{Passes}
 use Rattle.ufmt_scan.proofs.debug_leaf.after_text.Given as goal
 
