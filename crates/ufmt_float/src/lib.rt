@@ -1,0 +1,5 @@
+#![tactic(auto)]
+
+//! Shortest decimals of floats.
+mod ratio;
+mod choice;
