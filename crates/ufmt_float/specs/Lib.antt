@@ -1,2 +1,3 @@
 pub mod Interval
+pub mod Scale
 pub mod Shortest

@@ -3,3 +3,5 @@
 //! Shortest decimals of floats.
 mod ratio;
 mod choice;
+mod limbs;
+mod wide;
