@@ -3,7 +3,7 @@ use Rattle.core.specs.Prelude.{◌≡◌, ◌≢◌, ℕ, zero, suc, ◌+◌, �
 use mathlib.Core.Path.{refl, sym, ap, ◌∙◌, subst}
 use mathlib.Core.Logic.{inl, inr}
 use native.Mathlib.Omega.{arith}
-use native.Mathlib.Nat.{eq-zero-or-pos, mul-le-mul_right, mul-pos, lt_of_mul-lt-mul_right}
+use native.Mathlib.Nat.{eq-zero-or-pos, mul-le-mul_right, mul-le-mul_left, le_of_mul-le-mul_right, lt_of_mul-lt-mul_right}
 use Rattle.ufmt_float.specs.Interval.{IsInside, IsScaled, IsChosen}
 use Rattle.ufmt_float.specs.Shortest.{IsNoFarther}
 
@@ -63,6 +63,30 @@ module _ (m below A B q : ℕ) (s : IsScaled m below A B) (from : q * B ≤ m * 
   top_pos : 0 < A
   top_pos = elim (eq-zero-or-pos A) [ inl z ↦ absurd (omega (arith, s.long, bottom_pos, ap (λ x. (below + 2) * x) z)) | inr p ↦ p ]
 
+  few_digits : (d : ℕ) → IsInside m below (d * B) A → (0 < d) × (d < 10 ^ 17)
+  few_digits d i =
+      let some : 0 < d = elim (eq-zero-or-pos d) [
+        | inl z ↦ (
+            let most : below ≤ 2 = elim s.sides [ inl e ↦ omega arith | inr e ↦ omega arith ] in
+            let least : 1 ≤ m = s.some.0 in
+            absurd (omega (arith, i.from, ap (λ x. x * B) z, mul-le-mul_right A most, mul-le-mul_right A least, top_pos))
+          )
+        | inr p ↦ p
+      ] in
+      let few : d < 10 ^ 17 = elim s.sides [
+        | inl e ↦ (
+            let unit : A ≤ 10 * B = omega (arith, s.short, ap (λ x. x * A) e) in
+            let l : d ≤ 10 * m + 5 = le_of_mul-le-mul_right {k = B} (omega (arith, i.to, mul-le-mul_left m unit)) bottom_pos in
+            omega (arith, s.some)
+          )
+        | inr e ↦ (
+            let unit : 3 * A ≤ 40 * B = omega (arith, s.short, ap (λ x. x * A) e.0) in
+            let l : 12 * d ≤ 160 * m + 80 = le_of_mul-le-mul_right {k = B} (omega (arith, i.to, mul-le-mul_left m unit)) bottom_pos in
+            omega (arith, e.2)
+          )
+      ] in
+      (some, few)
+
   -- the interval has one multiple of ten at most
   one_ten : (d e : ℕ) → IsInside m below (10 * d * B) A → IsInside m below (10 * e * B) A → d ≤ e
   one_ten d e i j = elim (eq-zero-or-pos (d - e)) [
@@ -74,7 +98,7 @@ module _ (m below A B q : ℕ) (s : IsScaled m below A B) (from : q * B ≤ m * 
   same_ten d e i j = let a = one_ten d e i j in let b = one_ten e d j i in omega arith
 
   chosen_ten : (d : ℕ) → IsInside m below (10 * d * B) A → IsChosen m below A B (10 * d)
-  chosen_ten d i = record { inside = i; ten = λ e j. same_ten d e i j; closest = λ n e j. absurd (n (omega arith)) }
+  chosen_ten d i = record { inside = i; few = few_digits (10 * d) i; ten = λ e j. same_ten d e i j; closest = λ n e j. absurd (n (omega arith)) }
 
   pub chosen_tens : 4 * (m * A) + m % 2 ≤ 4 * ((q - q % 10) * B) + below * A → IsChosen m below A B (q - q % 10)
   chosen_tens h =
@@ -97,8 +121,11 @@ module _ (m below A B q : ℕ) (s : IsScaled m below A B) (from : q * B ≤ m * 
     no_ten d i x = let a = above_missed m below A B _ _ low i in let b = below_passed m below A B _ _ high i in absurd (omega arith)
 
     pub chosen_whole : 4 * (m * A) + m % 2 ≤ 4 * (q * B) + below * A → 2 * (m * A) < (2 * q + 1) * B → IsChosen m below A B q
-    chosen_whole i near = record {
-      inside = record { from = i; to = omega (arith, top_pos) };
+    chosen_whole start near =
+      let i : IsInside m below ((q) * B) A = record { from = start; to = omega (arith, top_pos) } in
+      record {
+      inside = i;
+      few = few_digits (q) i;
       ten = λ d j. no_ten d j q;
       closest = λ n d j. elim (eq-zero-or-pos (d - q)) [ inl z ↦ closer_below _ _ q d from (omega arith) | inr p ↦ closer_half _ _ q d from near (omega arith) ];
     }
@@ -135,22 +162,31 @@ module _ (m below A B q : ℕ) (s : IsScaled m below A B) (from : q * B ≤ m * 
     ]
 
     pub chosen_past : Misses m below A B q → IsChosen m below A B (q + 1)
-    chosen_past miss = record {
-      inside = record { from = omega (arith, top_pos); to = ends_past miss };
+    chosen_past miss =
+      let i : IsInside m below ((q + 1) * B) A = record { from = omega (arith, top_pos); to = ends_past miss } in
+      record {
+      inside = i;
+      few = few_digits (q + 1) i;
       ten = λ d j. no_ten d j (q + 1);
       closest = λ n d j. closer_above _ _ (q + 1) d bottom_pos under (let l = above_missed m below A B q d miss j in omega arith);
     }
 
     pub chosen_next : 4 * ((q + 1) * B) + m % 2 ≤ 4 * (m * A) + 2 * A → (2 * q + 1) * B ≤ 2 * (m * A) → IsChosen m below A B (q + 1)
-    chosen_next i near = record {
-      inside = record { from = omega (arith, top_pos); to = i };
+    chosen_next end near =
+      let i : IsInside m below ((q + 1) * B) A = record { from = omega (arith, top_pos); to = end } in
+      record {
+      inside = i;
+      few = few_digits (q + 1) i;
       ten = λ d j. no_ten d j (q + 1);
       closest = λ n d j. elim (eq-zero-or-pos (d - q)) [ inl z ↦ closer_next _ _ (q + 1) d (omega arith) under (omega arith) | inr p ↦ closer_above _ _ (q + 1) d bottom_pos under (omega arith) ];
     }
 
     pub chosen_before : Passes m below A B (q + 1) → IsChosen m below A B q
-    chosen_before pass = record {
-      inside = record { from = starts_before pass; to = omega (arith, top_pos) };
+    chosen_before pass =
+      let i : IsInside m below ((q) * B) A = record { from = starts_before pass; to = omega (arith, top_pos) } in
+      record {
+      inside = i;
+      few = few_digits (q) i;
       ten = λ d j. no_ten d j q;
       closest = λ n d j. closer_below _ _ q d from (let l = below_passed m below A B (q + 1) d pass j in omega arith);
     }

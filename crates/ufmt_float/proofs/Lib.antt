@@ -1,3 +1,6 @@
 pub mod Choices
+pub mod Decimals
 pub mod Intervals
 pub mod LimbSteps
+pub mod Scales
+pub mod Shortness

@@ -4,4 +4,5 @@
 mod ratio;
 mod choice;
 mod limbs;
+mod shortest;
 mod wide;
