@@ -1,3 +1,4 @@
 pub mod Interval
+pub mod Parts
 pub mod Scale
 pub mod Shortest

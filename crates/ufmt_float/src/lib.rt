@@ -1,6 +1,7 @@
 #![tactic(auto)]
 
 //! Shortest decimals of floats.
+mod parts;
 mod ratio;
 mod choice;
 mod limbs;
