@@ -20,8 +20,10 @@ module _ (V B a b : ℕ) where
   closer_above : 0 < B → V < a * B → a ≤ b → IsNoFarther V B a b
   closer_above P h l =
       let k = mul-le-mul_right B l in
-      elim (eq-zero-or-pos (b - a)) [ inl z ↦ inr (let e : a ≡ b = omega arith in (ap (λ x. (x * B - V) + (V - x * B)) e, omega arith))
-        | inr p ↦ inl (let g : a + 1 ≤ b = omega arith in omega (arith, mul-le-mul_right B g)) ]
+      elim (eq-zero-or-pos (b - a)) [
+        | inl z ↦ inr (let e : a ≡ b = omega arith in (ap (λ x. (x * B - V) + (V - x * B)) e, omega arith))
+        | inr p ↦ inl (let g : a + 1 ≤ b = omega arith in omega (arith, mul-le-mul_right B g))
+      ]
 
   -- a is at most the value, b is above it, and the value is in the lower half
   closer_half : a * B ≤ V → 2 * V < (2 * a + 1) * B → a + 1 ≤ b → IsNoFarther V B a b
@@ -70,7 +72,7 @@ module _ (m below A B q : ℕ) (s : IsScaled m below A B) (from : q * B ≤ m * 
             let most : below ≤ 2 = elim s.sides [ inl e ↦ omega arith | inr e ↦ omega arith ] in
             let least : 1 ≤ m = s.some.0 in
             absurd (omega (arith, i.from, ap (λ x. x * B) z, mul-le-mul_right A most, mul-le-mul_right A least, top_pos))
-          )
+            )
         | inr p ↦ p
       ] in
       let few : d < 10 ^ 17 = elim s.sides [
@@ -78,12 +80,12 @@ module _ (m below A B q : ℕ) (s : IsScaled m below A B) (from : q * B ≤ m * 
             let unit : A ≤ 10 * B = omega (arith, s.short, ap (λ x. x * A) e) in
             let l : d ≤ 10 * m + 5 = le_of_mul-le-mul_right {k = B} (omega (arith, i.to, mul-le-mul_left m unit)) bottom_pos in
             omega (arith, s.some)
-          )
+            )
         | inr e ↦ (
             let unit : 3 * A ≤ 40 * B = omega (arith, s.short, ap (λ x. x * A) e.0) in
             let l : 12 * d ≤ 160 * m + 80 = le_of_mul-le-mul_right {k = B} (omega (arith, i.to, mul-le-mul_left m unit)) bottom_pos in
             omega (arith, e.2)
-          )
+            )
       ] in
       (some, few)
 
@@ -122,13 +124,13 @@ module _ (m below A B q : ℕ) (s : IsScaled m below A B) (from : q * B ≤ m * 
 
     pub chosen_whole : 4 * (m * A) + m % 2 ≤ 4 * (q * B) + below * A → 2 * (m * A) < (2 * q + 1) * B → IsChosen m below A B q
     chosen_whole start near =
-      let i : IsInside m below ((q) * B) A = record { from = start; to = omega (arith, top_pos) } in
-      record {
-      inside = i;
-      few = few_digits (q) i;
-      ten = λ d j. no_ten d j q;
-      closest = λ n d j. elim (eq-zero-or-pos (d - q)) [ inl z ↦ closer_below _ _ q d from (omega arith) | inr p ↦ closer_half _ _ q d from near (omega arith) ];
-    }
+        let i : IsInside m below ((q) * B) A = record { from = start; to = omega (arith, top_pos) } in
+        record {
+          inside = i;
+          few = few_digits (q) i;
+          ten = λ d j. no_ten d j q;
+          closest = λ n d j. elim (eq-zero-or-pos (d - q)) [ inl z ↦ closer_below _ _ q d from (omega arith) | inr p ↦ closer_half _ _ q d from near (omega arith) ];
+        }
 
     -- the unit is the power of ten, and the float is a multiple of it
     whole_float : A ≡ B → q ≡ m
@@ -146,7 +148,7 @@ module _ (m below A B q : ℕ) (s : IsScaled m below A B) (from : q * B ≤ m * 
             | inl z ↦ (let same : A ≡ B = omega (arith, s.long) in absurd (omega (arith, ap (λ x. x * B) (whole_float same), ap (λ x. m * x) same, top_pos)))
             | inr p ↦ omega arith
           ]
-        )
+          )
     ]
 
     starts_before : Passes m below A B (q + 1) → 4 * (m * A) + m % 2 ≤ 4 * (q * B) + below * A
@@ -158,38 +160,38 @@ module _ (m below A B q : ℕ) (s : IsScaled m below A B) (from : q * B ≤ m * 
             | inl z ↦ (let same : A ≡ B = omega (arith, s.long) in omega (arith, ap (λ x. x * B) (whole_float same), ap (λ x. m * x) same, top_pos))
             | inr p ↦ omega arith
           ]
-        )
+          )
     ]
 
     pub chosen_past : Misses m below A B q → IsChosen m below A B (q + 1)
     chosen_past miss =
-      let i : IsInside m below ((q + 1) * B) A = record { from = omega (arith, top_pos); to = ends_past miss } in
-      record {
-      inside = i;
-      few = few_digits (q + 1) i;
-      ten = λ d j. no_ten d j (q + 1);
-      closest = λ n d j. closer_above _ _ (q + 1) d bottom_pos under (let l = above_missed m below A B q d miss j in omega arith);
-    }
+        let i : IsInside m below ((q + 1) * B) A = record { from = omega (arith, top_pos); to = ends_past miss } in
+        record {
+          inside = i;
+          few = few_digits (q + 1) i;
+          ten = λ d j. no_ten d j (q + 1);
+          closest = λ n d j. closer_above _ _ (q + 1) d bottom_pos under (let l = above_missed m below A B q d miss j in omega arith);
+        }
 
     pub chosen_next : 4 * ((q + 1) * B) + m % 2 ≤ 4 * (m * A) + 2 * A → (2 * q + 1) * B ≤ 2 * (m * A) → IsChosen m below A B (q + 1)
     chosen_next end near =
-      let i : IsInside m below ((q + 1) * B) A = record { from = omega (arith, top_pos); to = end } in
-      record {
-      inside = i;
-      few = few_digits (q + 1) i;
-      ten = λ d j. no_ten d j (q + 1);
-      closest = λ n d j. elim (eq-zero-or-pos (d - q)) [ inl z ↦ closer_next _ _ (q + 1) d (omega arith) under (omega arith) | inr p ↦ closer_above _ _ (q + 1) d bottom_pos under (omega arith) ];
-    }
+        let i : IsInside m below ((q + 1) * B) A = record { from = omega (arith, top_pos); to = end } in
+        record {
+          inside = i;
+          few = few_digits (q + 1) i;
+          ten = λ d j. no_ten d j (q + 1);
+          closest = λ n d j. elim (eq-zero-or-pos (d - q)) [ inl z ↦ closer_next _ _ (q + 1) d (omega arith) under (omega arith) | inr p ↦ closer_above _ _ (q + 1) d bottom_pos under (omega arith) ];
+        }
 
     pub chosen_before : Passes m below A B (q + 1) → IsChosen m below A B q
     chosen_before pass =
-      let i : IsInside m below ((q) * B) A = record { from = starts_before pass; to = omega (arith, top_pos) } in
-      record {
-      inside = i;
-      few = few_digits (q) i;
-      ten = λ d j. no_ten d j q;
-      closest = λ n d j. closer_below _ _ q d from (let l = below_passed m below A B (q + 1) d pass j in omega arith);
-    }
+        let i : IsInside m below ((q) * B) A = record { from = starts_before pass; to = omega (arith, top_pos) } in
+        record {
+          inside = i;
+          few = few_digits (q) i;
+          ten = λ d j. no_ten d j q;
+          closest = λ n d j. closer_below _ _ q d from (let l = below_passed m below A B (q + 1) d pass j in omega arith);
+        }
 
 -- the start of the interval, as the code compares it
 pub taken_off : (m below A : ℕ) → 0 < m → below ≤ 2 → (4 * m - below) * A + below * A ≡ 4 * (m * A)

@@ -1,5 +1,5 @@
 -- A float's parts, from its bits.
-use Rattle.core.specs.Prelude.{◌≡◌, ℕ, zero, suc, ◌+◌, ◌-◌, ◌*◌, ◌/◌, ◌%◌, ◌^◌, ◌<◌, ◌≤◌, Bool, true, false, not, cond, leb, eqb, pos, T}
+use Rattle.core.specs.Prelude.{◌≡◌, ℕ, zero, suc, ◌+◌, ◌-◌, ◌*◌, ◌/◌, ◌%◌, ◌^◌, ◌<◌, ◌≤◌, ◌⊎◌, Bool, true, false, not, cond, leb, eqb, pos, T}
 use mathlib.Core.Path.{refl, sym, ap, ◌∙◌, subst}
 use mathlib.Core.Logic.{inl, inr}
 use mathlib.Core.Bool.{false≢true}
@@ -11,7 +11,10 @@ use lib.Ieee.{Float, Format, binary32, binary64, nan, inf, fin, prec, low, hid, 
 use lib.Ieee.Bits.{nan_bits_is, nan_bits_above}
 use Rattle.core.specs.Float.{float_with_sign, is_sign_negative}
 use Rattle.core.proofs.dec2flt.Patterns.{shape, infinite}
-use Rattle.ufmt_float.specs.Parts.{IsFinite, HasParts}
+use Rattle.ufmt_float.specs.declared.parts.Parts.{Parts}
+use Rattle.ufmt_float.specs.declared.parts.Parts.TheVariants.{NotANumber, Infinite, Zero}
+use Rattle.ufmt_float.specs.Parts.{IsFinite, HasParts, AreParts}
+use Rattle.ufmt_float.specs.Shortest.{IsAboveZero}
 
 -- ---- the sign of a float that has given fields
 
@@ -146,7 +149,7 @@ only_nan (fin s m d) e = absurd (false≢true (sym e))
 -- ---- as the code finds them, where each constant is a value of its own
 
 module _ (f : Format) (x : Float) (raw : ℕ) (same : of_bits f raw ≡ x) (is_number : Bool) (told : is_number ≡ not (is_nan x)) (yes : is_number ≡ true)
-         (sign sign' : ℕ) (S : sign ≡ top f) (S' : sign' ≡ top f) where
+    (sign sign' : ℕ) (S : sign ≡ top f) (S' : sign' ≡ top f) where
   number : T (not (is_nan x))
   number = subst T (sym (sym told ∙ yes)) tt
 
@@ -175,3 +178,23 @@ module _ (f : Format) (x : Float) (raw : ℕ) (same : of_bits f raw ≡ x) (is_n
       subst (λ h. HasParts f x (leb sign raw) (h + raw % sign' % h2) (raw % sign' / h3 - 1)) (sym e1)
       (subst (λ h. HasParts f x (leb sign raw) (hid f + raw % sign' % h) (raw % sign' / h3 - 1)) (sym e2)
       (subst (λ h. HasParts f x (leb sign raw) (hid f + raw % sign' % hid f) (raw % sign' / h - 1)) (sym e3) p))
+
+-- ---- floats that have no decimal
+
+no_zero : (b : Bool) → IsAboveZero (float_with_sign false (fin b 0 (pos 0))) → ⊥
+unfolding float_with_sign
+no_zero b h = absurd (omega arith)
+
+no_infinity : (b : Bool) → IsAboveZero (float_with_sign false (inf b)) → ⊥
+unfolding float_with_sign
+no_infinity b h = h
+
+no_nan : IsAboveZero (float_with_sign false nan) → ⊥
+unfolding float_with_sign
+no_nan h = h
+
+pub not_above : (f : Format) (x : Float) (p : Parts) → AreParts f x p → ((b : Bool) × (p ≡ Zero b)) ⊎ ((b : Bool) × (p ≡ Infinite b)) ⊎ (p ≡ NotANumber)
+    → IsAboveZero (float_with_sign false x) → ⊥
+not_above f x p a (inl z) h = no_zero z.0 (subst (λ y. IsAboveZero (float_with_sign false y)) (subst (AreParts f x) z.1 a) h)
+not_above f x p a (inr (inl i)) h = no_infinity i.0 (subst (λ y. IsAboveZero (float_with_sign false y)) (subst (AreParts f x) i.1 a) h)
+not_above f x p a (inr (inr n)) h = no_nan (subst (λ y. IsAboveZero (float_with_sign false y)) (subst (AreParts f x) n a) h)

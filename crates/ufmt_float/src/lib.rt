@@ -1,9 +1,13 @@
 #![tactic(auto)]
 
-//! Shortest decimals of floats.
+//! The shortest decimals of floats, and their texts as Rust prints them. Nothing here takes memory.
+
+mod choice;
+mod digits;
+mod limbs;
 mod parts;
 mod ratio;
-mod choice;
-mod limbs;
-mod shortest;
 mod wide;
+
+pub use digits::{Decimal, shortest};
+pub use parts::Float;
