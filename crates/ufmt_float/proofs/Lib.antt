@@ -1,7 +1,9 @@
 pub mod Choices
 pub mod Decimals
 pub mod FloatParts
+pub mod FloatTexts
 pub mod Intervals
 pub mod LimbSteps
+pub mod Puts
 pub mod Scales
 pub mod Shortness

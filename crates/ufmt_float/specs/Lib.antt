@@ -1,4 +1,6 @@
 pub mod Interval
 pub mod Parts
+pub mod Put
 pub mod Scale
 pub mod Shortest
+pub mod Text

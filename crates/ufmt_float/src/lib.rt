@@ -7,6 +7,7 @@ mod digits;
 mod limbs;
 mod parts;
 mod ratio;
+mod text;
 mod wide;
 
 pub use digits::{Decimal, shortest};

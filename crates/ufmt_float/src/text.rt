@@ -1,0 +1,245 @@
+//! Texts of decimals, written from the right.
+ghost use Rattle.core.specs.Prelude.{◌≡◌, ◌+◌, ◌-◌, ◌*◌, ◌/◌, ◌^◌, ◌<◌, ◌≤◌, [], ◌∷◌, ◌++◌, length, drop, replicate, true, false, if◌then◌else◌};
+ghost use lib.Chars.{codes};
+ghost use Rattle.core.specs.Fmt.{decimal, sign_text};
+ghost use Rattle.ufmt_float.specs.Put.{IsPut};
+ghost use Rattle.ufmt_float.specs.Shortest.{distance};
+ghost use Rattle.ufmt_float.specs.Text.{last_digits, fixed_text, plain_text, exponent_text, scientific_text, is_plain, decimal_text, IsFloatText};
+
+use crate::digits::{Decimal, decimal_of};
+use crate::parts::{Float, Parts, parts_of};
+
+// Each function writes before the index `end`, and returns where its text starts.
+
+/// Writes one byte.
+#[inline(always)]
+fn put_byte(buffer: &mut [u8], end: usize, byte: u8) -> usize
+    requires { (0 < end) × (end ≤ length buffer.old) }
+    ensures { IsPut (byte ∷ []) end buffer.old result buffer.new }
+{
+    buffer[end - 1] = byte;
+    end - 1
+}
+
+/// Writes so many zeros.
+fn put_zeros(buffer: &mut [u8], end: usize, count: usize) -> usize
+    requires { (count ≤ end) × (end ≤ length buffer.old) }
+    ensures { IsPut (replicate count 48) end buffer.old result buffer.new }
+{
+    for i in 0..count {
+        buffer[end - 1 - i] = b'0';
+    }
+    end - count
+}
+
+/// Writes the last `count` digits, and returns the number that the digits before them denote.
+fn put_last_digits(buffer: &mut [u8], end: usize, n: u64, count: usize) -> u64
+    requires { (count ≤ end) × (end ≤ length buffer.old) }
+    ensures left { result ≡ n / 10 ^ count }
+    ensures written { IsPut (last_digits count n) end buffer.old (end - count) buffer.new }
+{
+    let mut left = n;
+    for i in 0..count {
+        buffer[end - 1 - i] = b'0' + (left % 10) as u8;
+        left /= 10;
+    }
+    left
+}
+
+/// Returns how many digits a number has.
+fn count_digits(n: u64) -> usize
+    ensures count { result ≡ length (decimal n) }
+    ensures bounds { (1 ≤ result) × (result ≤ 20) }
+{
+    let mut left = n;
+    let mut count = 1;
+    while left >= 10 {
+        left /= 10;
+        count += 1;
+    }
+    count
+}
+
+/// Writes a whole number.
+fn put_decimal(buffer: &mut [u8], end: usize, n: u64) -> usize
+    requires { (length (decimal n) ≤ end) × (end ≤ length buffer.old) }
+    ensures { IsPut (decimal n) end buffer.old result buffer.new }
+{
+    let count = count_digits(n);
+    put_last_digits(buffer, end, n, count);
+    end - count
+}
+
+/// Writes `digits / 10 ^ places` with all its decimals.
+fn put_fixed(buffer: &mut [u8], end: usize, digits: u64, places: usize) -> usize
+    requires { (length (fixed_text digits places) ≤ end) × (end ≤ length buffer.old) }
+    ensures { IsPut (fixed_text digits places) end buffer.old result buffer.new }
+{
+    let whole = put_last_digits(buffer, end, digits, places);
+    let end = put_byte(buffer, end - places, b'.');
+    put_decimal(buffer, end, whole)
+}
+
+/// Writes a decimal with no exponent.
+fn put_plain(buffer: &mut [u8], end: usize, debug: bool, digits: u64, power: u64) -> usize
+    requires { (length (plain_text debug digits power) ≤ end) × (end ≤ length buffer.old) }
+    ensures { IsPut (plain_text debug digits power) end buffer.old result buffer.new }
+{
+    if power < 400 {
+        return put_fixed(buffer, end, digits, (400 - power) as usize);
+    }
+    let end = put_mark(buffer, end, debug);
+    let end = put_zeros(buffer, end, (power - 400) as usize);
+    put_decimal(buffer, end, digits)
+}
+
+/// Writes `.0` if `debug`, else nothing.
+#[inline(always)]
+fn put_mark(buffer: &mut [u8], end: usize, debug: bool) -> usize
+    requires { (length (if debug then (codes ".0") else []) ≤ end) × (end ≤ length buffer.old) }
+    ensures { IsPut (if debug then (codes ".0") else []) end buffer.old result buffer.new }
+{
+    if !debug {
+        return end;
+    }
+    let end = put_byte(buffer, end, b'0');
+    put_byte(buffer, end, b'.')
+}
+
+/// Writes a minus if `negative`, else nothing.
+#[inline(always)]
+fn put_sign(buffer: &mut [u8], end: usize, negative: bool) -> usize
+    requires { (length (sign_text negative) ≤ end) × (end ≤ length buffer.old) }
+    ensures { IsPut (sign_text negative) end buffer.old result buffer.new }
+{
+    if negative {
+        put_byte(buffer, end, b'-')
+    } else {
+        end
+    }
+}
+
+/// Returns the exponent `power - 400` without its sign.
+#[inline(always)]
+fn exponent_size(power: u64) -> u64
+    ensures { result ≡ distance power 400 }
+{
+    if power < 400 {
+        400 - power
+    } else {
+        power - 400
+    }
+}
+
+/// Writes the exponent `power - 400`, after an `e`.
+fn put_exponent(buffer: &mut [u8], end: usize, power: u64) -> usize
+    requires small { power < 1000 }
+    requires room { (5 ≤ end) × (end ≤ length buffer.old) }
+    ensures { IsPut (exponent_text power) end buffer.old result buffer.new }
+{
+    let end = put_decimal(buffer, end, exponent_size(power));
+    let end = put_sign(buffer, end, power < 400);
+    put_byte(buffer, end, b'e')
+}
+
+/// Writes a decimal with one digit before the point, and an exponent.
+fn put_scientific(buffer: &mut [u8], end: usize, digits: u64, power: u64) -> usize
+    requires sizes { (digits < 10 ^ 17) × (power < 900) }
+    requires room { (40 ≤ end) × (end ≤ length buffer.old) }
+    ensures text { IsPut (scientific_text digits power) end buffer.old result buffer.new }
+    ensures short { end ≤ result + 40 }
+{
+    let places = count_digits(digits) - 1;
+    let end = put_exponent(buffer, end, power + places as u64);
+    if places == 0 {
+        put_decimal(buffer, end, digits)
+    } else {
+        put_fixed(buffer, end, digits, places)
+    }
+}
+
+/// Whether Debug prints a decimal with no exponent.
+#[inline(always)]
+fn is_plain(digits: u64, power: u64) -> bool
+    requires { power < 1000 }
+    ensures { result ≡ is_plain digits power }
+{
+    let first = power + (count_digits(digits) - 1) as u64;
+    396 <= first && first < 416
+}
+
+/// Writes a decimal as Debug prints it.
+fn put_debug(buffer: &mut [u8], end: usize, decimal: Decimal) -> usize
+    requires sizes { (decimal.digits < 10 ^ 17) × (decimal.power < 711) }
+    requires room { (40 ≤ end) × (end ≤ length buffer.old) }
+    ensures text { IsPut (decimal_text true decimal.digits decimal.power) end buffer.old result buffer.new }
+    ensures short { end ≤ result + 40 }
+{
+    if is_plain(decimal.digits, decimal.power) {
+        put_plain(buffer, end, true, decimal.digits, decimal.power)
+    } else {
+        put_scientific(buffer, end, decimal.digits, decimal.power)
+    }
+}
+
+/// Writes a decimal as Display prints it.
+fn put_display(buffer: &mut [u8], end: usize, decimal: Decimal) -> usize
+    requires sizes { (decimal.digits < 10 ^ 17) × (76 ≤ decimal.power) × (decimal.power < 711) }
+    requires room { (343 ≤ end) × (end ≤ length buffer.old) }
+    ensures text { IsPut (decimal_text false decimal.digits decimal.power) end buffer.old result buffer.new }
+    ensures short { end ≤ result + 343 }
+{
+    put_plain(buffer, end, false, decimal.digits, decimal.power)
+}
+
+/// Writes a decimal as Debug or Display prints it.
+fn put_number(buffer: &mut [u8], end: usize, debug: bool, decimal: Decimal) -> usize
+    requires sizes { (decimal.digits < 10 ^ 17) × (76 ≤ decimal.power) × (decimal.power < 711) }
+    requires room { ((if debug then 40 else 343) ≤ end) × (end ≤ length buffer.old) }
+    ensures text { IsPut (decimal_text debug decimal.digits decimal.power) end buffer.old result buffer.new }
+    ensures short { end ≤ result + (if debug then 40 else 343) }
+{
+    if debug {
+        put_debug(buffer, end, decimal)
+    } else {
+        put_display(buffer, end, decimal)
+    }
+}
+
+/// Writes three bytes.
+#[inline(always)]
+fn put_word(buffer: &mut [u8], end: usize, word: [u8; 3]) -> usize
+    requires { (3 ≤ end) × (end ≤ length buffer.old) }
+    ensures { IsPut word end buffer.old result buffer.new }
+{
+    let [first, second, third] = word;
+    let end = put_byte(buffer, end, third);
+    let end = put_byte(buffer, end, second);
+    put_byte(buffer, end, first)
+}
+
+/// Writes a float at the end of the buffer, as Debug or Display prints it.
+#[inline(always)]
+fn put_float<F: Float>(buffer: &mut [u8], debug: bool, x: F) -> usize
+    requires { (if debug then 41 else 344) ≤ length buffer.old }
+    ensures text { IsFloatText F.format debug (F.value x) (drop result buffer.new) }
+    ensures within { result ≤ length buffer.old }
+    ensures same { length buffer.new ≡ length buffer.old }
+{
+    let end = buffer.len();
+    match parts_of(x) {
+        Parts::NotANumber => put_word(buffer, end, *b"NaN"),
+        Parts::Infinite { negative } => {
+            let end = put_word(buffer, end, *b"inf");
+            put_sign(buffer, end, negative)
+        }
+        Parts::Zero { negative } => {
+            let end = put_number(buffer, end, debug, Decimal { digits: 0, power: 400 });
+            put_sign(buffer, end, negative)
+        }
+        Parts::Finite { negative, significand, exponent } => {
+            let end = put_number(buffer, end, debug, decimal_of::<F>(significand, exponent));
+            put_sign(buffer, end, negative)
+        }
+    }
+}
