@@ -12,3 +12,4 @@ mod wide;
 
 pub use digits::{Decimal, shortest};
 pub use parts::Float;
+pub use text::{DebugText, DisplayText};

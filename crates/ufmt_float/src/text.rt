@@ -1,5 +1,5 @@
 //! Texts of decimals, written from the right.
-ghost use Rattle.core.specs.Prelude.{◌≡◌, ◌+◌, ◌-◌, ◌*◌, ◌/◌, ◌^◌, ◌<◌, ◌≤◌, [], ◌∷◌, ◌++◌, length, drop, replicate, true, false, if◌then◌else◌};
+ghost use Rattle.core.specs.Prelude.{◌≡◌, ℕ, List, ◌+◌, ◌-◌, ◌*◌, ◌/◌, ◌^◌, ◌<◌, ◌≤◌, [], ◌∷◌, ◌++◌, length, drop, replicate, true, false, if◌then◌else◌};
 ghost use lib.Chars.{codes};
 ghost use Rattle.core.specs.Fmt.{decimal, sign_text};
 ghost use Rattle.ufmt_float.specs.Put.{IsPut};
@@ -8,6 +8,7 @@ ghost use Rattle.ufmt_float.specs.Text.{last_digits, fixed_text, plain_text, exp
 
 use crate::digits::{Decimal, decimal_of};
 use crate::parts::{Float, Parts, parts_of};
+use core::marker::Model;
 
 // Each function writes before the index `end`, and returns where its text starts.
 
@@ -234,12 +235,94 @@ fn put_float<F: Float>(buffer: &mut [u8], debug: bool, x: F) -> usize
             put_sign(buffer, end, negative)
         }
         Parts::Zero { negative } => {
-            let end = put_number(buffer, end, debug, Decimal { digits: 0, power: 400 });
+            let end = put_number(
+                buffer,
+                end,
+                debug,
+                Decimal {
+                    digits: 0,
+                    power: 400,
+                },
+            );
             put_sign(buffer, end, negative)
         }
-        Parts::Finite { negative, significand, exponent } => {
+        Parts::Finite {
+            negative,
+            significand,
+            exponent,
+        } => {
             let end = put_number(buffer, end, debug, decimal_of::<F>(significand, exponent));
             put_sign(buffer, end, negative)
         }
+    }
+}
+
+/// The text of a float as Debug prints it, `{:?}`.
+#[derive(Drop)]
+pub struct DebugText {
+    bytes: [u8; 41],
+    start: usize,
+}
+
+impl Model for DebugText {
+    ghost Value = { List ℕ };
+
+    ghost view = { λ t. drop t.start t.bytes };
+
+    ghost invariant = { λ t. t.start ≤ 41 };
+}
+
+impl DebugText {
+    /// Returns the text of `x`.
+    #[inline]
+    pub fn of<F: Float>(x: F) -> DebugText
+        ensures { IsFloatText F.format true (F.value x) result }
+    {
+        let mut bytes = [0; 41];
+        let start = put_float(&mut bytes, true, x);
+        DebugText { bytes, start }
+    }
+
+    /// Returns the bytes of the text.
+    #[inline(always)]
+    pub fn as_bytes(&self) -> &[u8]
+        ensures { result.now ≡ self.now }
+    {
+        &self.bytes[self.start..]
+    }
+}
+
+/// The text of a float as Display prints it, `{}`.
+#[derive(Drop)]
+pub struct DisplayText {
+    bytes: [u8; 344],
+    start: usize,
+}
+
+impl Model for DisplayText {
+    ghost Value = { List ℕ };
+
+    ghost view = { λ t. drop t.start t.bytes };
+
+    ghost invariant = { λ t. t.start ≤ 344 };
+}
+
+impl DisplayText {
+    /// Returns the text of `x`.
+    #[inline]
+    pub fn of<F: Float>(x: F) -> DisplayText
+        ensures { IsFloatText F.format false (F.value x) result }
+    {
+        let mut bytes = [0; 344];
+        let start = put_float(&mut bytes, false, x);
+        DisplayText { bytes, start }
+    }
+
+    /// Returns the bytes of the text.
+    #[inline(always)]
+    pub fn as_bytes(&self) -> &[u8]
+        ensures { result.now ≡ self.now }
+    {
+        &self.bytes[self.start..]
     }
 }
