@@ -1,4 +1,5 @@
 pub mod Interval
+pub mod Laws
 pub mod Parts
 pub mod Put
 pub mod Scale

@@ -4,6 +4,7 @@
 
 mod choice;
 mod digits;
+pub mod laws;
 mod limbs;
 mod parts;
 mod ratio;
