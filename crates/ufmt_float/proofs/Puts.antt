@@ -3,7 +3,7 @@ use Rattle.core.specs.Prelude.{◌≡◌, ℕ, zero, suc, ◌+◌, ◌-◌, ◌*
 use mathlib.Core.Path.{refl, sym, ap, ◌∙◌, subst}
 use mathlib.Core.Logic.{inl, inr}
 use native.Mathlib.Omega.{arith}
-use native.Mathlib.Nat.{eq-zero-or-pos, div-div-eq-div-mul, div-one, div-le_self, pow-succ'}
+use native.Mathlib.Nat.{eq-zero-or-pos, div-div-eq-div-mul, div-one, div-le_self, pow-suc, pow-succ', le-div_iff_mul-le, div-lt_iff_lt-mul}
 use mathlib.Core.Bool.{false≢true}
 use borrow.Author.Tests.{lt-ltb, le-ltb, leb-true, ltb-true}
 use native.Mathlib.Numerals.{add-one}
@@ -166,3 +166,19 @@ more_room false = refl
 -- a text that ends where the buffer does
 pub put_at_end : (text old new : List ℕ) (start : ℕ) → IsPut text (length old) old start new → drop start new ≡ text
 put_at_end text old new start p = p.written ∙ ap (λ xs. text ++ xs) (drop-length old) ∙ append-nil text
+
+-- without its last digits a number has so many digits fewer
+pub length-cut : (places n unit : ℕ) → n < 2 ^ 64 → unit ≡ 10 ^ places → unit ≤ n → length (decimal n) ≡ length (decimal (n / unit)) + places
+length-cut places n unit small e h = rw e (go places n small (rw e at h))
+  where
+    go : (k m : ℕ) → m < 2 ^ 64 → 10 ^ k ≤ m → length (decimal m) ≡ length (decimal (m / 10 ^ k)) + k
+    go zero m s l = ap (λ x. length (decimal x)) (sym (div-one m)) ∙ omega arith
+    go (suc k) m s l =
+        let tens : 10 ^ suc k ≡ 10 ^ k * 10 = pow-suc 10 k in
+        let ten : 10 ≤ m = omega (arith, l, tens, ten_power k) in
+        let less : 10 ^ k ≤ m / 10 = (le-div_iff_mul-le (omega arith)).1 (omega (arith, l, tens)) in
+        let quotient : m / 10 / 10 ^ k ≡ m / 10 ^ suc k = div-div-eq-div-mul m 10 (10 ^ k) ∙ ap (λ x. m / x) (sym (pow-succ' 10 k)) in
+        omega (arith, longer_decimal m ten s, go k (m / 10) (omega arith) less, ap (λ x. length (decimal x)) quotient)
+
+pub cut_less : (n unit : ℕ) → 0 < unit → n < unit * unit → n / unit < unit
+cut_less n unit u h = (div-lt_iff_lt-mul u).1 h

@@ -48,17 +48,33 @@ fn put_last_digits(buffer: &mut [u8], end: usize, n: u64, count: usize) -> u64
 }
 
 /// Returns how many digits a number has.
+#[inline(always)]
 fn count_digits(n: u64) -> usize
     ensures count { result ≡ length (decimal n) }
     ensures bounds { (1 ≤ result) × (result ≤ 20) }
 {
-    let mut left = n;
-    let mut count = 1;
-    while left >= 10 {
-        left /= 10;
-        count += 1;
-    }
+    let (left, count) = cut(n, 1, 10_000_000_000_000_000, 16);
+    let (left, count) = cut(left, count, 100_000_000, 8);
+    let (left, count) = cut(left, count, 10_000, 4);
+    let (left, count) = cut(left, count, 100, 2);
+    let (_, count) = cut(left, count, 10, 1);
     count
+}
+
+/// Takes the last `places` digits off a number that has more, and counts them.
+#[inline(always)]
+fn cut(n: u64, count: usize, unit: u64, places: usize) -> (u64, usize)
+    requires small { (count < 100) × (places < 20) }
+    requires unit { (0 < unit) × (unit ≡ 10 ^ places) }
+    ensures same { length (decimal result.0) + result.1 ≡ length (decimal n) + count }
+    ensures less { n < unit * unit → result.0 < unit }
+    ensures counted { (count ≤ result.1) × (result.1 ≤ count + places) }
+{
+    if n < unit {
+        (n, count)
+    } else {
+        (n / unit, count + places)
+    }
 }
 
 /// Writes a whole number.

@@ -1,16 +1,23 @@
-use Rattle.core.specs.Prelude.{◌≡◌, ◌+◌, ◌/◌, ◌%◌, ◌<◌, ◌≤◌, [], ◌∷◌, length}
-use mathlib.Core.Path.{ap}
+use Rattle.core.specs.Prelude.{◌≡◌, ◌+◌, ◌≤◌, ◌<◌, length}
 use native.Mathlib.Omega.{arith}
-use Rattle.std.proofs.Common.{length-append}
 use Rattle.core.specs.Fmt.{decimal}
-use Rattle.ufmt_float.proofs.Puts.{longer_decimal, one_digit, decimal_bounds}
+use Rattle.ufmt_float.proofs.Puts.{one_digit, decimal_bounds}
 use Rattle.ufmt_float.proofs.text.count_digits.Goals as goal
 
-pub loop-left-preserved : goal.loop-left-preserved
-loop-left-preserved c = (omega arith, omega (arith, longer_decimal c.loop-left.left c.loop-left-test.true c.loop-left.auto.left-fits.fits))
-
 pub returns-clause-count : goal.returns-clause-count
-returns-clause-count c = omega (arith, one_digit c.loop-left.left c.loop-left-test.false)
+returns-clause-count c =
+    let a = c.cut-left.ensures.less (omega arith) in
+    let b = c.cut-left-2.ensures.less (omega arith) in
+    let d = c.cut-left-3.ensures.less (omega arith) in
+    let e = c.cut-left-4.ensures.less (omega arith) in
+    let f = c.cut-count.ensures.less (omega arith) in
+    omega (arith, one_digit c.cut-count.result.0 f)
 
 pub returns-clause-bounds : goal.returns-clause-bounds
-returns-clause-bounds c = omega (arith, one_digit c.loop-left.left c.loop-left-test.false, decimal_bounds c.args.n c.ranges.n.fits)
+returns-clause-bounds c =
+    let a = c.cut-left.ensures.less (omega arith) in
+    let b = c.cut-left-2.ensures.less (omega arith) in
+    let d = c.cut-left-3.ensures.less (omega arith) in
+    let e = c.cut-left-4.ensures.less (omega arith) in
+    let f = c.cut-count.ensures.less (omega arith) in
+    omega (arith, one_digit c.cut-count.result.0 f, decimal_bounds c.args.n c.ranges.n.fits)
