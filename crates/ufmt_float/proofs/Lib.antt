@@ -1,3 +1,4 @@
+pub mod AsciiTexts
 pub mod Choices
 pub mod Decimals
 pub mod Existence

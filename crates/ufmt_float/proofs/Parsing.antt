@@ -212,7 +212,7 @@ scientific_numeral digits power h small =
       | inr p ↦ subst (λ t. IsNumeralOf t digits power) (λ i. (if (sym (ne_eqb places 0 (λ e. omega arith)) i) then (decimal digits) else (fixed_text digits places)) ++ sym same i) (with_point digits places power negative exponent h w.0.1 none at)
     ]
 
-decimal_numeral : (debug : Bool) (digits power : ℕ) → digits < 10 ^ 17 → power < 1000 → IsNumeralOf (decimal_text debug digits power) digits power
+pub decimal_numeral : (debug : Bool) (digits power : ℕ) → digits < 10 ^ 17 → power < 1000 → IsNumeralOf (decimal_text debug digits power) digits power
 decimal_numeral debug digits power h small = go (not debug || is_plain digits power)
   where
     go : (b : Bool) → IsNumeralOf (if b then (plain_text debug digits power) else (scientific_text digits power)) digits power

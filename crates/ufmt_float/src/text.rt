@@ -1,6 +1,7 @@
 //! Texts of decimals, written from the right.
 ghost use Rattle.core.specs.Prelude.{◌≡◌, ℕ, List, ◌+◌, ◌-◌, ◌*◌, ◌/◌, ◌^◌, ◌<◌, ◌≤◌, [], ◌∷◌, ◌++◌, length, drop, replicate, true, false, if◌then◌else◌};
 ghost use lib.Chars.{codes};
+ghost use Rattle.core.specs.Str.{IsAscii};
 ghost use Rattle.core.specs.Fmt.{decimal, sign_text};
 ghost use Rattle.ufmt_float.specs.Put.{IsPut};
 ghost use Rattle.ufmt_float.specs.Shortest.{distance};
@@ -240,6 +241,7 @@ fn put_word(buffer: &mut [u8], end: usize, word: [u8; 3]) -> usize
 fn put_float<F: Float>(buffer: &mut [u8], debug: bool, x: F) -> usize
     requires { (if debug then 41 else 344) ≤ length buffer.old }
     ensures text { IsFloatText F.format debug (F.value x) (drop result buffer.new) }
+    ensures ascii { IsAscii (drop result buffer.new) }
     ensures within { result ≤ length buffer.old }
     ensures same { length buffer.new ≡ length buffer.old }
 {
@@ -285,7 +287,7 @@ impl Model for DebugText {
 
     ghost view = { λ t. drop t.start t.bytes };
 
-    ghost invariant = { λ t. t.start ≤ 41 };
+    ghost invariant = { λ t. (t.start ≤ 41) × IsAscii (drop t.start t.bytes) };
 }
 
 impl DebugText {
@@ -302,7 +304,8 @@ impl DebugText {
     /// Returns the bytes of the text.
     #[inline(always)]
     pub fn as_bytes(&self) -> &[u8]
-        ensures { result.now ≡ self.now }
+        ensures text { result.now ≡ self.now }
+        ensures ascii { IsAscii result.now }
     {
         &self.bytes[self.start..]
     }
@@ -320,7 +323,7 @@ impl Model for DisplayText {
 
     ghost view = { λ t. drop t.start t.bytes };
 
-    ghost invariant = { λ t. t.start ≤ 344 };
+    ghost invariant = { λ t. (t.start ≤ 344) × IsAscii (drop t.start t.bytes) };
 }
 
 impl DisplayText {
@@ -337,7 +340,8 @@ impl DisplayText {
     /// Returns the bytes of the text.
     #[inline(always)]
     pub fn as_bytes(&self) -> &[u8]
-        ensures { result.now ≡ self.now }
+        ensures text { result.now ≡ self.now }
+        ensures ascii { IsAscii result.now }
     {
         &self.bytes[self.start..]
     }
