@@ -14,3 +14,6 @@ mod wide;
 pub use digits::{Decimal, shortest};
 pub use parts::Float;
 pub use text::{DebugText, DisplayText};
+
+#[cfg(test)]
+mod tests;

@@ -64,3 +64,17 @@ def patterns(width, count, seed):
 def lines(count, seed):
     """The input of both programs."""
     return "".join("%0*x\n" % (width // 4, bits) for width in FORMATS for bits in patterns(width, count, seed))
+
+
+# What a test has rows of: plain numbers, ends of Debug's plain texts, ties, powers of two, subnormals, and the largest.
+ROWS_64 = """
+    0 -0.0 1 -1.5 21.5 0.1 0.3 100 123456.789 0.0001 0.00009999999999999999 1e15 9999999999999998 1e16 1e-7 1e23 5e-324
+    2.2250738585072014e-308 1.7976931348623157e308 9007199254740992 9007199254740994 4.4501477170144023e-308 5.684341886080802e-14
+    3.141592653589793 2.98023223876953125e-8 9.5e-323 inf -inf nan
+""".split()
+ROWS_32 = "0 -0.0 0.1 16777216 8388608 1e16 9.999999e15 0.0001 0.00009999999 1.4e-45 3.4028235e38 1.1754944e-38 33554436 inf nan".split()
+
+
+def rows(width):
+    """The bits of the rows."""
+    return [bits_of(text, width) for text in (ROWS_64 if width == 64 else ROWS_32)]
