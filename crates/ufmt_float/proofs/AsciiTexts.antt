@@ -1,5 +1,5 @@
 -- The texts of floats are ASCII.
-use Rattle.core.specs.Prelude.{◌≡◌, ℕ, zero, suc, ◌+◌, ◌^◌, ◌<◌, ◌≤◌, List, [], ◌∷◌, ◌++◌, length, Bool, true, false, if◌then◌else◌}
+use Rattle.core.specs.Prelude.{ℕ, zero, suc, ◌^◌, ◌<◌, List, [], ◌∷◌, ◌++◌, length, Bool, true, false, if◌then◌else◌}
 use mathlib.Core.Path.{sym, subst}
 use native.Mathlib.Omega.{arith}
 use native.Mathlib.Nat.{le_refl}
@@ -11,7 +11,7 @@ use Rattle.core.proofs.str.DigitBytes.{digit_at}
 use Rattle.std.proofs.lemmas.Str.{IsAscii-append}
 use Rattle.std.proofs.lemmas.Str.Ascii.{IsAscii-from_reads}
 use Rattle.ufmt_float.specs.Text.{decimal_text}
-use Rattle.ufmt_float.proofs.Parsing.{IsNumeralOf, decimal_numeral}
+use Rattle.ufmt_float.proofs.Parsing.{decimal_numeral}
 
 nothing : IsAscii []
 nothing i = omega arith

@@ -1,19 +1,19 @@
 -- A float's parts, from its bits.
-use Rattle.core.specs.Prelude.{◌≡◌, ℕ, zero, suc, ◌+◌, ◌-◌, ◌*◌, ◌/◌, ◌%◌, ◌^◌, ◌<◌, ◌≤◌, ◌⊎◌, Bool, true, false, not, cond, leb, eqb, pos, T}
+use Rattle.core.specs.Prelude.{◌≡◌, ℕ, zero, suc, ◌+◌, ◌-◌, ◌*◌, ◌/◌, ◌%◌, ◌<◌, ◌≤◌, ◌⊎◌, Bool, true, false, not, cond, leb, eqb, pos, T}
 use mathlib.Core.Path.{refl, sym, ap, ◌∙◌, subst}
 use mathlib.Core.Logic.{inl, inr}
 use mathlib.Core.Bool.{false≢true}
 use native.Mathlib.Omega.{arith}
-use native.Mathlib.Nat.{eq-zero-or-pos, mod-eq_of_lt, mod-lt, div-add-mod', mul-le-mul_right, lt_of_mul-lt-mul_right}
+use native.Mathlib.Nat.{mod-lt, div-add-mod', mul-le-mul_right, lt_of_mul-lt-mul_right}
 use lib.Dec.{nltb→le}
-use borrow.Author.Tests.{le-leb, lt-leb}
+use borrow.Author.Tests.{lt-leb}
 use lib.Ieee.{Float, Format, binary32, binary64, nan, inf, fin, prec, low, hid, ones, top, odd, is_nan, of_bits, of_fields}
 use lib.Ieee.Bits.{nan_bits_is, nan_bits_above}
 use Rattle.core.specs.Float.{float_with_sign, is_sign_negative}
 use Rattle.core.proofs.dec2flt.Patterns.{shape, infinite}
 use Rattle.ufmt_float.specs.declared.parts.Parts.{Parts}
 use Rattle.ufmt_float.specs.declared.parts.Parts.TheVariants.{NotANumber, Infinite, Zero}
-use Rattle.ufmt_float.specs.Parts.{IsFinite, HasParts, AreParts}
+use Rattle.ufmt_float.specs.Parts.{HasParts, AreParts}
 use Rattle.ufmt_float.specs.Shortest.{IsAboveZero}
 
 -- ---- the sign of a float that has given fields

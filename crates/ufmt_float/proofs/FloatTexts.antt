@@ -1,15 +1,15 @@
 -- From a float's parts and its decimal to its text.
-use Rattle.core.specs.Prelude.{◌≡◌, ℕ, zero, suc, ◌+◌, ◌*◌, ◌^◌, ◌<◌, ◌≤◌, List, ◌++◌, Bool, true, false}
-use mathlib.Core.Path.{refl, sym, ap, ◌∙◌, subst}
+use Rattle.core.specs.Prelude.{◌≡◌, ℕ, zero, suc, ◌+◌, ◌*◌, ◌^◌, ◌<◌, List, ◌++◌, Bool, false}
+use mathlib.Core.Path.{sym, ap, ◌∙◌, subst}
 use native.Mathlib.Omega.{arith}
 use native.Mathlib.Nat.{mul-pos}
 use lib.Pow.{pow_pos}
-use lib.Ieee.{Float, Format, nan, inf, fin, hid, low, up, down, of_bits}
+use lib.Ieee.{Float, Format, nan, inf, fin, hid, low, of_bits}
 use lib.Ieee.Exact.{HasValue}
 use lib.Ieee.Fits.{down_pos}
 use Rattle.core.specs.Fmt.{sign_text}
 use Rattle.core.specs.Float.{float_with_sign, is_sign_negative}
-use Rattle.ufmt_float.specs.Parts.{HasParts, IsFinite}
+use Rattle.ufmt_float.specs.Parts.{HasParts}
 use Rattle.ufmt_float.specs.Shortest.{IsShortestDecimal}
 use Rattle.ufmt_float.specs.Text.{IsFloatText, decimal_text}
 use Rattle.ufmt_float.proofs.Shortness.{value_of_bits}

@@ -1,9 +1,9 @@
 -- The text of a decimal is parsed as the float nearest to it.
-use Rattle.core.specs.Prelude.{◌≡◌, ◌≢◌, ℕ, zero, suc, ◌+◌, ◌-◌, ◌*◌, ◌/◌, ◌%◌, ◌^◌, ◌<◌, ◌≤◌, ◌⊎◌, List, [], ◌∷◌, ◌++◌, length, replicate, Bool, true, false, T, nat_lt, nat_le, not, ◌||◌, ◌==◌, if◌then◌else◌, ℤ, pos, negsuc}
+use Rattle.core.specs.Prelude.{◌≡◌, ℕ, zero, suc, ◌+◌, ◌-◌, ◌*◌, ◌/◌, ◌%◌, ◌^◌, ◌<◌, ◌≤◌, List, [], ◌∷◌, ◌++◌, length, replicate, Bool, true, false, nat_lt, not, ◌||◌, if◌then◌else◌}
 use mathlib.Core.Path.{refl, sym, ap, ◌∙◌, subst}
 use mathlib.Core.Logic.{inl, inr}
 use native.Mathlib.Omega.{arith}
-use native.Mathlib.Nat.{eq-zero-or-pos, div-add-mod', mod-lt, div-le_self, pow-succ'}
+use native.Mathlib.Nat.{eq-zero-or-pos, div-add-mod', div-le_self, pow-succ'}
 use mathlib.Core.Bool.{true≢false}
 use lib.Arith.{mod-mul}
 use Rattle.std.proofs.lemmas.List.{length-replicate}
@@ -13,10 +13,10 @@ use Rattle.ufmt_float.specs.Text as Text
 use lib.Pow.{pow-add}
 use Rattle.std.proofs.Common.{append_assoc, append-nil, length-append}
 use lib.Chars.{codes}
-use lib.Ieee.{Float, Format, round}
+use lib.Ieee.{Format, round}
 use lib.Ieee.Scale.{round_same}
 use Rattle.core.specs.Fmt.{decimal, sign_text}
-use Rattle.core.specs.Float.Numeral.{Parts, text_of, exponent_text, IsWellFormed, nearest_float, numeral_digits, tens_up, tens_down, dot, lower_e}
+use Rattle.core.specs.Float.Numeral.{Parts, text_of, exponent_text, IsWellFormed, numeral_digits, tens_up, tens_down, dot}
 use Rattle.core.specs.Float.Parse.{parse_float}
 use Rattle.core.specs.declared.option.Option.TheVariants.{Some}
 use Rattle.core.specs.Str.Parse.{AllDigits, digits_value}
@@ -27,7 +27,7 @@ use Rattle.core.proofs.dec2flt.Rows.{AllDigits-append}
 use Rattle.core.proofs.fmt.DigitsParse.{decimal_is_IsNumeral}
 use Rattle.std.proofs.lemmas.Float.Parse.{parse_float-text_of}
 use Rattle.ufmt_float.specs.Text.{last_digits, fixed_text, plain_text, scientific_text, decimal_text, is_plain, more_digits}
-use Rattle.ufmt_float.proofs.Puts.{last_digits-zero, last_digits-suc, length-last_digits, length-digits}
+use Rattle.ufmt_float.proofs.Puts.{length-last_digits, length-digits}
 
 -- ---- digits
 

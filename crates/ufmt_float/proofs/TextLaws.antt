@@ -1,23 +1,19 @@
 -- The laws of the texts of floats.
-use Rattle.core.specs.Prelude.{◌≡◌, ℕ, zero, suc, ◌+◌, ◌-◌, ◌*◌, ◌^◌, ◌<◌, ◌≤◌, List, ◌++◌, Bool, true, false, T, ℤ, pos}
+use Rattle.core.specs.Prelude.{◌≡◌, ℕ, zero, suc, ◌-◌, ◌*◌, ◌^◌, ◌<◌, ◌++◌, Bool, true, false, T, ℤ}
 use mathlib.Core.Path.{refl, sym, ap, ◌∙◌, subst}
 use native.Mathlib.Omega.{arith}
 use lib.Chars.{codes}
-use lib.Ieee.{Float, Format, binary32, binary64, nan, inf, fin, hid, up, down, fits, neg, round, of_bits}
+use lib.Ieee.{Float, Format, binary32, binary64, nan, inf, fin, fits, neg, round}
 use lib.Ieee.Back.{round_whole, whole_unique}
 use lib.Ieee.Fits.{round-fits}
-use lib.Ieee.Exact.{HasValue}
 use Rattle.core.specs.Fmt.{sign_text}
 use Rattle.core.specs.Float.{float_with_sign}
-use Rattle.core.specs.declared.option.Option.{Option}
 use Rattle.core.specs.declared.option.Option.TheVariants.{Some}
 use Rattle.core.specs.Float.Parse.{parse_float}
 use Rattle.core.proofs.dec2flt.Patterns.{neg-round}
 use Rattle.std.proofs.lemmas.Float.Parse.{parse_float_on_literals}
 use Rattle.ufmt_float.specs.Laws.{TextsAreParsed, NoTwoFloatsHaveOneText, EachFloatHasAText, NoFloatHasTwoTexts}
-use Rattle.ufmt_float.specs.Parts.{HasParts}
-use Rattle.ufmt_float.specs.Shortest.{IsShortestDecimal}
-use Rattle.ufmt_float.specs.Text.{IsFloatText, IsPrintedDecimal, decimal_text}
+use Rattle.ufmt_float.specs.Text.{decimal_text}
 use Rattle.ufmt_float.proofs.Existence.{HasDecimal, exists_decimal, one_decimal, parts_exist}
 use Rattle.ufmt_float.proofs.Parsing.{decimal_parsed}
 

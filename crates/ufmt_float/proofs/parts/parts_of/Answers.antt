@@ -1,4 +1,3 @@
-use Rattle.core.specs.Prelude.{◌≡◌, ℕ, ◌%◌, ◌<◌, ◌≤◌, true, false}
 use mathlib.Core.Path.{sym, ◌∙◌}
 use native.Mathlib.Omega.{arith}
 use Rattle.ufmt_float.proofs.FloatParts.{only_nan, found_infinite, found_zero, found_small, found_large}

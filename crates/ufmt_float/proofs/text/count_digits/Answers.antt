@@ -1,6 +1,4 @@
-use Rattle.core.specs.Prelude.{◌≡◌, ◌+◌, ◌≤◌, ◌<◌, length}
 use native.Mathlib.Omega.{arith}
-use Rattle.core.specs.Fmt.{decimal}
 use Rattle.ufmt_float.proofs.Puts.{one_digit, decimal_bounds}
 use Rattle.ufmt_float.proofs.text.count_digits.Goals as goal
 

@@ -1,6 +1,3 @@
-use Rattle.core.specs.Prelude.{◌≡◌, ◌+◌, ◌-◌, ◌/◌, ◌%◌, ◌^◌, ◌<◌, ◌≤◌}
-use mathlib.Core.Path.{sym, ap, ◌∙◌, subst}
-use native.Mathlib.Omega.{arith}
 use Rattle.ufmt_float.proofs.Puts.{decimal-last_digits}
 use Rattle.ufmt_float.proofs.text.put_decimal.Goals as goal
 

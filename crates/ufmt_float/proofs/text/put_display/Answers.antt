@@ -1,5 +1,4 @@
-use Rattle.core.specs.Prelude.{◌≡◌, ◌+◌, ◌-◌, ◌*◌, ◌/◌, ◌^◌, ◌<◌, ◌≤◌, length, nat_lt, true, false}
-use mathlib.Core.Path.{sym, ◌∙◌}
+use Rattle.core.specs.Prelude.{false}
 use native.Mathlib.Omega.{arith}
 use Rattle.ufmt_float.proofs.Puts.{length-plain}
 use Rattle.ufmt_float.proofs.text.put_display.Goals as goal

@@ -1,4 +1,4 @@
-use Rattle.core.specs.Prelude.{◌≡◌, ◌+◌, ◌-◌, ◌*◌, ◌/◌, ◌^◌, ◌<◌, ◌≤◌, length, nat_lt}
+use Rattle.core.specs.Prelude.{nat_lt}
 use native.Mathlib.Omega.{arith}
 use Rattle.ufmt_float.proofs.Puts.{length-exponent, length-sign}
 use Rattle.ufmt_float.proofs.text.put_exponent.Goals as goal

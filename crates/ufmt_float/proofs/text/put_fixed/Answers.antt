@@ -1,7 +1,5 @@
-use Rattle.core.specs.Prelude.{◌≡◌, ◌+◌, ◌-◌, ◌/◌, ◌%◌, ◌^◌, ◌<◌, ◌≤◌}
-use mathlib.Core.Path.{sym, ap, ◌∙◌, subst}
 use native.Mathlib.Omega.{arith}
-use Rattle.ufmt_float.proofs.Puts.{put_before, length-fixed}
+use Rattle.ufmt_float.proofs.Puts.{length-fixed}
 use Rattle.ufmt_float.proofs.text.put_fixed.Goals as goal
 
 pub put_last_digits-whole-requires : goal.put_last_digits-whole-requires

@@ -1,4 +1,4 @@
-use Rattle.core.specs.Prelude.{◌≡◌, ◌+◌, ◌^◌, ◌<◌, ◌≤◌, length, true, false, Bool, if◌then◌else◌}
+use Rattle.core.specs.Prelude.{◌^◌, ◌<◌}
 use mathlib.Core.Path.{sym, subst}
 use native.Mathlib.Omega.{arith}
 use Rattle.core.specs.Str.{IsAscii}

@@ -1,5 +1,5 @@
-use Rattle.core.specs.Prelude.{◌≡◌, ◌+◌, ◌-◌, ◌/◌, ◌%◌, ◌^◌, ◌<◌, ◌≤◌}
-use mathlib.Core.Path.{sym, ap, ◌∙◌, subst}
+use Rattle.core.specs.Prelude.{◌≡◌, ◌-◌, ◌/◌}
+use mathlib.Core.Path.{ap, ◌∙◌}
 use native.Mathlib.Omega.{arith}
 use Rattle.ufmt_float.proofs.Puts.{put_none, put_digit, last_digits-zero, next_quotient}
 use Rattle.ufmt_float.proofs.text.put_last_digits.Goals as goal

@@ -1,4 +1,4 @@
-use Rattle.core.specs.Prelude.{◌≡◌, ◌+◌, ◌-◌, ◌*◌, ◌/◌, ◌^◌, ◌<◌, ◌≤◌, length, nat_lt}
+use Rattle.core.specs.Prelude.{◌+◌, ◌-◌}
 use native.Mathlib.Omega.{arith}
 use Rattle.ufmt_float.proofs.Puts.{length-fixed-le, length-digits, length-exponent_text}
 use Rattle.ufmt_float.proofs.text.put_scientific.Goals as goal

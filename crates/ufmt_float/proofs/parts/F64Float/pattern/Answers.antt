@@ -1,4 +1,3 @@
-use native.Mathlib.Omega.{arith}
 use Rattle.std.specs.Bool.{passes}
 use lib.Ieee.{binary64}
 use lib.Ieee.Bits.{of_bits-to_bits, to_bits-lt}
