@@ -1,6 +1,6 @@
 -- Texts that are written from the right.
-use Rattle.core.specs.Prelude.{◌≡◌, ℕ, zero, suc, ◌+◌, ◌-◌, ◌*◌, ◌/◌, ◌%◌, ◌^◌, ◌<◌, ◌≤◌, List, [], ◌∷◌, ◌++◌, length, drop, set, replicate, Bool, true, false, ◌&&◌, nat_lt, leb, ltb}
-use mathlib.Core.Path.{refl, sym, ap, ◌∙◌}
+use Rattle.core.specs.Prelude.{◌≡◌, ◌≢◌, ℕ, zero, suc, ◌+◌, ◌-◌, ◌*◌, ◌/◌, ◌%◌, ◌^◌, ◌<◌, ◌≤◌, List, [], ◌∷◌, ◌++◌, length, drop, set, replicate, Bool, true, false, ◌&&◌, nat_lt, leb, ltb}
+use mathlib.Core.Path.{refl, sym, ap, ◌∙◌, subst}
 use mathlib.Core.Logic.{inl, inr}
 use native.Mathlib.Omega.{arith}
 use native.Mathlib.Nat.{eq-zero-or-pos, div-div-eq-div-mul, div-one, div-le_self, pow-suc, pow-succ', le-div_iff_mul-le, div-lt_iff_lt-mul}
@@ -182,3 +182,42 @@ length-cut places n unit small e h = rw e (go places n small (rw e at h))
 
 pub cut_less : (n unit : ℕ) → 0 < unit → n < unit * unit → n / unit < unit
 cut_less n unit u h = (div-lt_iff_lt-mul u).1 h
+
+-- a turn of the loop that writes two digits
+pub put_pair : (n i left end start tens ones : ℕ) (old new : List ℕ) → 2 * i + 1 < end → end ≤ length old → left ≡ n / 10 ^ (2 * i) → start ≡ end - 2 * i
+    → tens ≡ 48 + left % 100 / 10 → ones ≡ 48 + left % 100 % 10 → IsPut (last_digits (2 * i) n) end old (end - 2 * i) new
+    → IsPut (last_digits (2 * (i + 1)) n) end old (end - 2 * (i + 1)) (set (set new (start - 1) ones) (start - 2) tens)
+put_pair n i left end start tens ones old new room within is_left is_start is_tens is_ones p =
+    let first = put_digit n (2 * i) left end old new (omega arith) within is_left p in
+    let rest : left / 10 ≡ n / 10 ^ (2 * i + 1) = ap (λ x. x / 10) is_left ∙ next_quotient n (2 * i) in
+    let both = put_digit n (2 * i + 1) (left / 10) end old (set new (end - 1 - 2 * i) (48 + left % 10)) (omega arith) within rest first in
+    let count : 2 * i + 1 + 1 ≡ 2 * (i + 1) = omega arith in
+    let at : end - 1 - 2 * i ≡ start - 1 = omega arith in
+    let next : end - 1 - (2 * i + 1) ≡ start - 2 = omega arith in
+    let one : 48 + left % 10 ≡ ones = omega arith in
+    let ten : 48 + left / 10 % 10 ≡ tens = omega arith in
+    subst (λ k. IsPut (last_digits k n) end old (end - k) (set (set new (start - 1) ones) (start - 2) tens)) count
+    (subst (λ t. IsPut (last_digits (2 * i + 1 + 1) n) end old (end - (2 * i + 1 + 1)) (set (set new (start - 1) ones) (start - 2) t)) ten
+    (subst (λ o. IsPut (last_digits (2 * i + 1 + 1) n) end old (end - (2 * i + 1 + 1)) (set (set new (start - 1) o) (start - 2) (48 + left / 10 % 10))) one
+    (subst (λ a. IsPut (last_digits (2 * i + 1 + 1) n) end old (end - (2 * i + 1 + 1)) (set (set new a (48 + left % 10)) (start - 2) (48 + left / 10 % 10))) at
+    (subst (λ a. IsPut (last_digits (2 * i + 1 + 1) n) end old (end - (2 * i + 1 + 1)) (set (set new (end - 1 - 2 * i) (48 + left % 10)) a (48 + left / 10 % 10))) next both))))
+
+pub pair_quotient : (n i left : ℕ) → left ≡ n / 10 ^ (2 * i) → left / 100 ≡ n / 10 ^ (2 * (i + 1))
+pair_quotient n i left e =
+    let count : 2 * i + 2 ≡ 2 * (i + 1) = omega arith in
+    ap (λ x. x / 100) e ∙ div-div-eq-div-mul n (10 ^ (2 * i)) 100 ∙ ap (λ x. n / x) (sym (pow-add 10 (2 * i) 2) ∙ ap (λ x. 10 ^ x) count)
+
+-- the last digits are pairs, and perhaps one digit before them
+pub put_odd : (n count left end : ℕ) (old new : List ℕ) → count % 2 ≢ 0 → count ≤ end → end ≤ length old → left ≡ n / 10 ^ (2 * (count / 2)) → IsPut (last_digits (2 * (count / 2)) n) end old (end - 2 * (count / 2)) new
+    → IsPut (last_digits count n) end old (end - count) (set new (end - count) (48 + left % 10))
+put_odd n count left end old new odd C E e p =
+    let j : ℕ = 2 * (count / 2) in
+    let is : j + 1 ≡ count = omega arith in
+    let at : end - 1 - j ≡ end - (j + 1) = omega arith in
+    subst (λ k. IsPut (last_digits k n) end old (end - k) (set new (end - k) (48 + left % 10))) is
+    (subst (λ a. IsPut (last_digits (j + 1) n) end old (end - (j + 1)) (set new a (48 + left % 10))) at (put_digit n j left end old new (omega arith) E e p))
+
+pub odd_quotient : (n count left : ℕ) → count % 2 ≢ 0 → left ≡ n / 10 ^ (2 * (count / 2)) → left / 10 ≡ n / 10 ^ count
+odd_quotient n count left odd e =
+    let is : 2 * (count / 2) + 1 ≡ count = omega arith in
+    ap (λ x. x / 10) e ∙ next_quotient n (2 * (count / 2)) ∙ ap (λ x. n / 10 ^ x) is

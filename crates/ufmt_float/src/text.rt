@@ -1,5 +1,5 @@
 //! Texts of decimals, written from the right.
-ghost use Rattle.core.specs.Prelude.{◌≡◌, ℕ, List, ◌+◌, ◌-◌, ◌*◌, ◌/◌, ◌^◌, ◌<◌, ◌≤◌, [], ◌∷◌, ◌++◌, length, drop, replicate, true, false, if◌then◌else◌};
+ghost use Rattle.core.specs.Prelude.{◌≡◌, ℕ, List, ◌+◌, ◌-◌, ◌*◌, ◌/◌, ◌%◌, ◌^◌, ◌<◌, ◌≤◌, [], ◌∷◌, ◌++◌, length, drop, replicate, true, false, if◌then◌else◌};
 ghost use lib.Chars.{codes};
 ghost use Rattle.core.specs.Str.{IsAscii};
 ghost use Rattle.core.specs.Fmt.{decimal, sign_text};
@@ -34,16 +34,53 @@ fn put_zeros(buffer: &mut [u8], end: usize, count: usize) -> usize
     end - count
 }
 
-/// Writes the last `count` digits, and returns the number that the digits before them denote.
+// The two digits of each number below 100, the tens first.
+static DIGIT_PAIRS: [u8; 200] = *b"\
+    00010203040506070809101112131415161718192021222324252627282930313233343536373839\
+    40414243444546474849505152535455565758596061626364656667686970717273747576777879\
+    8081828384858687888990919293949596979899";
+
+const _: () = prove!(DIGIT_PAIRS.len() == 2 * 100);
+
+/// Returns the two digits of a number below 100, the tens first.
+#[inline(always)]
+fn digit_pair(i: u8) -> (u8, u8)
+    requires { i < 100 }
+    ensures tens { result.0 ≡ 48 + i / 10 }
+    ensures ones { result.1 ≡ 48 + i % 10 }
+{
+    let at = 2 * i as usize;
+    (DIGIT_PAIRS[at], DIGIT_PAIRS[at + 1])
+}
+
+/// Writes the last `count` digits, two at a time, and returns the number that the digits before them denote.
 fn put_last_digits(buffer: &mut [u8], end: usize, n: u64, count: usize) -> u64
     requires { (count ≤ end) × (end ≤ length buffer.old) }
     ensures left { result ≡ n / 10 ^ count }
     ensures written { IsPut (last_digits count n) end buffer.old (end - count) buffer.new }
 {
+    let left = put_pairs(buffer, end, n, count / 2);
+    if count % 2 == 0 {
+        return left;
+    }
+    buffer[end - count] = b'0' + (left % 10) as u8;
+    left / 10
+}
+
+/// Writes the last two digits of a number, the two before them, and so on.
+#[inline(always)]
+fn put_pairs(buffer: &mut [u8], end: usize, n: u64, pairs: usize) -> u64
+    requires { (2 * pairs ≤ end) × (end ≤ length buffer.old) }
+    ensures left { result ≡ n / 10 ^ (2 * pairs) }
+    ensures written { IsPut (last_digits (2 * pairs) n) end buffer.old (end - 2 * pairs) buffer.new }
+{
     let mut left = n;
-    for i in 0..count {
-        buffer[end - 1 - i] = b'0' + (left % 10) as u8;
-        left /= 10;
+    for i in 0..pairs {
+        let (tens, ones) = digit_pair((left % 100) as u8);
+        let start = end - 2 * i;
+        buffer[start - 1] = ones;
+        buffer[start - 2] = tens;
+        left /= 100;
     }
     left
 }
