@@ -1,4 +1,4 @@
-use Rattle.core.specs.Prelude.{◌≡◌, ◌+◌, ◌-◌, ◌*◌, ◌/◌, ◌%◌, ◌^◌, ◌<◌, ◌≤◌}
+use Rattle.core.specs.Prelude.{◌≡◌, ◌-◌, ◌*◌, ◌/◌, ◌^◌}
 use mathlib.Core.Path.{subst, ap, ◌∙◌}
 use native.Mathlib.Omega.{arith}
 use Rattle.ufmt_float.specs.Put.{IsPut}

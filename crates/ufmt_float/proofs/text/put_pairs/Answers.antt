@@ -1,4 +1,4 @@
-use Rattle.core.specs.Prelude.{◌≡◌, ◌+◌, ◌-◌, ◌*◌, ◌/◌, ◌%◌, ◌^◌, ◌<◌, ◌≤◌}
+use Rattle.core.specs.Prelude.{◌≡◌, ◌-◌}
 use mathlib.Core.Path.{refl}
 use native.Mathlib.Omega.{arith}
 use Rattle.ufmt_float.proofs.Puts.{put_none, put_pair, pair_quotient, last_digits-zero}
