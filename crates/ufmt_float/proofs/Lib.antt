@@ -1,0 +1,13 @@
+pub mod AsciiTexts
+pub mod Choices
+pub mod Decimals
+pub mod Existence
+pub mod FloatParts
+pub mod FloatTexts
+pub mod Intervals
+pub mod LimbSteps
+pub mod Parsing
+pub mod Puts
+pub mod Scales
+pub mod Shortness
+pub mod TextLaws

@@ -1,0 +1,19 @@
+#![tactic(auto)]
+
+//! The shortest decimals of floats, and their texts as Rust prints them. Nothing here takes memory.
+
+mod choice;
+mod digits;
+pub mod laws;
+mod limbs;
+mod parts;
+mod ratio;
+mod text;
+mod wide;
+
+pub use digits::{Decimal, shortest};
+pub use parts::Float;
+pub use text::{DebugText, DisplayText};
+
+#[cfg(test)]
+mod tests;

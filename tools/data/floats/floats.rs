@@ -1,0 +1,37 @@
+//! The same with rustc.
+use std::hint::black_box;
+use std::io::{self, BufWriter, Cursor, Read, Write};
+
+// What `tools/bench floats` counts: each float so many times, into a buffer.
+fn count(input: &str, turns: u64) -> u64 {
+    let mut length = 0;
+    for line in input.lines() {
+        let x = f64::from_bits(u64::from_str_radix(line, 16).unwrap());
+        for _turn in 0..turns {
+            let mut buffer = [0; 400];
+            let mut cursor = Cursor::new(&mut buffer[..]);
+            write!(cursor, "{:?}", black_box(x)).unwrap();
+            length += cursor.position();
+        }
+    }
+    length
+}
+
+fn main() {
+    let mut input = String::new();
+    io::stdin().read_to_string(&mut input).unwrap();
+    let mut output = BufWriter::new(io::stdout().lock());
+    if let Some(turns) = std::env::args().nth(1) {
+        write!(output, "{}", count(&input, u64::from_str_radix(&turns, 16).unwrap())).unwrap();
+        return;
+    }
+    for line in input.lines() {
+        if line.len() == 16 {
+            let x = f64::from_bits(u64::from_str_radix(line, 16).unwrap());
+            writeln!(output, "{x:?} {x}").unwrap();
+        } else {
+            let x = f32::from_bits(u32::from_str_radix(line, 16).unwrap());
+            writeln!(output, "{x:?} {x}").unwrap();
+        }
+    }
+}
