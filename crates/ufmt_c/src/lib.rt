@@ -21,3 +21,4 @@ mod options;
 mod print;
 mod quoted;
 mod text;
+mod version;
