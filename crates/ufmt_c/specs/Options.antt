@@ -33,21 +33,21 @@ fill_of code = if code == 0 then space else code
 
 -- the size is that of the struct, and the byte to pad with is ASCII
 abbrev pub IsHexStyle : HexStyle → Type 0
-IsHexStyle s = (s.size ≡ 24) × (s.pad < 128)
+IsHexStyle s = (s.struct_size ≡ 24) × (s.pad < 128)
 
 abbrev pub hex_of : HexStyle → HexOptions
 hex_of s = record { upper_case = s.upper_case; pad_char = fill_of s.pad; pad_length = s.width; ox_prefix = s.prefix }
 
 -- the size is that of the struct
 abbrev pub IsDumpStyle : DumpStyle → Type 0
-IsDumpStyle s = s.size ≡ 32
+IsDumpStyle s = s.struct_size ≡ 32
 
 abbrev pub dump_of : DumpStyle → HexDump
 dump_of s = record { per_row = s.per_row; group = s.group; offset = if s.has_offsets then Some s.first else None; ascii = s.has_text }
 
 -- the size is that of the struct, the fill is the code of a character, and there is such an alignment
 abbrev pub IsColumnStyle : ColumnStyle → Type 0
-IsColumnStyle s = (s.size ≡ 24) × IsScalar s.fill × (s.align ≤ 2)
+IsColumnStyle s = (s.struct_size ≡ 24) × IsScalar s.fill × (s.align ≤ 2)
 
 -- 0 is `Left`, 1 `Center`, and any other `Right`
 abbrev pub align_of : ℕ → Align

@@ -20,5 +20,6 @@ mod numbers;
 mod options;
 mod print;
 mod quoted;
+mod read_numbers;
 mod text;
 mod version;

@@ -38,7 +38,7 @@ pub(crate) fn to_mode(code: u32) -> Option<Mode>
 #[repr(C)]
 pub struct HexStyle {
     /// How many bytes the struct has.
-    pub size: usize,
+    pub struct_size: usize,
     /// The number of bytes to pad to, with the prefix.
     pub width: usize,
     /// The byte to pad with, which must be ASCII. 0 stands for a space.
@@ -52,7 +52,7 @@ impl HexStyle {
     pub(crate) fn to_options(self) -> Option<HexOptions>
         ensures { SomeIff result (IsHexStyle self) (hex_of self) }
     {
-        if self.size != HEX_STYLE_SIZE || self.pad >= 128 {
+        if self.struct_size != HEX_STYLE_SIZE || self.pad >= 128 {
             return None;
         }
         Some(HexOptions {
@@ -69,7 +69,7 @@ impl HexStyle {
 #[repr(C)]
 pub struct DumpStyle {
     /// How many bytes the struct has.
-    pub size: usize,
+    pub struct_size: usize,
     /// How many bytes a row has. 0 means 16.
     pub per_row: usize,
     /// How many bytes have no space between them. 0 means a whole row.
@@ -86,7 +86,7 @@ impl DumpStyle {
     pub(crate) fn to_dump(self) -> Option<HexDump>
         ensures { SomeIff result (IsDumpStyle self) (dump_of self) }
     {
-        if self.size != DUMP_STYLE_SIZE {
+        if self.struct_size != DUMP_STYLE_SIZE {
             return None;
         }
         Some(HexDump {
@@ -107,7 +107,7 @@ impl DumpStyle {
 #[repr(C)]
 pub struct ColumnStyle {
     /// How many bytes the struct has.
-    pub size: usize,
+    pub struct_size: usize,
     pub width: usize,
     /// The code of the character that fills what a text leaves of the width. 0 stands for a space.
     pub fill: u32,
@@ -121,7 +121,7 @@ impl ColumnStyle {
     pub(crate) fn to_column(self) -> Option<Column>
         ensures { SomeIff result (IsColumnStyle self) (column_of self) }
     {
-        if self.size != COLUMN_STYLE_SIZE {
+        if self.struct_size != COLUMN_STYLE_SIZE {
             return None;
         }
         let align = match self.align {
