@@ -81,8 +81,9 @@ ptrdiff_t ufmt_convert(char *buffer, size_t size, uint32_t text_class, uint32_t 
  * written as itself. Or returns UFMT_NOT_UTF8. */
 ptrdiff_t ufmt_quote(char *buffer, size_t size, const char *input, size_t length, size_t *detail);
 /* Writes the text of which ufmt_quote writes this input. Of any other input, also one with another escape
- * than that would write, it returns UFMT_NO_TEXT. Then `*detail` becomes how many bytes at its front are also
- * at the front of some output of ufmt_quote. */
+ * than that would write, it returns UFMT_NO_TEXT. Then `*detail` becomes how many bytes at its front some
+ * output of ufmt_quote begins with, in whole characters: the mark, characters in UTF-8 as ufmt_quote writes
+ * them, and the last mark. A character or an escape that is cut doesn't count. */
 ptrdiff_t ufmt_unquote(char *buffer, size_t size, const char *input, size_t length, size_t *detail);
 
 /* Numbers. */

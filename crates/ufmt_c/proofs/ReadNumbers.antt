@@ -1,5 +1,5 @@
 -- What a parser found at the front of a whole text, and which numbers' digits the text is then.
-use Rattle.std.proofs.Common.{◌≡◌, refl, sym, ◌∙◌, ℕ, ℤ, ◌≤◌, List, [], ◌++◌, length, append-nil, length-append, ap, arith}
+use Rattle.std.proofs.Common.{◌≡◌, sym, ◌∙◌, ℕ, ℤ, ◌≤◌, List, [], ◌++◌, length, append-nil, length-append, ap, arith}
 use Rattle.std.specs.Prelude.{◌≢◌, ◌-◌}
 use Rattle.ufmt_core.specs.Decimal.{decimal}
 use Rattle.ufmt_core.specs.Document.{leaf}
@@ -48,5 +48,5 @@ module _ {M T : Type 0} (is_number : T → Type 0) (int : T → ℤ) (input : Li
     stops_after place at = record {
       within = omega (arith, at);
       after_number = λ n u is may same.
-        omega (arith, at, ap length (left_after n u is may same), ap length same, length-append (decimal (int n)) u);
+          omega (arith, at, ap length (left_after n u is may same), ap length same, length-append (decimal (int n)) u);
     }

@@ -1,10 +1,10 @@
 -- What is decoded between quotation marks, and how much of an input some text in quotation marks begins with.
-use Rattle.std.proofs.Common.{◌≡◌, ◌⊎◌, inl, inr, refl, sym, ap, subst, ◌∙◌, ℕ, suc, ◌+◌, ◌<◌, ◌≤◌, List, [], ◌∷◌, ◌++◌, length, take, drop, get_or, append_assoc, append-nil, length-append, Option, Some, None, arith}
+use Rattle.std.proofs.Common.{◌≡◌, inl, inr, refl, sym, ap, subst, ◌∙◌, ℕ, suc, ◌+◌, ◌<◌, ◌≤◌, List, [], ◌∷◌, ◌++◌, length, take, drop, get_or, append_assoc, append-nil, length-append, Option, Some, None, arith}
 use Rattle.std.specs.Prelude.{◌≢◌, unwrap_or}
 use Rattle.std.specs.Str.{IsUtf8, chars}
 use Rattle.std.proofs.Math.Seq.{get_or-append_seam, take-append_seam}
 use Rattle.std.proofs.lemmas.Bool.{cases_lt}
-use Rattle.std.proofs.lemmas.List.{length-take-le, nil_from_length, take-append-drop, take-append-le, take_all}
+use Rattle.std.proofs.lemmas.List.{length-take-le, take-append-drop, take-append-le, take_all}
 use Rattle.std.proofs.lemmas.Str.{IsCharBoundary-before_ascii, IsUtf8-append, IsUtf8-from_ascii, IsUtf8-nil, IsUtf8-take, encodes-chars}
 use Rattle.std.proofs.lemmas.Str.Ascii.{IsAscii-cons, IsAscii-nil}
 use Rattle.ufmt_core.proofs.QuotedBytes.{escape-past_ascii}
@@ -149,7 +149,7 @@ module _ (input front : List ℕ) (h : IsTextAtFront input front) where
     whole_rest : (n : ℕ) → n ≤ length input → IsFront (take n input) → (bytes : List ℕ) → IsUtf8 bytes → take n input ≡ quoted_text (chars bytes) → rest ≡ 34 ∷ drop n front
     whole_rest n within is bytes utf8 begins =
         let same : escaped_bytes 34 done ++ rest ≡ (escaped_bytes 34 bytes ++ (34 ∷ [])) ++ drop n front
-          = ap (drop 1) (sym spelled ∙ parts n within is ∙ ap (λ t. t ++ drop n front) (begins ∙ marks bytes utf8)) in
+        = ap (drop 1) (sym spelled ∙ parts n within is ∙ ap (λ t. t ++ drop n front) (begins ∙ marks bytes utf8)) in
         (same_bytes 34 (inl refl) done bytes rest (34 ∷ drop n front) ends (quote_ends 34 (inl refl) (drop n front))
         (same ∙ append_assoc (escaped_bytes 34 bytes) (34 ∷ []) (drop n front))).1
 
@@ -174,8 +174,8 @@ module _ (input front : List ℕ) (h : IsTextAtFront input front) where
       stops-misspelled =
           let is_length : place ≡ length (34 ∷ escaped_bytes 34 done) = omega (arith, at) in
           let begins : take place input ≡ 34 ∷ escaped_bytes 34 done
-            = same_front place (omega (arith, at, counted)) ∙ ap (take place) spelled ∙ ap (λ n. take n (34 ∷ (escaped_bytes 34 done ++ rest))) is_length
-            ∙ take-append_seam (34 ∷ escaped_bytes 34 done) rest in
+          = same_front place (omega (arith, at, counted)) ∙ ap (take place) spelled ∙ ap (λ n. take n (34 ∷ (escaped_bytes 34 done ++ rest))) is_length
+          ∙ take-append_seam (34 ∷ escaped_bytes 34 done) rest in
           record {
             within = omega (arith, at, counted, length_front);
             front = IsFront.opened done done_utf8 begins;

@@ -1,5 +1,5 @@
 -- What the options that C passes mean, and which of them mean nothing.
-use Rattle.std.specs.Prelude.{◌≡◌, Bool, ℕ, ◌≤◌, ◌<◌, ◌==◌, if◌then◌else◌, Some, None}
+use Rattle.std.specs.Prelude.{◌≡◌, ℕ, ◌≤◌, ◌<◌, ◌==◌, if◌then◌else◌, Some, None}
 use Rattle.std.specs.Char.{IsScalar}
 use Rattle.ufmt.specs.declared.column.Align.{Align}
 use Rattle.ufmt.specs.declared.column.Align.TheVariants.{Left, Center, Right}

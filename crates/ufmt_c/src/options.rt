@@ -8,7 +8,9 @@ use ufmt::{Align, Column, HexDump, HexOptions};
 
 // How many bytes each struct has, which its first member says.
 const HEX_STYLE_SIZE: usize = 24;
+
 const DUMP_STYLE_SIZE: usize = 32;
+
 const COLUMN_STYLE_SIZE: usize = 24;
 
 /// Returns the class with this number, or `None` if there is none.

@@ -176,37 +176,33 @@ def version():
     return int(first) * 10_000 + int(second) * 100 + int(third)
 
 
-# How a byte is spelled between quotation marks.
-SPELLED = re.compile(rb'\\(?:[0tnr"\\]|u\{(?:[1-8]|[bcef]|1[0-9a-f]|7f)\})|[^\x00-\x1f"\\\x7f]')
+# How a character is spelled between quotation marks, and whole characters at the front of a text in quotation marks.
+SPELLED = r'(?:\\(?:[0tnr"\\]|u\{(?:[1-8]|[bcef]|1[0-9a-f]|7f)\})|[^\x00-\x1f"\\\x7f])*'
+FRONT, QUOTED = re.compile('(?:"%s"?)?' % SPELLED), re.compile('"%s"' % SPELLED)
+
+
+def matches(pattern, data):
+    """Whether these bytes are such a text."""
+    try:
+        return bool(pattern.fullmatch(data.decode()))
+    except UnicodeDecodeError:
+        return False
 
 
 def misquoted_at(data):
-    """How many bytes at the front of an input can begin a text in quotation marks, or None if it is one."""
-    if data[:1] != b'"':
-        return 0
-    at = 1
-    while True:
-        found = SPELLED.match(data, at)
-        if not found:
-            break
-        at = found.end()
-    if data[at : at + 1] != b'"':
-        return at
-    if data[at + 1 :]:
-        return at + 1
-    try:
-        data.decode()
-    except UnicodeDecodeError as error:
-        return error.start
-    return None
+    """How many bytes at the front of an input some text in quotation marks begins with, in whole characters, or None if it is one."""
+    if matches(QUOTED, data):
+        return None
+    return max(n for n in range(len(data) + 1) if matches(FRONT, data[:n]))
 
 
 def misquoted():
     """Inputs that are no texts in quotation marks: texts in quotes that are cut, longer, or have one byte changed."""
-    inputs = REFUSED + [b'"' + data + b'"' for data in NOT_TEXTS]
+    inputs = REFUSED + [b'"' + data + end for data in NOT_TEXTS for end in (b'"', b"", b"\\q", b'\\n"', b'"x')]
     inputs += [b'"\\%s"' % escape for escape in (b"x", b"u{0}", b"u{9}", b"u{a}", b"u{d}", b"u{20}", b"u{80}", b"u{7F}", b"u{1B}", b"u{07}", b"u{}", b"u1", b"'", b"u{1b")]
     whole = '"a\\n\\u{1b}é\\"\\\\z"'.encode()
     inputs += [whole[:at] for at in range(len(whole))] + [whole + b"x", whole + whole]
+    inputs += [wide[:at] + end for wide in ['"\u00e9\u4e2d\U0001f980\\0"'.encode()] for at in range(len(wide)) for end in (b"", b'"', b"a", b"\\u{200b}", b"\xff")]
     inputs += [whole[:at] + bytes([byte]) + whole[at + 1 :] for at in range(len(whole)) for byte in (0x00, 0x22, 0x5C, 0x7F, 0xFF)]
     for data in inputs:
         place = misquoted_at(data)

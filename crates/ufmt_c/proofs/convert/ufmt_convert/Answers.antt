@@ -1,4 +1,4 @@
-use Rattle.std.proofs.Common.{rules, ◌≡◌}
+use Rattle.std.proofs.Common.{rules}
 use Rattle.ufmt_c.proofs.convert.ufmt_convert.Goals as goal
 
 pub returns-clause-converts : goal.returns-clause-converts

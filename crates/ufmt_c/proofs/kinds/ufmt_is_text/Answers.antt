@@ -1,4 +1,3 @@
-use Rattle.std.proofs.Common.{◌≡◌}
 use Rattle.ufmt_c.proofs.kinds.ufmt_is_text.Goals as goal
 
 pub returns-clause-text : goal.returns-clause-text

@@ -1,4 +1,4 @@
-use Rattle.std.proofs.Common.{◌≡◌, rules, refl, ap, sym, ◌∙◌, [], ◌∷◌, ◌++◌, ◌+◌, ◌-◌, length, length-append, arith}
+use Rattle.std.proofs.Common.{◌≡◌, rules, refl, ap, sym, ◌∙◌, [], ◌∷◌, ◌+◌, ◌-◌, length, length-append, arith}
 use Rattle.ufmt.specs.Quoted.{escaped_bytes}
 use Rattle.ufmt_grammar.proofs.Parsing.{strip_found}
 use Rattle.ufmt_c.specs.Quotes.{UnquotesText}
@@ -23,7 +23,7 @@ returns-in_default-strip_byte c =
     let ends = c.decode-decoded.ensures.ends in
     let none = no_front rest c.in_default-strip_byte.ensures in
     let at : length front - length rest ≡ 1 + length (escaped_bytes 34 decoded.0)
-      = omega (arith, ap length spelled, length-append (escaped_bytes 34 decoded.0) rest) in
+    = omega (arith, ap length spelled, length-append (escaped_bytes 34 decoded.0) rest) in
     UnquotesText.none (not_quoted-misspelled _ front is decoded.0 rest spelled ends none _ at) refl (search (rules, decoded.3))
     (stops-misspelled _ front is decoded.0 rest spelled ends none _ at)
 
@@ -38,7 +38,7 @@ returns-then-end-input c =
     let ends = c.decode-decoded.ensures.ends in
     let last = strip_found (34 ∷ []) rest after (sym c.in-Some-strip_byte.ensures) in
     let at : length front - length after ≡ 2 + length (escaped_bytes 34 decoded.0)
-      = omega (arith, ap length spelled, length-append (escaped_bytes 34 decoded.0) rest, ap length last) in
+    = omega (arith, ap length spelled, length-append (escaped_bytes 34 decoded.0) rest, ap length last) in
     UnquotesText.none (not_quoted-longer _ front is decoded.0 rest spelled ends after last _ at (search rules)) refl (search (rules, decoded.3))
     (stops-longer _ front is decoded.0 rest spelled ends after last _ at)
 
@@ -53,7 +53,7 @@ returns-then-decoded-buffer c =
     let ends = c.decode-decoded.ensures.ends in
     let last = strip_found (34 ∷ []) rest after (sym c.in-Some-strip_byte.ensures) in
     let at : length front - length after ≡ 2 + length (escaped_bytes 34 decoded.0)
-      = omega (arith, ap length spelled, length-append (escaped_bytes 34 decoded.0) rest, ap length last) in
+    = omega (arith, ap length spelled, length-append (escaped_bytes 34 decoded.0) rest, ap length last) in
     UnquotesText.text decoded.0 (done_utf8 _ front is decoded.0 rest spelled ends)
     (quoted_is _ front is decoded.0 rest spelled ends after last _ at (search rules))
     (put_cut _ decoded.0 _ decoded.3 _ (as_reported _ _ decoded.2 (search rules)) (search (rules, decoded.2, decoded.3.same_length)))
@@ -69,7 +69,7 @@ returns c =
     let ends = c.decode-decoded.ensures.ends in
     let last = strip_found (34 ∷ []) rest after (sym c.in-Some-strip_byte.ensures) in
     let at : length front - length after ≡ 2 + length (escaped_bytes 34 decoded.0)
-      = omega (arith, ap length spelled, length-append (escaped_bytes 34 decoded.0) rest, ap length last) in
+    = omega (arith, ap length spelled, length-append (escaped_bytes 34 decoded.0) rest, ap length last) in
     UnquotesText.text decoded.0 (done_utf8 _ front is decoded.0 rest spelled ends)
     (quoted_is _ front is decoded.0 rest spelled ends after last _ at (search rules))
     (put_whole _ decoded.0 _ decoded.3 _ (search (rules, decoded.2)) _ (as_reported _ _ decoded.2 (search rules)) (search (rules, decoded.2, decoded.3.same_length)))

@@ -1,4 +1,4 @@
-use Rattle.std.proofs.Common.{rules, refl, ap, ◌∙◌, arith, length}
+use Rattle.std.proofs.Common.{rules, refl, ap, arith, length}
 use Rattle.std.specs.Prelude.{◌-◌}
 use Rattle.ufmt_c.specs.Numbers.{ReadsNumber}
 use Rattle.ufmt_c.proofs.ReadNumbers.{more_than_digits, no_digits, stops_after, stops_anywhere}

@@ -1,6 +1,4 @@
-use Rattle.std.proofs.Common.{rules, ap, subst, sym, ◌∙◌, ◌++◌, ◌<◌, length, take, arith}
-use Rattle.std.specs.Str.{IsUtf8}
-use Rattle.std.proofs.lemmas.List.{length-take-le, take-append-drop}
+use Rattle.std.proofs.Common.{rules}
 use Rattle.ufmt_c.proofs.text.text_at_front.Goals as goal
 
 pub returns-in-Err : goal.returns-in-Err
