@@ -178,7 +178,7 @@ def version():
 
 # How a character is spelled between quotation marks, and whole characters at the front of a text in quotation marks.
 SPELLED = r'(?:\\(?:[0tnr"\\]|u\{(?:[1-8]|[bcef]|1[0-9a-f]|7f)\})|[^\x00-\x1f"\\\x7f])*'
-FRONT, QUOTED = re.compile('(?:"%s"?)?' % SPELLED), re.compile('"%s"' % SPELLED)
+QUOTED_FRONT, QUOTED = re.compile('(?:"%s"?)?' % SPELLED), re.compile('"%s"' % SPELLED)
 
 
 def matches(pattern, data):
@@ -193,7 +193,7 @@ def misquoted_at(data):
     """How many bytes at the front of an input some text in quotation marks begins with, in whole characters, or None if it is one."""
     if matches(QUOTED, data):
         return None
-    return max(n for n in range(len(data) + 1) if matches(FRONT, data[:n]))
+    return max(n for n in range(len(data) + 1) if matches(QUOTED_FRONT, data[:n]))
 
 
 def misquoted():
