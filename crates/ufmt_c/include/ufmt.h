@@ -156,8 +156,8 @@ ptrdiff_t ufmt_in_column(char *buffer, size_t size, const char *input, size_t le
  * `*detail` stays. Or returns UFMT_NOT_UTF8. */
 ptrdiff_t ufmt_first_difference(const char *given, size_t given_length, const char *stored, size_t stored_length, size_t *detail);
 /* Writes a message on that line, or the empty text if the texts are equal. Or returns UFMT_NOT_UTF8. Of "a\nb"
- * and "a" the message is "line 2 differs\n given: Some(\"b\")\nstored: None": the number of the line, and after
- * each text's name its line, as ufmt_quote writes it, between `Some(` and `)`, or `None` if it has fewer lines. */
+ * and "a" the message is "line 2 differs\n given: \"b\"\nstored: none": the number of the line, and after each
+ * text's name its line, as ufmt_quote writes it, or `none` if it has fewer lines. */
 ptrdiff_t ufmt_difference(char *buffer, size_t size, const char *given, size_t given_length, const char *stored, size_t stored_length, size_t *detail);
 
 /* From C and C++ the calls take a `detail` at NULL: these functions give the library a place for it. The calls

@@ -16,6 +16,7 @@ mod dump;
 mod filler;
 mod ghost_text;
 mod kinds;
+mod message;
 mod numbers;
 mod options;
 mod print;

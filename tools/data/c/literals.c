@@ -36,7 +36,7 @@ static int padded(void) {
 
 static int differences(void) {
     return ufmt_first_difference("a\nb", 3, "a", 1, NULL) == 2 &&
-           wrote(ufmt_difference(buffer, sizeof buffer, "a\nb", 3, "a", 1, NULL), "line 2 differs\n given: Some(\"b\")\nstored: None");
+           wrote(ufmt_difference(buffer, sizeof buffer, "a\nb", 3, "a", 1, NULL), "line 2 differs\n given: \"b\"\nstored: none");
 }
 
 int main(void) {
