@@ -8,10 +8,9 @@ int main(int count, char **words) {
     if (count != 2) {
         return 2;
     }
-    const uint8_t *input = (const uint8_t *)words[1];
-    uint8_t buffer[256];
+    char buffer[256];
     size_t detail = 0;
-    ptrdiff_t length = ufmt_to_pretty(buffer, sizeof buffer, input, strlen(words[1]), &detail);
+    ptrdiff_t length = ufmt_convert(buffer, sizeof buffer, UFMT_TOKEN, UFMT_PRETTY, words[1], strlen(words[1]), &detail);
     if (length == UFMT_FULL) {
         fprintf(stderr, "a buffer of %zu bytes will do\n", detail);
         return 1;
@@ -20,7 +19,6 @@ int main(int count, char **words) {
         fprintf(stderr, "not a text from byte %zu on\n", detail);
         return 1;
     }
-    fwrite(buffer, 1, (size_t)length, stdout);
-    putchar('\n');
+    printf("%.*s\n", (int)length, buffer);
     return 0;
 }

@@ -1,10 +1,14 @@
 //! Prints a value's plain text as pretty text: convert '[Pair { x: 1, y: -2 }]'
+const TOKEN: u32 = 0;
+const PRETTY: u32 = 1;
 const FULL: isize = -2;
 #[link(name = "ufmt_c", kind = "static")]
 unsafe extern "C" {
-    fn ufmt_to_pretty(
+    fn ufmt_convert(
         to: *mut u8,
         size: usize,
+        text_class: u32,
+        mode: u32,
         from: *const u8,
         length: usize,
         detail: &mut usize,
@@ -14,7 +18,7 @@ unsafe extern "C" {
 fn to_pretty(buffer: &mut [u8], input: &[u8]) -> Result<usize, String> {
     let (to, from, mut detail) = (buffer.as_mut_ptr(), input.as_ptr(), 0);
     // SAFETY: each pointer and the length after it are those of one slice, and no two overlap.
-    match unsafe { ufmt_to_pretty(to, buffer.len(), from, input.len(), &mut detail) } {
+    match unsafe { ufmt_convert(to, buffer.len(), TOKEN, PRETTY, from, input.len(), &mut detail) } {
         FULL => Err(format!("a buffer of {detail} bytes will do")),
         ..0 => Err(format!("not a text from byte {detail} on")),
         length => Ok(length as usize),

@@ -1,6 +1,7 @@
 pub mod Calls
 pub mod Conversions
 pub mod Differences
+pub mod Numbers
 pub mod Options
 pub mod Private
 pub mod Quotes

@@ -1,2 +1,3 @@
 -- What is promised of texts with less width than was asked for. No public contract names any of it.
+pub mod Front
 pub mod Narrow

@@ -5,6 +5,7 @@ ghost use Rattle.ufmt_c.specs.Calls.{RefusesBytes, RefusesText};
 ghost use Rattle.ufmt_c.specs.Differences.{LineOfDifference, TellsDifference};
 
 use crate::code::NOT_UTF8;
+use crate::message::Message;
 use crate::print::print_line;
 use crate::text::text_of;
 use ufmt_snapshot::first_difference;
@@ -32,8 +33,7 @@ pub extern "C" fn ufmt_first_difference(given: &[u8], stored: &[u8], detail: &mu
     }
 }
 
-/// Writes the first line in which the texts differ, and both lines in quotes, or the empty text if they are
-/// equal. Fails as `ufmt_first_difference` does.
+/// Writes a message on the first line in which the texts differ, or the empty text if they are equal. Fails as `ufmt_first_difference` does.
 #[tactic(auto, unfolding(ufmt::specs::Pieces::line_text))]
 #[unsafe(no_mangle)]
 pub extern "C" fn ufmt_difference(
@@ -57,6 +57,6 @@ pub extern "C" fn ufmt_difference(
     };
     match first_difference(given, stored) {
         None => print_line(buffer, &(), detail),
-        Some(difference) => print_line(buffer, &difference, detail),
+        Some(difference) => print_line(buffer, &Message { difference }, detail),
     }
 }

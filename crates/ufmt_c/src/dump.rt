@@ -1,15 +1,16 @@
 //! Dumps of bytes.
 ghost use Rattle.std.specs.Prelude.{◌≡◌, ◌<◌, ◌≤◌, ℕ, List, length, min};
 ghost use Rattle.ufmt.specs.Dump.{dump_text};
-ghost use Rattle.ufmt_c.specs.Calls.{PutsText, reported};
-ghost use Rattle.ufmt_c.specs.Options.{dump_of};
+ghost use Rattle.ufmt_c.specs.Calls.{PutsText, WritesNothing, bad_option, reported};
+ghost use Rattle.ufmt_c.specs.Options.{IsDumpStyle, dump_of};
 ghost use Rattle.ufmt_c.specs.Private.Narrow.{StandsFor, left_out};
 
+use crate::code::BAD_OPTION;
 use crate::filler::Filler;
 use crate::options::DumpStyle;
 use ufmt::{HexDump, write_hex_dump};
 
-/// Writes a dump of the bytes.
+/// Writes a dump of the bytes. Returns `BAD_OPTION` if the style is none.
 #[unsafe(no_mangle)]
 pub extern "C" fn ufmt_dump(
     buffer: &mut [u8],
@@ -17,10 +18,15 @@ pub extern "C" fn ufmt_dump(
     style: &DumpStyle,
     detail: &mut usize,
 ) -> isize
-    ensures { PutsText buffer.old (dump_text (dump_of style.now) bytes.now) result buffer.new
-        detail.new }
+    ensures text { IsDumpStyle style.now
+        → PutsText buffer.old (dump_text (dump_of style.now) bytes.now) result buffer.new detail.new }
+    ensures refused { ¬ (IsDumpStyle style.now) → result ≡ bad_option }
+    ensures nothing { ¬ (IsDumpStyle style.now)
+        → WritesNothing buffer.old detail.old buffer.new detail.new }
 {
-    let dump = style.dump();
+    let Some(dump) = style.to_dump() else {
+        return BAD_OPTION;
+    };
     if bytes.is_empty() {
         return print_dump(buffer, bytes, &dump, 0, detail);
     }

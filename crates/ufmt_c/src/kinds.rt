@@ -1,39 +1,28 @@
 //! Whether bytes are a text.
-ghost use Rattle.std.specs.Prelude.{◌≡◌, IsFalse, IsTrue};
+ghost use Rattle.std.specs.Prelude.{◌≡◌, ◌≤◌, IsFalse, IsTrue};
 ghost use Rattle.ufmt.specs.Document.{Document};
 ghost use Rattle.ufmt.specs.Layout.{layout, setting};
-ghost use Rattle.ufmt_grammar.specs.declared.class.Class.TheVariants.{Debug, Token};
-ghost use Rattle.ufmt_c.specs.Options.{mode_of};
+ghost use Rattle.ufmt_c.specs.Options.{AreChoices, class_of, mode_of};
 ghost use Rattle.ufmt_scan.specs.Texts.{IsNormalForm, NoDocumentPrints};
 
-use ufmt::class::Class;
-use ufmt::layout::Mode;
+use crate::options::{to_class, to_mode};
 use ufmt_scan::is_text;
 
-fn mode(pretty: bool) -> Mode
-    ensures { result ≡ mode_of pretty }
-{
-    if pretty { Mode::Pretty } else { Mode::Plain }
-}
-
-/// Returns whether some token document has this pretty or plain text.
+/// Returns whether some document of the class has this text in this mode. No text is one of a class or a
+/// mode that there isn't.
 #[unsafe(no_mangle)]
-pub extern "C" fn ufmt_is_text(input: &[u8], pretty: bool) -> bool
+pub extern "C" fn ufmt_is_text(class: u32, mode: u32, input: &[u8]) -> bool
+    ensures choices { IsTrue result → AreChoices class mode }
     ensures text { IsTrue result
-        → (d : Document) × IsNormalForm Token (layout (setting (mode_of pretty) 0)) input.now d }
-    ensures no_text { IsFalse result
-        → NoDocumentPrints Token (layout (setting (mode_of pretty) 0)) input.now }
+        → (d : Document) × IsNormalForm (class_of class) (layout (setting (mode_of mode) 0)) input.now d }
+    ensures no_text { AreChoices class mode → IsFalse result
+        → NoDocumentPrints (class_of class) (layout (setting (mode_of mode) 0)) input.now }
 {
-    is_text(Class::Token, mode(pretty), input)
-}
-
-/// Returns whether some debug document has this pretty or plain text.
-#[unsafe(no_mangle)]
-pub extern "C" fn ufmt_is_debug_text(input: &[u8], pretty: bool) -> bool
-    ensures text { IsTrue result
-        → (d : Document) × IsNormalForm Debug (layout (setting (mode_of pretty) 0)) input.now d }
-    ensures no_text { IsFalse result
-        → NoDocumentPrints Debug (layout (setting (mode_of pretty) 0)) input.now }
-{
-    is_text(Class::Debug, mode(pretty), input)
+    let Some(class) = to_class(class) else {
+        return false;
+    };
+    let Some(mode) = to_mode(mode) else {
+        return false;
+    };
+    is_text(class, mode, input)
 }

@@ -5,7 +5,7 @@ ghost use Rattle.ufmt.specs.Hex.{padded_hexadecimal};
 ghost use Rattle.ufmt.specs.Radix.{padded_in};
 ghost use Rattle.ufmt.specs.declared.radix.Radix.TheVariants.{Binary};
 ghost use Rattle.ufmt_c.specs.Calls.{WritesNothing, PutsText, bad_option};
-ghost use Rattle.ufmt_c.specs.Options.{hex_of};
+ghost use Rattle.ufmt_c.specs.Options.{IsHexStyle, hex_of};
 
 use crate::code::BAD_OPTION;
 use crate::options::HexStyle;
@@ -31,8 +31,8 @@ pub extern "C" fn ufmt_signed(buffer: &mut [u8], number: i64, detail: &mut usize
     print(buffer, &number, detail)
 }
 
-/// Writes the number in hexadecimal digits, with a prefix and padding. Returns `BAD_OPTION` if the byte to
-/// pad with isn't ASCII.
+/// Writes the number in hexadecimal digits, with a prefix and padding. Returns `BAD_OPTION` if the
+/// style is none.
 #[tactic(auto, unfolding(ufmt::specs::Pieces::line_text))]
 #[unsafe(no_mangle)]
 pub extern "C" fn ufmt_hexadecimal(
@@ -41,17 +41,16 @@ pub extern "C" fn ufmt_hexadecimal(
     style: &HexStyle,
     detail: &mut usize,
 ) -> isize
-    ensures text { style.now.pad < 128
+    ensures text { IsHexStyle style.now
         → PutsText buffer.old (padded_hexadecimal (hex_of style.now) number) result buffer.new
         detail.new }
-    ensures refused { 128 ≤ style.now.pad → result ≡ bad_option }
-    ensures nothing { 128 ≤ style.now.pad
+    ensures refused { ¬ (IsHexStyle style.now) → result ≡ bad_option }
+    ensures nothing { ¬ (IsHexStyle style.now)
         → WritesNothing buffer.old detail.old buffer.new detail.new }
 {
-    let options = style.options();
-    if !options.has_ascii_pad() {
+    let Some(options) = style.to_options() else {
         return BAD_OPTION;
-    }
+    };
     let narrow = narrowed(options, buffer.len());
     let rest = options.pad_length - narrow.pad_length;
     print_longer(buffer, &pieces!(hex number with narrow), rest, detail)
@@ -66,17 +65,16 @@ pub extern "C" fn ufmt_binary(
     style: &HexStyle,
     detail: &mut usize,
 ) -> isize
-    ensures text { style.now.pad < 128
+    ensures text { IsHexStyle style.now
         → PutsText buffer.old (padded_in Binary (hex_of style.now) number) result buffer.new
         detail.new }
-    ensures refused { 128 ≤ style.now.pad → result ≡ bad_option }
-    ensures nothing { 128 ≤ style.now.pad
+    ensures refused { ¬ (IsHexStyle style.now) → result ≡ bad_option }
+    ensures nothing { ¬ (IsHexStyle style.now)
         → WritesNothing buffer.old detail.old buffer.new detail.new }
 {
-    let options = style.options();
-    if !options.has_ascii_pad() {
+    let Some(options) = style.to_options() else {
         return BAD_OPTION;
-    }
+    };
     let narrow = narrowed(options, buffer.len());
     let rest = options.pad_length - narrow.pad_length;
     print_longer(buffer, &pieces!(bin number with narrow), rest, detail)

@@ -9,7 +9,7 @@ ghost use Rattle.ufmt_c.specs.Quotes.{UnquotesText};
 use crate::code::{FULL, NO_TEXT, NOT_UTF8};
 use crate::filler::put;
 use crate::print::print;
-use crate::text::text_of;
+use crate::text::{text_at_front, text_of};
 use ufmt_scan::quoted::split_escaped;
 use ufmt_scan::strip::strip_byte;
 
@@ -54,28 +54,28 @@ fn decode<'a>(buffer: &mut [u8], input: &'a [u8]) -> Decoded<'a>
 }
 
 /// Writes the text of which `ufmt_quote` writes this input. Returns `NO_TEXT` only if there is none. Then
-/// `detail` becomes the number of bytes at the input's front that can begin such an input, and any byte of
-/// the buffer may have been overwritten.
+/// `detail` becomes the number of bytes at the input's front that some such text begins with, in whole
+/// characters, and any byte of the buffer may have been overwritten.
 #[unsafe(no_mangle)]
 pub extern "C" fn ufmt_unquote(buffer: &mut [u8], input: &[u8], detail: &mut usize) -> isize
     ensures { UnquotesText input.now buffer.old result buffer.new detail.new }
 {
-    let Some(inside) = strip_byte(b'"', input) else {
+    // Only bytes that are UTF-8 are decoded, so what is put is a text.
+    let front = text_at_front(input);
+    let Some(inside) = strip_byte(b'"', front) else {
         *detail = 0;
         return NO_TEXT;
     };
     let decoded = decode(buffer, inside);
     let Some(after) = strip_byte(b'"', decoded.rest) else {
-        *detail = input.len() - decoded.rest.len();
+        *detail = front.len() - decoded.rest.len();
         return NO_TEXT;
     };
-    if !after.is_empty() {
-        *detail = input.len() - after.len();
+    let end = front.len() - after.len();
+    if end < input.len() {
+        *detail = end;
         return NO_TEXT;
     }
-    let Some(_text) = text_of(input, detail) else {
-        return NO_TEXT;
-    };
     *detail = decoded.length;
     if decoded.length > buffer.len() {
         return FULL;

@@ -4,8 +4,9 @@
  * A line is a call's name without `ufmt_`, and a word for each argument but `detail`: for a buffer its
  * size, for an input its bytes in hexadecimal digits, for a struct its members. `null` is a buffer or an
  * input of no bytes at NULL, and `-` one of no bytes elsewhere. Each array has exactly its size, so that
- * valgrind sees a byte that is read or written past it. With the argument `unset` no byte of a buffer has
- * a value before the call, and only the written text is printed. */
+ * valgrind sees a byte that is read or written past it. A number that a call leaves is printed as a buffer of
+ * eight bytes. With the argument `unset` no byte of a buffer has a value before the call, and only the
+ * written text is printed. With `null` each call is made with a detail at NULL. */
 #include <stdio.h>
 #include <stdlib.h>
 #include <string.h>
@@ -15,11 +16,11 @@
 enum { FILL = 0xa5, DETAIL = 777 };
 
 typedef struct bytes {
-    uint8_t *at;
+    char *at;
     size_t size;
 } bytes;
 
-static bool is_unset;
+static bool is_unset, is_null;
 
 static const char *word(void) {
     const char *found = strtok(NULL, " \n");
@@ -54,7 +55,7 @@ static bytes input(void) {
     bytes made = room(strlen(digits) / 2);
     for (size_t i = 0; i < made.size; i++) {
         char pair[3] = {digits[2 * i], digits[2 * i + 1], 0};
-        made.at[i] = (uint8_t)strtoul(pair, NULL, 16);
+        made.at[i] = (char)strtoul(pair, NULL, 16);
     }
     return made;
 }
@@ -75,25 +76,50 @@ static void print(ptrdiff_t result, size_t detail, bytes left) {
     size_t shown = !is_unset ? left.size : result > 0 ? (size_t)result : 0;
     printf("%td %zu ", result, detail);
     for (size_t i = 0; i < shown; i++) {
-        printf("%02x", left.at[i]);
+        printf("%02x", (unsigned char)left.at[i]);
     }
     printf("\n");
     free(left.at);
 }
 
-typedef ptrdiff_t on_bytes(uint8_t *, size_t, const uint8_t *, size_t, size_t *);
+/* Where a call leaves its detail. */
+static size_t *place(size_t *detail) {
+    return is_null ? NULL : detail;
+}
 
-static void call_on_bytes(on_bytes *call) {
+static void call_on_bytes(const char *name) {
     size_t detail = DETAIL;
     bytes to = buffer(), from = input();
-    ptrdiff_t result = call(to.at, to.size, from.at, from.size, &detail);
+    ptrdiff_t result = (*name == 'q' ? ufmt_quote : ufmt_unquote)(to.at, to.size, from.at, from.size, place(&detail));
     print(result, detail, to);
     free(from.at);
 }
 
-static void call_is_text(bool call(const uint8_t *, size_t, bool)) {
+static void call_convert(void) {
+    size_t detail = DETAIL;
+    bytes written = buffer();
+    uint32_t text_class = (uint32_t)number(), mode = (uint32_t)number();
     bytes from = input();
-    print(call(from.at, from.size, number()), DETAIL, (bytes){NULL, 0});
+    ptrdiff_t result = ufmt_convert(written.at, written.size, text_class, mode, from.at, from.size, place(&detail));
+    print(result, detail, written);
+    free(from.at);
+}
+
+static void call_is_text(void) {
+    uint32_t text_class = (uint32_t)number(), mode = (uint32_t)number();
+    bytes from = input();
+    print(ufmt_is_text(text_class, mode, from.at, from.size), DETAIL, (bytes){NULL, 0});
+    free(from.at);
+}
+
+static void call_parse(const char *name) {
+    size_t detail = DETAIL;
+    bytes left = room(8), from = input();
+    memset(left.at, FILL, left.size);
+    void *at = left.at;
+    ptrdiff_t result = strcmp(name, "parse_signed") ? ufmt_parse_unsigned(at, from.at, from.size, place(&detail))
+                                                    : ufmt_parse_signed(at, from.at, from.size, place(&detail));
+    print(result, detail, left);
     free(from.at);
 }
 
@@ -102,17 +128,18 @@ static void call_number(const char *name) {
     bytes to = buffer();
     ptrdiff_t result;
     if (!strcmp(name, "unsigned")) {
-        result = ufmt_unsigned(to.at, to.size, number(), &detail);
+        result = ufmt_unsigned(to.at, to.size, number(), place(&detail));
     } else if (!strcmp(name, "signed")) {
-        result = ufmt_signed(to.at, to.size, strtoll(word(), NULL, 10), &detail);
+        result = ufmt_signed(to.at, to.size, strtoll(word(), NULL, 10), place(&detail));
     } else {
         uint64_t value = number();
-        ufmt_hex_style style = {0};
+        ufmt_hex_style style = UFMT_HEX_STYLE_INIT;
+        style.struct_size = number();
         style.width = number();
         style.pad = (uint8_t)number();
         style.upper_case = number();
         style.prefix = number();
-        result = (*name == 'b' ? ufmt_binary : ufmt_hexadecimal)(to.at, to.size, value, &style, &detail);
+        result = (*name == 'b' ? ufmt_binary : ufmt_hexadecimal)(to.at, to.size, value, &style, place(&detail));
     }
     print(result, detail, to);
 }
@@ -122,19 +149,21 @@ static void call_styled(const char *name) {
     bytes to = buffer(), from = input();
     ptrdiff_t result;
     if (!strcmp(name, "dump")) {
-        ufmt_dump_style style = {0};
+        ufmt_dump_style style = UFMT_DUMP_STYLE_INIT;
+        style.struct_size = number();
         style.per_row = number();
         style.group = number();
         style.first = (uint32_t)number();
         style.has_offsets = number();
         style.has_text = number();
-        result = ufmt_dump(to.at, to.size, from.at, from.size, &style, &detail);
+        result = ufmt_dump(to.at, to.size, from.at, from.size, &style, place(&detail));
     } else {
-        ufmt_column_style style = {0};
+        ufmt_column_style style = UFMT_COLUMN_STYLE_INIT;
+        style.struct_size = number();
         style.width = number();
         style.fill = (uint32_t)number();
         style.align = (uint8_t)number();
-        result = ufmt_in_column(to.at, to.size, from.at, from.size, &style, &detail);
+        result = ufmt_in_column(to.at, to.size, from.at, from.size, &style, place(&detail));
     }
     print(result, detail, to);
     free(from.at);
@@ -145,34 +174,24 @@ static void call_on_two(const char *name) {
     bool writes = !strcmp(name, "difference");
     bytes to = writes ? buffer() : (bytes){NULL, 0};
     bytes given = input(), stored = input();
-    ptrdiff_t result = writes ? ufmt_difference(to.at, to.size, given.at, given.size, stored.at, stored.size, &detail)
-                              : ufmt_first_difference(given.at, given.size, stored.at, stored.size, &detail);
+    ptrdiff_t result = writes ? ufmt_difference(to.at, to.size, given.at, given.size, stored.at, stored.size, place(&detail))
+                              : ufmt_first_difference(given.at, given.size, stored.at, stored.size, place(&detail));
     print(result, detail, to);
     free(given.at);
     free(stored.at);
 }
 
-static const struct {
-    const char *name;
-    on_bytes *call;
-} ON_BYTES[] = {
-    {"to_pretty", ufmt_to_pretty},
-    {"to_plain", ufmt_to_plain},
-    {"debug_to_pretty", ufmt_debug_to_pretty},
-    {"debug_to_plain", ufmt_debug_to_plain},
-    {"quote", ufmt_quote},
-    {"unquote", ufmt_unquote},
-};
-
 static void call(const char *name) {
-    for (size_t i = 0; i < sizeof ON_BYTES / sizeof *ON_BYTES; i++) {
-        if (!strcmp(name, ON_BYTES[i].name)) {
-            call_on_bytes(ON_BYTES[i].call);
-            return;
-        }
-    }
-    if (!strcmp(name, "is_text") || !strcmp(name, "is_debug_text")) {
-        call_is_text(name[3] == 't' ? ufmt_is_text : ufmt_is_debug_text);
+    if (!strcmp(name, "convert")) {
+        call_convert();
+    } else if (!strcmp(name, "quote") || !strcmp(name, "unquote")) {
+        call_on_bytes(name);
+    } else if (!strcmp(name, "is_text")) {
+        call_is_text();
+    } else if (!strcmp(name, "version")) {
+        print(ufmt_version(), DETAIL, (bytes){NULL, 0});
+    } else if (!strcmp(name, "parse_unsigned") || !strcmp(name, "parse_signed")) {
+        call_parse(name);
     } else if (!strcmp(name, "unsigned") || !strcmp(name, "signed") || !strcmp(name, "hexadecimal") ||
                !strcmp(name, "binary")) {
         call_number(name);
@@ -190,6 +209,7 @@ int main(int count, char **words) {
     char *line = NULL;
     size_t size = 0;
     is_unset = count > 1 && !strcmp(words[1], "unset");
+    is_null = count > 1 && !strcmp(words[1], "null");
     while (getline(&line, &size, stdin) > 0) {
         call(strtok(line, " \n"));
     }

@@ -9,6 +9,7 @@ const DETAIL: usize = 777;
 
 #[repr(C)]
 struct HexStyle {
+    struct_size: usize,
     width: usize,
     pad: u8,
     upper_case: bool,
@@ -17,6 +18,7 @@ struct HexStyle {
 
 #[repr(C)]
 struct DumpStyle {
+    struct_size: usize,
     per_row: usize,
     group: usize,
     first: u32,
@@ -26,6 +28,7 @@ struct DumpStyle {
 
 #[repr(C)]
 struct ColumnStyle {
+    struct_size: usize,
     width: usize,
     fill: u32,
     align: u8,
@@ -34,12 +37,11 @@ struct ColumnStyle {
 #[link(name = "ufmt_c", kind = "static")]
 #[rustfmt::skip]
 unsafe extern "C" {
-    fn ufmt_is_text(input: *const u8, length: usize, pretty: bool) -> bool;
-    fn ufmt_is_debug_text(input: *const u8, length: usize, pretty: bool) -> bool;
-    fn ufmt_to_pretty(to: *mut u8, size: usize, input: *const u8, length: usize, detail: &mut usize) -> isize;
-    fn ufmt_to_plain(to: *mut u8, size: usize, input: *const u8, length: usize, detail: &mut usize) -> isize;
-    fn ufmt_debug_to_pretty(to: *mut u8, size: usize, input: *const u8, length: usize, detail: &mut usize) -> isize;
-    fn ufmt_debug_to_plain(to: *mut u8, size: usize, input: *const u8, length: usize, detail: &mut usize) -> isize;
+    fn ufmt_version() -> u32;
+    fn ufmt_is_text(text_class: u32, mode: u32, input: *const u8, length: usize) -> bool;
+    fn ufmt_convert(buffer: *mut u8, size: usize, text_class: u32, to: u32, input: *const u8, length: usize, detail: &mut usize) -> isize;
+    fn ufmt_parse_unsigned(number: &mut u64, input: *const u8, length: usize, detail: &mut usize) -> isize;
+    fn ufmt_parse_signed(number: &mut i64, input: *const u8, length: usize, detail: &mut usize) -> isize;
     fn ufmt_quote(to: *mut u8, size: usize, input: *const u8, length: usize, detail: &mut usize) -> isize;
     fn ufmt_unquote(to: *mut u8, size: usize, input: *const u8, length: usize, detail: &mut usize) -> isize;
     fn ufmt_unsigned(to: *mut u8, size: usize, number: u64, detail: &mut usize) -> isize;
@@ -52,7 +54,6 @@ unsafe extern "C" {
     fn ufmt_difference(to: *mut u8, size: usize, given: *const u8, given_length: usize, stored: *const u8, stored_length: usize, detail: &mut usize) -> isize;
 }
 
-type IsText = unsafe extern "C" fn(*const u8, usize, bool) -> bool;
 type OnBytes = unsafe extern "C" fn(*mut u8, usize, *const u8, usize, &mut usize) -> isize;
 type OnNumber = unsafe extern "C" fn(*mut u8, usize, u64, &HexStyle, &mut usize) -> isize;
 
@@ -98,10 +99,32 @@ fn from(input: &Option<Vec<u8>>) -> (*const u8, usize) {
 // SAFETY, of each call below: a pointer and the size after it are those of one vector, or NULL and 0, and
 // nothing else is borrowed of the buffer.
 
-fn is_text(call: IsText, words: &mut Words) -> isize {
+fn is_text(words: &mut Words) -> isize {
+    let (text_class, mode, input) = (words.number(), words.number(), words.input());
+    let (at, length) = from(&input);
+    isize::from(unsafe { ufmt_is_text(text_class, mode, at, length) })
+}
+
+fn convert(to: *mut u8, size: usize, words: &mut Words, detail: &mut usize) -> isize {
+    let (text_class, mode, input) = (words.number(), words.number(), words.input());
+    let (at, length) = from(&input);
+    unsafe { ufmt_convert(to, size, text_class, mode, at, length, detail) }
+}
+
+/// What a call returns that leaves a number, whose bytes it puts into the buffer.
+fn parse(name: &str, left: &mut [u8; 8], words: &mut Words, detail: &mut usize) -> isize {
     let input = words.input();
     let (at, length) = from(&input);
-    isize::from(unsafe { call(at, length, words.flag()) })
+    if name == "parse_signed" {
+        let mut number = i64::from_le_bytes(*left);
+        let result = unsafe { ufmt_parse_signed(&mut number, at, length, detail) };
+        *left = number.to_le_bytes();
+        return result;
+    }
+    let mut number = u64::from_le_bytes(*left);
+    let result = unsafe { ufmt_parse_unsigned(&mut number, at, length, detail) };
+    *left = number.to_le_bytes();
+    result
 }
 
 fn first_difference(words: &mut Words, detail: &mut usize) -> isize {
@@ -112,7 +135,7 @@ fn first_difference(words: &mut Words, detail: &mut usize) -> isize {
 
 fn on_number(call: OnNumber, to: *mut u8, size: usize, words: &mut Words, detail: &mut usize) -> isize {
     let number = words.number();
-    let style = HexStyle { width: words.number(), pad: words.number(), upper_case: words.flag(), prefix: words.flag() };
+    let style = HexStyle { struct_size: words.number(), width: words.number(), pad: words.number(), upper_case: words.flag(), prefix: words.flag() };
     unsafe { call(to, size, number, &style, detail) }
 }
 
@@ -120,14 +143,11 @@ fn on_bytes(name: &str, to: *mut u8, size: usize, words: &mut Words, detail: &mu
     let bytes = words.input();
     let (input, length) = from(&bytes);
     let call: OnBytes = match name {
-        "to_pretty" => ufmt_to_pretty,
-        "to_plain" => ufmt_to_plain,
-        "debug_to_pretty" => ufmt_debug_to_pretty,
-        "debug_to_plain" => ufmt_debug_to_plain,
         "quote" => ufmt_quote,
         "unquote" => ufmt_unquote,
         "dump" => {
             let style = DumpStyle {
+                struct_size: words.number(),
                 per_row: words.number(),
                 group: words.number(),
                 first: words.number(),
@@ -137,7 +157,7 @@ fn on_bytes(name: &str, to: *mut u8, size: usize, words: &mut Words, detail: &mu
             return unsafe { ufmt_dump(to, size, input, length, &style, detail) };
         }
         "in_column" => {
-            let style = ColumnStyle { width: words.number(), fill: words.number(), align: words.number() };
+            let style = ColumnStyle { struct_size: words.number(), width: words.number(), fill: words.number(), align: words.number() };
             return unsafe { ufmt_in_column(to, size, input, length, &style, detail) };
         }
         "difference" => {
@@ -158,6 +178,7 @@ fn written(name: &str, buffer: &mut Option<Vec<u8>>, words: &mut Words, detail: 
         "signed" => unsafe { ufmt_signed(to, size, words.number(), detail) },
         "hexadecimal" => on_number(ufmt_hexadecimal, to, size, words, detail),
         "binary" => on_number(ufmt_binary, to, size, words, detail),
+        "convert" => convert(to, size, words, detail),
         _ => on_bytes(name, to, size, words, detail),
     }
 }
@@ -170,8 +191,14 @@ fn main() -> io::Result<()> {
         let name = words.word().to_string();
         let (mut detail, mut buffer) = (DETAIL, None);
         let result = match name.as_str() {
-            "is_text" => is_text(ufmt_is_text, &mut words),
-            "is_debug_text" => is_text(ufmt_is_debug_text, &mut words),
+            "version" => (unsafe { ufmt_version() }) as isize,
+            "is_text" => is_text(&mut words),
+            "parse_unsigned" | "parse_signed" => {
+                let mut left = [FILL; 8];
+                let result = parse(&name, &mut left, &mut words, &mut detail);
+                buffer = Some(left.to_vec());
+                result
+            }
             "first_difference" => first_difference(&mut words, &mut detail),
             _ => {
                 buffer = words.buffer();

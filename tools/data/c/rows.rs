@@ -144,8 +144,10 @@ fn differences() {
                 words.join(" "),
                 found.map_or(0, |(line, ..)| line)
             );
-            let told =
-                |(line, given, stored)| format!("line {line} differs\n given: {given:?}\nstored: {stored:?}");
+            let shown = |line: Option<&str>| line.map_or("none".to_string(), |line| format!("{line:?}"));
+            let told = |(line, given, stored)| {
+                format!("line {line} differs\n given: {}\nstored: {}", shown(given), shown(stored))
+            };
             row("difference", &words, &found.map_or(String::new(), told));
         }
     }

@@ -17,19 +17,24 @@ from lib.expected import rows as expected_rows  # noqa: E402
 from lib.model.model import DEBUG, TOKEN, PlainReader, PrettyReader, plain, pretty  # noqa: E402
 
 NO_TEXT, FULL, NOT_UTF8, BAD_OPTION = -1, -2, -3, -4
-# What each call takes after its buffer, if it has one, and before `detail`. A struct has its name and its members' types.
+# What each call takes after its buffer, if it has one, and before `detail`. A struct has its name and its members' types, and
+# a number that is left is `number`.
 STYLES = {
-    "hex": ("size_t", "uint8_t", "bool", "bool"),
-    "dump": ("size_t", "size_t", "uint32_t", "bool", "bool"),
-    "column": ("size_t", "uint32_t", "uint8_t"),
+    "hex": ("size_t", "size_t", "uint8_t", "bool", "bool"),
+    "dump": ("size_t", "size_t", "size_t", "uint32_t", "bool", "bool"),
+    "column": ("size_t", "size_t", "uint32_t", "uint8_t"),
 }
+# How many bytes each struct has, which its first member says.
+SIZES = {"hex": 24, "dump": 32, "column": 24}
+NUMBER_SIZE = 8
+SIZE_MAX = 2**64 - 1
+CLASSES, MODES = {TOKEN: 0, DEBUG: 1}, {"plain": 0, "pretty": 1}
 CALLS = {
-    "is_text": ("bytes", "bool"),
-    "is_debug_text": ("bytes", "bool"),
-    "to_pretty": ("buffer", "bytes"),
-    "to_plain": ("buffer", "bytes"),
-    "debug_to_pretty": ("buffer", "bytes"),
-    "debug_to_plain": ("buffer", "bytes"),
+    "version": (),
+    "is_text": ("uint32_t", "uint32_t", "bytes"),
+    "convert": ("buffer", "uint32_t", "uint32_t", "bytes"),
+    "parse_unsigned": ("number", "bytes"),
+    "parse_signed": ("number", "bytes"),
     "quote": ("buffer", "bytes"),
     "unquote": ("buffer", "bytes"),
     "unsigned": ("buffer", "uint64_t"),
@@ -45,7 +50,8 @@ CALLS = {
 
 class Case(NamedTuple):
     """A call and its arguments: bytes, numbers, and tuples for structs. It writes a text; or it returns a result and,
-    if that is said, a detail. One without a buffer only returns. Of a text whose length is said, only the front is."""
+    if that is said, a detail. One without a buffer only returns, or leaves a number. Of a text whose length is said, only the
+    front is."""
 
     call: str
     arguments: tuple
@@ -53,10 +59,20 @@ class Case(NamedTuple):
     result: Optional[int] = None
     detail: Optional[int] = None
     length: Optional[int] = None
+    number: Optional[int] = None
 
 
 def has_buffer(case):
-    return CALLS[case.call][0] == "buffer"
+    return CALLS[case.call][:1] == ("buffer",)
+
+
+def leaves_number(case):
+    return CALLS[case.call][:1] == ("number",)
+
+
+def style(name, *members):
+    """A struct of options, with its size."""
+    return (SIZES[name], *members)
 
 
 def arguments(call, words):
@@ -67,10 +83,10 @@ def arguments(call, words):
             found.append(b"" if words[0] == "%" else unquote_to_bytes(words[0]))
             del words[0]
         elif kind in STYLES:
-            count = len(STYLES[kind])
-            found.append(tuple(int(word) for word in words[:count]))
+            count = len(STYLES[kind]) - 1
+            found.append(style(kind, *(int(word) for word in words[:count])))
             del words[:count]
-        elif kind != "buffer":
+        elif kind not in ("buffer", "number"):
             found.append(int(words.pop(0)))
     if words:
         raise ValueError("a row of %s has more words: %s" % (call, words))
@@ -91,6 +107,8 @@ def stored():
         yield Case(call, arguments(call, words), text=whole)
         if call == "quote":
             yield Case("unquote", (whole,), text=arguments(call, words)[0])
+        elif call in ("unsigned", "signed"):
+            yield Case("parse_" + call, (whole,), result=0, number=arguments(call, words)[0])
 
 
 # Texts that no value prints, and some that are refused by token texts only.
@@ -118,26 +136,25 @@ def conversions():
     for mode in given:
         given[mode] += REFUSED + nested
         given[mode] += [changed[:at] + bytes([byte]) + changed[at + 1 :] for at in range(len(changed)) for byte in (0x20, 0x22, 0x2C, 0x7F, 0xFF)]
-    for prefix, text_class in (("", TOKEN), ("debug_", DEBUG)):
+    for text_class in CLASSES:
         for mode, other in (("plain", "pretty"), ("pretty", "plain")):
             for data in given[mode]:
                 text, place = by_model(text_class, mode, data)
-                is_text = "is_debug_text" if prefix else "is_text"
-                yield Case(is_text, (data, mode == "pretty"), result=int(text is not None))
-                call = "%sto_%s" % (prefix, other)
-                yield Case(call, (data,), text=text) if text is not None else Case(call, (data,), result=NO_TEXT, detail=place)
+                yield Case("is_text", (CLASSES[text_class], MODES[mode], data), result=int(text is not None))
+                asked = (CLASSES[text_class], MODES[other], data)
+                yield Case("convert", asked, text=text) if text is not None else Case("convert", asked, result=NO_TEXT, detail=place)
 
 
 def as_rustc_printed():
     """The texts that rustc printed, both ways, where a class has the value: the same rows by rustc's own words."""
     listed = {(reason.row, reason.text_class): reason.outcomes for reason in expected_rows.reasons(TOP / "tools" / "expected" / "reasons")}
     for row in expected_rows.rows(TOP / "tools" / "expected" / "rows.txt"):
-        for name, prefix in (("token", ""), ("debug", "debug_")):
+        for name, text_class in (("token", TOKEN), ("debug", DEBUG)):
             from_plain, from_pretty = listed.get((row.name, name), ("same", "same"))
             if from_plain == "same":
-                yield Case(prefix + "to_pretty", (row.plain.encode(),), text=row.pretty.encode())
+                yield Case("convert", (CLASSES[text_class], MODES["pretty"], row.plain.encode()), text=row.pretty.encode())
             if from_pretty == "same":
-                yield Case(prefix + "to_plain", (row.pretty.encode(),), text=row.plain.encode())
+                yield Case("convert", (CLASSES[text_class], MODES["plain"], row.pretty.encode()), text=row.plain.encode())
 
 
 NOT_TEXTS = [b"\xff", b"a\xc3", b"ab\xffcd", b"\xc3\xa9\xc3", b"\xe4\xb8", b"\xed\xa0\x80", b"\xf0\x9f\xa6", b"abc\x80", b"\xc0\x80", b"\xf5\x80\x80\x80"]
@@ -152,37 +169,40 @@ def valid_up_to(data):
     raise ValueError("these bytes are UTF-8")
 
 
-# How a byte is spelled between quotation marks.
-SPELLED = re.compile(rb'\\(?:[0tnr"\\]|u\{(?:[1-8]|[bcef]|1[0-9a-f]|7f)\})|[^\x00-\x1f"\\\x7f]')
+def version():
+    """The version of all crates, as the page of a program has it, in one number."""
+    page = (TOP / "tools" / "data" / "man" / "ufmt_lines.1").read_text()
+    first, second, third = re.search(r'"ufmt_lines (\d+)\.(\d+)\.(\d+)"', page).groups()
+    return int(first) * 10_000 + int(second) * 100 + int(third)
+
+
+# How a character is spelled between quotation marks, and whole characters at the front of a text in quotation marks.
+SPELLED = r'(?:\\(?:[0tnr"\\]|u\{(?:[1-8]|[bcef]|1[0-9a-f]|7f)\})|[^\x00-\x1f"\\\x7f])*'
+QUOTED_FRONT, QUOTED = re.compile('(?:"%s"?)?' % SPELLED), re.compile('"%s"' % SPELLED)
+
+
+def matches(pattern, data):
+    """Whether these bytes are such a text."""
+    try:
+        return bool(pattern.fullmatch(data.decode()))
+    except UnicodeDecodeError:
+        return False
 
 
 def misquoted_at(data):
-    """How many bytes at the front of an input can begin a text in quotation marks, or None if it is one."""
-    if data[:1] != b'"':
-        return 0
-    at = 1
-    while True:
-        found = SPELLED.match(data, at)
-        if not found:
-            break
-        at = found.end()
-    if data[at : at + 1] != b'"':
-        return at
-    if data[at + 1 :]:
-        return at + 1
-    try:
-        data.decode()
-    except UnicodeDecodeError as error:
-        return error.start
-    return None
+    """How many bytes at the front of an input some text in quotation marks begins with, in whole characters, or None if it is one."""
+    if matches(QUOTED, data):
+        return None
+    return max(n for n in range(len(data) + 1) if matches(QUOTED_FRONT, data[:n]))
 
 
 def misquoted():
     """Inputs that are no texts in quotation marks: texts in quotes that are cut, longer, or have one byte changed."""
-    inputs = REFUSED + [b'"' + data + b'"' for data in NOT_TEXTS]
+    inputs = REFUSED + [b'"' + data + end for data in NOT_TEXTS for end in (b'"', b"", b"\\q", b'\\n"', b'"x')]
     inputs += [b'"\\%s"' % escape for escape in (b"x", b"u{0}", b"u{9}", b"u{a}", b"u{d}", b"u{20}", b"u{80}", b"u{7F}", b"u{1B}", b"u{07}", b"u{}", b"u1", b"'", b"u{1b")]
     whole = '"a\\n\\u{1b}é\\"\\\\z"'.encode()
     inputs += [whole[:at] for at in range(len(whole))] + [whole + b"x", whole + whole]
+    inputs += [wide[:at] + end for wide in ['"\u00e9\u4e2d\U0001f980\\0"'.encode()] for at in range(len(wide)) for end in (b"", b'"', b"a", b"\\u{200b}", b"\xff")]
     inputs += [whole[:at] + bytes([byte]) + whole[at + 1 :] for at in range(len(whole)) for byte in (0x00, 0x22, 0x5C, 0x7F, 0xFF)]
     for data in inputs:
         place = misquoted_at(data)
@@ -190,25 +210,54 @@ def misquoted():
             yield Case("unquote", (data,), result=NO_TEXT, detail=place)
 
 
+# The digits at the front of an input, and the numbers of each call.
+DIGITS = re.compile(rb"-?(?:0|[1-9][0-9]*)(?![0-9])")
+NUMBERS = {"parse_unsigned": range(2**64), "parse_signed": range(-(2**63), 2**63)}
+
+
+def misread():
+    """Inputs that aren't the digits of a number, and where a number ends that is at their front."""
+    whole = [b"0", b"7", b"-7", b"12345678", b"1234567890123456789", b"-1234567890123456789", b"18446744073709551615", b"9223372036854775807", b"-9223372036854775808"]
+    inputs = REFUSED + [b"-", b"--1", b"-0", b"00", b"01", b"-01", b"+1", b" 1", b"0x1", b"1_000", b"18446744073709551616", b"99999999999999999999999", b"9223372036854775808", b"-9223372036854775809"]
+    inputs += [number + rest for number in whole for rest in (b"", b" ", b",", b"}", b"]", b" }", b": 1", b"x", b"0", b"\xff", b"\0", b"1" * 40)]
+    for data in inputs:
+        found = DIGITS.match(data)
+        for call, numbers in NUMBERS.items():
+            number = int(found.group()) if found and found.group() != b"-0" and int(found.group()) in numbers else None
+            if number is not None and found.end() == len(data):
+                yield Case(call, (data,), result=0, number=number)
+            else:
+                yield Case(call, (data,), result=NO_TEXT, detail=found.end() if number is not None else 0)
+
+
 def refusals():
-    """Inputs that aren't UTF-8, and options that mean nothing."""
+    """Inputs that aren't UTF-8; options, classes and modes that mean nothing; and sizes of structs that no version had."""
     for data in NOT_TEXTS:
         place = valid_up_to(data)
         yield Case("quote", (data,), result=NOT_UTF8, detail=place)
-        yield Case("in_column", (data, (8, 32, 0)), result=NOT_UTF8, detail=place)
+        yield Case("in_column", (data, style("column", 8, 32, 0)), result=NOT_UTF8, detail=place)
         for call in ("difference", "first_difference"):
             yield Case(call, (data, b"a"), result=NOT_UTF8, detail=place)
             yield Case(call, (b"a", data), result=NOT_UTF8, detail=place)
             yield Case(call, (data, b"abcdef\xff"), result=NOT_UTF8, detail=place)
     for pad in (128, 255):
-        yield Case("hexadecimal", (7, (4, pad, 0, 0)), result=BAD_OPTION)
-        yield Case("binary", (7, (4, pad, 0, 0)), result=BAD_OPTION)
+        yield Case("hexadecimal", (7, style("hex", 4, pad, 0, 0)), result=BAD_OPTION)
+        yield Case("binary", (7, style("hex", 4, pad, 0, 0)), result=BAD_OPTION)
     for fill, align in ((0xD800, 0), (0xDFFF, 1), (0x110000, 2), (0xFFFFFFFF, 0), (32, 3), (32, 255)):
-        yield Case("in_column", (b"a", (8, fill, align)), result=BAD_OPTION)
-        yield Case("in_column", (b"\xff", (8, fill, align)), result=BAD_OPTION)
+        yield Case("in_column", (b"a", style("column", 8, fill, align)), result=BAD_OPTION)
+        yield Case("in_column", (b"\xff", style("column", 8, fill, align)), result=BAD_OPTION)
+    for size in (0, 1, 8, 16, 20, 23, 25, 31, 33, 40, 48, SIZE_MAX):
+        yield Case("hexadecimal", (7, (size, 4, 32, 0, 0)), result=BAD_OPTION)
+        yield Case("binary", (7, (size, 4, 32, 0, 0)), result=BAD_OPTION)
+        yield Case("dump", (b"abc", (size, 16, 1, 0, 1, 1)), result=BAD_OPTION)
+        yield Case("in_column", (b"a", (size, 8, 32, 0)), result=BAD_OPTION)
+    for text_class, mode in ((2, 0), (0, 2), (2, 2), (255, 1), (1, 256), (2**32 - 1, 0), (1, 2**31)):
+        for data in (b"", b"1", b"[1]"):
+            yield Case("convert", (text_class, mode, data), result=BAD_OPTION)
+            yield Case("is_text", (text_class, mode, data), result=0)
+    yield Case("version", (), result=version())
 
 
-SIZE_MAX = 2**64 - 1
 # Widths and counts past what any buffer has, and small ones.
 HUGE = (2**62, 2**63 - 1, 2**63, 2**63 + 1, SIZE_MAX - 1, SIZE_MAX)
 NEAR = (*range(12), *range(60, 82), *range(124, 140), 190, 191, 192, 193, 194, 260, 300)
@@ -234,21 +283,22 @@ def wide_numbers():
                         if upper and base == "x":
                             digits, before = digits.upper(), before.upper()
                         missing = max(width - len(before) - len(digits), 0)
-                        parts = [(bytes([pad]), missing), (before.encode(), 1), (digits.encode(), 1)]
-                        if pad != 32:
+                        parts = [(bytes([pad or 32]), missing), (before.encode(), 1), (digits.encode(), 1)]
+                        if pad not in (0, 32):
                             parts[:2] = parts[1::-1]
-                        yield long_text(call, (number, (width, pad, upper, prefix)), parts)
+                        yield long_text(call, (number, style("hex", width, pad, upper, prefix)), parts)
 
 
 def wide_columns():
     for text in ("", "a", "\u00e9\u20ac", "a\U0001f980" * 15):
-        for fill in (" ", "0", "\u00e9", "\u20ac", "\U0010ffff"):
+        for fill in ("\0", " ", "0", "\u00e9", "\u20ac", "\U0010ffff"):
             for align in (0, 1, 2):
                 for width in HUGE + NEAR:
                     missing = max(width - len(text), 0)
                     before = (0, missing // 2, missing)[align]
-                    parts = [(fill.encode(), before), (text.encode(), 1), (fill.encode(), missing - before)]
-                    yield long_text("in_column", (text.encode(), (width, ord(fill), align)), parts)
+                    shown = b" " if fill == "\0" else fill.encode()
+                    parts = [(shown, before), (text.encode(), 1), (shown, missing - before)]
+                    yield long_text("in_column", (text.encode(), style("column", width, ord(fill), align)), parts)
 
 
 def dump_rows(data, per_row, group, first):
@@ -271,7 +321,7 @@ def wide_dumps():
                     for offset, digits, missing, shown in dump_rows(data, per_row, group, first):
                         parts += [(offset.encode(), has_offsets), (digits.encode(), 1)]
                         parts += [(b" ", missing + 2), (shown.encode(), 1)] * has_text + [(b"\n", 1)]
-                    yield long_text("dump", (data, (per_row, group, first, has_offsets, has_text)), parts)
+                    yield long_text("dump", (data, style("dump", per_row, group, first, has_offsets, has_text)), parts)
 
 
 def huge_options():
@@ -281,5 +331,5 @@ def huge_options():
 
 def all_cases(calls):
     """Every case of these calls, but for those of `huge_options`."""
-    made = [*stored(), *conversions(), *as_rustc_printed(), *refusals(), *misquoted()]
+    made = [*stored(), *conversions(), *as_rustc_printed(), *refusals(), *misquoted(), *misread()]
     return [case for case in made if case.call in calls]

@@ -1,7 +1,7 @@
 """Calls of libufmt_c as a shared object, by ctypes."""
 import ctypes
 
-from lib.c.cases import CALLS, STYLES
+from lib.c.cases import CALLS, NUMBER_SIZE, STYLES
 
 TYPES = {
     "size_t": ctypes.c_size_t,
@@ -11,6 +11,8 @@ TYPES = {
     "int64_t": ctypes.c_int64,
     "bool": ctypes.c_bool,
 }
+# What the calls return that take no detail.
+RESULTS = {"is_text": ctypes.c_bool, "version": ctypes.c_uint32}
 
 
 def struct(name):
@@ -31,14 +33,16 @@ class Library:
         """What the call returns and leaves: the result, the detail and the buffer, which had `room` bytes of the fill.
         A room of None is a buffer of 0 bytes at NULL."""
         call = getattr(self.library, "ufmt_" + case.call)
-        call.restype = ctypes.c_bool if case.call.startswith("is_") else ctypes.c_ssize_t
+        call.restype = RESULTS.get(case.call, ctypes.c_ssize_t)
         kinds, given, words = list(CALLS[case.call]), list(case.arguments), []
-        size = room or 0
+        size = NUMBER_SIZE if kinds and kinds[0] == "number" else room or 0
         left = (ctypes.c_uint8 * size)(*([fill] * size))
         reported = ctypes.c_size_t(detail)
-        if kinds[0] == "buffer":
+        if kinds and kinds[0] == "buffer":
             words += [left if room is not None else None, ctypes.c_size_t(size)]
-            del kinds[0]
+        elif kinds and kinds[0] == "number":
+            words.append(left)
+        kinds = [kind for kind in kinds if kind not in ("buffer", "number")]
         for kind, value in zip(kinds, given):
             if kind == "bytes":
                 words += [value, ctypes.c_size_t(len(value))]
@@ -46,6 +50,6 @@ class Library:
                 words.append(ctypes.byref(STRUCTS[kind](*value)))
             else:
                 words.append(TYPES[kind](value))
-        if not case.call.startswith("is_"):
+        if case.call not in RESULTS:
             words.append(ctypes.byref(reported))
         return int(call(*words)), reported.value, bytes(left)

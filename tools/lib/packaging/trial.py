@@ -20,7 +20,7 @@ from lib.programs.cases import run
 TOP = folder.TOP
 INSTALL = TOP / "tools" / "install"
 EXAMPLES = folder.CRATE / "examples"
-WARNINGS = ["-std=c99", "-Wall", "-Wextra", "-Wpedantic", "-Werror"]
+WARNINGS = ["-std=c99", "-Wall", "-Wextra", "-Wconversion", "-Wpedantic", "-Werror"]
 TEXT, OUTPUT = "[Pair { x: 1, y: -2 }]", b"[\n    Pair {\n        x: 1,\n        y: -2,\n    },\n]\n"
 CARGO = '[package]\nname = "convert"\nversion = "0.1.0"\nedition = "2024"\n'
 # Each file below the prefix, and its mode.

@@ -11,5 +11,5 @@ unfolding line_text
 returns-clause-text c ascii =
     let options = hex_of c.args.style.now in
     let puts = c.print_longer.ensures (padded_hexadecimal options c.args.number)
-    (stands_number Hexadecimal _ c.args.number options _ _ (search rules) c.options-options.ensures c.narrowed-narrow.ensures) in
+    (stands_number Hexadecimal _ c.args.number options _ _ (search rules) c.in-Some.ensures.1 c.narrowed-narrow.ensures) in
     search (rules, puts)
