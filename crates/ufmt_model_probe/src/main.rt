@@ -15,27 +15,19 @@
 //! their pieces.
 #![tactic(auto)]
 
-mod calls;
 mod costs;
-mod digest;
-mod events;
-mod fault;
-mod fields;
-mod half;
-mod leaf;
-mod loose;
 mod parsed;
-mod parts;
-mod pieces;
-mod requests;
+mod parsing;
 mod shapes;
-mod tokens;
 mod types;
 
-use calls::Calls;
+use std::alloc::AllocError;
 use std::env;
 use std::io::{self, Read, Write};
 use ufmt::layout::Mode;
+use ufmt_print_probe::requests;
+use ufmt_read_probe::calls::Calls;
+use ufmt_read_probe::{half, leaf};
 
 fn main(rt: HostRuntime) -> io::Result<()> {
     let arguments: Vec<String> = env::args(&rt)?.skip(1).collect(rt.alloc())?;
@@ -73,9 +65,16 @@ fn report<W: Write>(rt: &HostRuntime, output: &mut W, text: &[u8]) -> io::Result
     if let Some(line) = requests::verdict(alloc, text)? {
         return output.write_all(line.as_bytes());
     }
-    let plain = half::verdict(Calls::on_token_text(alloc, Mode::Plain, text))?;
-    let pretty = half::verdict(Calls::on_token_text(alloc, Mode::Pretty, text))?;
+    let plain = of_mode(Calls::on_token_text(alloc, Mode::Plain, text))?;
+    let pretty = of_mode(Calls::on_token_text(alloc, Mode::Pretty, text))?;
     let leaf = leaf::verdict(alloc, text)?;
     let line = format!(in alloc; "plain: {plain}; pretty: {pretty}; leaf: {leaf}\n")?;
     output.write_all(line.as_bytes())
+}
+
+// What the calls of one mode say of the text, and which types have a value with it.
+fn of_mode(calls: Calls<'_>) -> Result<String, AllocError> {
+    let read = half::verdict(calls)?;
+    let values = parsed::verdict(calls)?;
+    format!(in calls.alloc; "{read}; values: {values}")
 }

@@ -1,8 +1,5 @@
 //! Which types have a value with the text, of either class.
-use crate::calls::Calls;
-use crate::digest::Digest;
-use crate::fault::{Fault, agree};
-use crate::pieces::Pieces;
+use crate::parsing::parse_in_mode;
 use crate::shapes;
 use crate::types::{
     FurtherKeys, Keyed, Leaves, Lists, Nested, NonZeros, Numbers, Owned, Results, Shared, Slices,
@@ -10,6 +7,10 @@ use crate::types::{
 };
 use std::alloc::{AllocError, Global};
 use ufmt_parse::{ParseError, uParse};
+use ufmt_print_probe::digest::Digest;
+use ufmt_print_probe::pieces::Pieces;
+use ufmt_read_probe::calls::Calls;
+use ufmt_read_probe::fault::{Fault, agree};
 
 /// The letters of the types that have a value with the text, and the pieces of those values.
 #[derive(Drop)]
@@ -70,7 +71,7 @@ pub fn add<T: uParse<A>, A>(
     letters: &mut TypeLetters,
     letter: char,
 ) -> Result<(), Fault> {
-    match calls.parse::<T, A>(alloc) {
+    match parse_in_mode::<T, A>(calls, alloc) {
         Ok(value) => {
             let printed = calls.print(&value)?;
             agree(printed.as_bytes() == calls.text, "a parsed value, printed")?;

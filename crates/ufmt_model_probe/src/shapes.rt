@@ -1,6 +1,4 @@
 //! Structs and tuples by their number of fields, and an enum, by the calls and the macros for a user's types.
-use crate::calls::Calls;
-use crate::fault::Fault;
 use std::alloc::Global;
 use ufmt::layout::Mode;
 use ufmt::{plain_text, uDebug};
@@ -9,6 +7,8 @@ use ufmt_parse::{
     parse_struct_1, parse_struct_2, parse_struct_3, parse_struct_12, parse_tuple_1, parse_tuple_2,
     parse_tuple_3, parse_tuple_12, parse_variants,
 };
+use ufmt_read_probe::calls::Calls;
+use ufmt_read_probe::fault::Fault;
 
 /// Returns the fields of each struct, tuple and variant that has the text, as the texts of tuples.
 pub fn fields_of(calls: Calls<'_>) -> Result<String, Fault> {

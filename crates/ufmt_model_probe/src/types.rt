@@ -1,6 +1,4 @@
 //! The types that are parsed, in rows.
-use crate::calls::Calls;
-use crate::fault::{Fault, agree};
 use crate::parsed::{TypeLetters, add};
 use std::alloc::Global;
 use std::boxed::{BoxedSlice, BoxedStr};
@@ -16,6 +14,8 @@ use std::sync::{Arc, ArcSlice, ArcStr};
 use ufmt::cells::CellValue;
 use ufmt_parse::uParse;
 use ufmt_parse_examples::{Node, Tree};
+use ufmt_read_probe::calls::Calls;
+use ufmt_read_probe::fault::{Fault, agree};
 
 /// Types in a row: the first, and the row of the others, or `()`. They are parsed with this type of allocator.
 pub trait Types<A> {

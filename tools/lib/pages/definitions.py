@@ -22,7 +22,8 @@ PAGE = TOP / "docs" / "PROMISES.md"
 IMPORT = re.compile(r"^\s*(?:ghost |pub )?use Rattle\.(\w+)\.specs\.([\w.]+)\.\{([^}]*)\}", re.M)
 BEGINS = re.compile(r"^ *(?:(?:abbrev|unfoldable|pub|inductive|data) )*(record )?([\w◌]\S*) ?(.*)$")
 # Crates whose promises are none of this repository's.
-LEFT_OUT = ("_tests", "ufmt_test_rows", "ufmt_print_examples", "ufmt_parse_examples", "ufmt_memory_probe", "ufmt_model_probe")
+LEFT_OUT = ("_tests", "ufmt_test_rows", "ufmt_print_examples", "ufmt_parse_examples", "ufmt_memory_probe", "ufmt_print_probe",
+            "ufmt_read_probe", "ufmt_model_probe")
 # Words of the page that stand for many calls.
 MANY_CALLS = {
     "each builder call": ("formatter/builder.rt", "core/src/list.rt", "core/src/set.rt", "core/src/map.rt", "core/src/structs.rt", "core/src/tuple.rt"),

@@ -11,7 +11,6 @@ use ufmt_doc::plain_reader::{ReadError, read_plain};
 use ufmt_doc::pretty_reader::read_pretty;
 use ufmt_doc::scan::{ScanError, Sink, scan};
 use ufmt_doc::{is_text, laws, read_debug, valid_up_to};
-use ufmt_parse::{ParseError, parse, parse_pretty, uParse};
 
 /// The name of a struct in the documents of one class.
 pub trait Name: StructName {
@@ -135,14 +134,6 @@ impl Calls<'_> {
     /// Converts the text to the other mode and back.
     pub fn by_way_of_the_other(&self) -> Result<String, ReadError> {
         laws::text_by_way_of_the_other(self.alloc, self.class, self.mode, self.text)
-    }
-
-    /// Parses a text of either class.
-    pub fn parse<T: uParse<A>, A>(&self, alloc: A) -> Result<T, ParseError> {
-        match self.mode {
-            Mode::Plain => parse(alloc, self.text),
-            Mode::Pretty => parse_pretty(alloc, self.text),
-        }
     }
 
     /// Returns a value's text in this mode.

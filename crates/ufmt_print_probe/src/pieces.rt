@@ -1,12 +1,9 @@
 //! A writer that notes its pieces: the bytes of each, and whether it came as a text or as a character.
 ghost use Rattle.std.specs.Prelude.{[], ⊤};
 
-use crate::calls::Calls;
 use crate::digest::Digest;
-use crate::fault::{Fault, agree};
-use std::alloc::{AllocError, Global};
 use std::convert::Infallible;
-use ufmt::{uDebug, uWrite};
+use ufmt::uWrite;
 
 // Ends each piece. No text has this byte.
 const END: u8 = 0xff;
@@ -47,37 +44,4 @@ impl uWrite for Pieces {
         self.note(b'c', c.encode_utf8(&mut bytes).as_bytes());
         Ok(())
     }
-}
-
-/// The pieces in which a document is printed, and those in which its text is converted.
-#[derive(Clone, Copy)]
-pub struct TextPieces {
-    printed: Digest,
-    converted: Digest,
-}
-
-impl TextPieces {
-    /// Prints the document that was read, and converts its text.
-    pub fn of<T: uDebug>(calls: Calls<'_>, doc: &T) -> Result<TextPieces, Fault> {
-        let mut pieces = Pieces::new();
-        let outcome = calls.convert_to(&mut pieces);
-        agree(outcome.is_ok(), "conversion to a writer of pieces")?;
-        Ok(TextPieces {
-            printed: printed(calls, doc),
-            converted: pieces.digest,
-        })
-    }
-
-    pub fn message(&self, alloc: Global) -> Result<String, AllocError> {
-        let printed = self.printed.message(alloc)?;
-        let converted = self.converted.message(alloc)?;
-        format!(in alloc; "printed {printed}, converted {converted}")
-    }
-}
-
-/// The pieces in which a document is printed.
-pub fn printed<T: uDebug>(calls: Calls<'_>, doc: &T) -> Digest {
-    let mut pieces = Pieces::new();
-    calls.print_to(&mut pieces, doc);
-    pieces.digest
 }

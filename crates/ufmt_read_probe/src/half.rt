@@ -1,21 +1,21 @@
-//! The calls of one mode on one text: those on token texts, those on debug texts, and those that parse values.
+//! The calls of one mode on one text: those on token texts, and those on debug texts.
 ghost use Rattle.std.specs.Prelude.{[], ⊤};
 
 use crate::calls::{Calls, Name};
-use crate::digest::Digest;
 use crate::events::Events;
 use crate::fault::{Fault, agree};
 use crate::parts::Parts;
-use crate::pieces::{self, TextPieces};
-use crate::{parsed, tokens};
+use crate::text_pieces::{self, TextPieces};
+use crate::tokens;
 use std::alloc::{AllocError, Global};
 use ufmt::{Full, uDebug, uWrite};
 use ufmt_doc::doc::{DebugName, Tree, same_text};
 use ufmt_doc::plain_reader::ReadError;
 use ufmt_doc::scan::ScanError;
+use ufmt_print_probe::digest::Digest;
 
 /// Returns what the calls on token texts say of the text, as a message. After it, the message has what
-/// the calls on debug texts say, or `=` if they say the same, and which types have a value with the text.
+/// the calls on debug texts say, or `=` if they say the same.
 pub fn verdict(calls: Calls<'_>) -> Result<String, AllocError> {
     let token = of_class::<String>(calls)?;
     let others = tokens::verdict(calls)?;
@@ -25,8 +25,7 @@ pub fn verdict(calls: Calls<'_>) -> Result<String, AllocError> {
     } else {
         debug.as_str()
     };
-    let values = parsed::verdict(calls)?;
-    format!(in calls.alloc; "{token}{others}; debug: {debug}; values: {values}")
+    format!(in calls.alloc; "{token}{others}; debug: {debug}")
 }
 
 // What the calls of the class say that both classes have.
@@ -145,7 +144,7 @@ fn is_normal<N: Name>(calls: Calls<'_>, parts: &str) -> Result<(), Fault> {
 fn is_normal_of_loose<N: Name>(calls: Calls<'_>, doc: &Tree<N>, parts: &str) -> Result<(), Fault> {
     let mut loose = calls.read_loose::<N>()?;
     prints(calls, &loose)?;
-    let is_alike = pieces::printed(calls, &loose) == pieces::printed(calls, doc);
+    let is_alike = text_pieces::printed(calls, &loose) == text_pieces::printed(calls, doc);
     agree(is_alike, "pieces of a document that isn't in normal form")?;
     have_one_text(&loose, doc)?;
     loose.normalize(calls.alloc);

@@ -1,11 +1,11 @@
 //! A text as a leaf and as a name of each class, in quotes, and its characters.
-use crate::digest::Digest;
 use crate::fault::{Fault, agree};
 use std::alloc::{AllocError, Global};
 use ufmt::class::Class;
 use ufmt::{plain_text, pretty_text};
 use ufmt_doc::doc::same_text;
 use ufmt_doc::{DebugDoc, DebugName, Doc, StructName, Tree, read_plain, read_pretty};
+use ufmt_print_probe::digest::Digest;
 use ufmt_scan::leaf::{is_leaf, is_leaf_of, is_name_of, is_word};
 
 // How many characters of a text are put in apostrophes.

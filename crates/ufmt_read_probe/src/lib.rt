@@ -1,0 +1,15 @@
+#![tactic(auto)]
+
+//! Makes the calls that scan, read, convert and print on a text, for `ufmt_model_probe`: it has what needs no parser.
+
+pub mod calls;
+pub mod costs;
+mod events;
+pub mod fault;
+mod fields;
+pub mod half;
+pub mod leaf;
+mod loose;
+mod parts;
+mod text_pieces;
+mod tokens;
