@@ -73,7 +73,7 @@ static bytes buffer(void) {
 }
 
 static void print(ptrdiff_t result, size_t detail, bytes left) {
-    size_t shown = !is_unset ? left.size : result > 0 ? (size_t)result : 0;
+    size_t shown = !is_unset ? left.size : left.at && result > 0 ? (size_t)result : 0;
     printf("%td %zu ", result, detail);
     for (size_t i = 0; i < shown; i++) {
         printf("%02x", (unsigned char)left.at[i]);

@@ -127,6 +127,14 @@ def by_model(text_class, mode, data):
     return (None, reader.place(text)) if document is None else (laid_out(document).encode(), None)
 
 
+def converted(text_class, mode, other, data):
+    """Whether these bytes are a text of this class and mode, and what it is in the other mode."""
+    text, place = by_model(text_class, mode, data)
+    yield Case("is_text", (CLASSES[text_class], MODES[mode], data), result=int(text is not None))
+    asked = (CLASSES[text_class], MODES[other], data)
+    yield Case("convert", asked, text=text) if text is not None else Case("convert", asked, result=NO_TEXT, detail=place)
+
+
 def conversions():
     """Each text of a value, in both modes and classes; texts that are none; deep ones; and one with each byte changed."""
     printed = expected_rows.rows(TOP / "tools" / "expected" / "rows.txt")
@@ -139,10 +147,7 @@ def conversions():
     for text_class in CLASSES:
         for mode, other in (("plain", "pretty"), ("pretty", "plain")):
             for data in given[mode]:
-                text, place = by_model(text_class, mode, data)
-                yield Case("is_text", (CLASSES[text_class], MODES[mode], data), result=int(text is not None))
-                asked = (CLASSES[text_class], MODES[other], data)
-                yield Case("convert", asked, text=text) if text is not None else Case("convert", asked, result=NO_TEXT, detail=place)
+                yield from converted(text_class, mode, other, data)
 
 
 def as_rustc_printed():
@@ -215,19 +220,23 @@ DIGITS = re.compile(rb"-?(?:0|[1-9][0-9]*)(?![0-9])")
 NUMBERS = {"parse_unsigned": range(2**64), "parse_signed": range(-(2**63), 2**63)}
 
 
+def number_read(call, data):
+    """What a call that reads a number makes of these bytes."""
+    found = DIGITS.match(data)
+    number = int(found.group()) if found and found.group() != b"-0" and int(found.group()) in NUMBERS[call] else None
+    if number is not None and found.end() == len(data):
+        return Case(call, (data,), result=0, number=number)
+    return Case(call, (data,), result=NO_TEXT, detail=found.end() if number is not None else 0)
+
+
 def misread():
     """Inputs that aren't the digits of a number, and where a number ends that is at their front."""
     whole = [b"0", b"7", b"-7", b"12345678", b"1234567890123456789", b"-1234567890123456789", b"18446744073709551615", b"9223372036854775807", b"-9223372036854775808"]
     inputs = REFUSED + [b"-", b"--1", b"-0", b"00", b"01", b"-01", b"+1", b" 1", b"0x1", b"1_000", b"18446744073709551616", b"99999999999999999999999", b"9223372036854775808", b"-9223372036854775809"]
     inputs += [number + rest for number in whole for rest in (b"", b" ", b",", b"}", b"]", b" }", b": 1", b"x", b"0", b"\xff", b"\0", b"1" * 40)]
     for data in inputs:
-        found = DIGITS.match(data)
-        for call, numbers in NUMBERS.items():
-            number = int(found.group()) if found and found.group() != b"-0" and int(found.group()) in numbers else None
-            if number is not None and found.end() == len(data):
-                yield Case(call, (data,), result=0, number=number)
-            else:
-                yield Case(call, (data,), result=NO_TEXT, detail=found.end() if number is not None else 0)
+        for call in NUMBERS:
+            yield number_read(call, data)
 
 
 def refusals():
@@ -273,20 +282,35 @@ def long_text(call, arguments, parts):
     return Case(call, arguments, text=front[:FRONT], length=sum(len(part) * count for part, count in parts))
 
 
+def number_case(call, number, width, pad, upper, prefix):
+    """A number in base 16 or 2, with these options."""
+    base, mark = {"hexadecimal": ("x", "0x"), "binary": ("b", "0b")}[call]
+    digits, before = format(number, base), mark * prefix
+    if upper and base == "x":
+        digits, before = digits.upper(), before.upper()
+    missing = max(width - len(before) - len(digits), 0)
+    parts = [(bytes([pad or 32]), missing), (before.encode(), 1), (digits.encode(), 1)]
+    if pad not in (0, 32):
+        parts[:2] = parts[1::-1]
+    return long_text(call, (number, style("hex", width, pad, upper, prefix)), parts)
+
+
 def wide_numbers():
-    for call, base, mark in (("hexadecimal", "x", "0x"), ("binary", "b", "0b")):
+    for call in ("hexadecimal", "binary"):
         for number in (0, 7, 2**63, SIZE_MAX):
             for pad in (0, 32, 48, 127):
                 for upper, prefix in ((0, 0), (0, 1), (1, 1)):
                     for width in HUGE + (NEAR if number != 7 and pad in (32, 48) else ()):
-                        digits, before = format(number, base), mark * prefix
-                        if upper and base == "x":
-                            digits, before = digits.upper(), before.upper()
-                        missing = max(width - len(before) - len(digits), 0)
-                        parts = [(bytes([pad or 32]), missing), (before.encode(), 1), (digits.encode(), 1)]
-                        if pad not in (0, 32):
-                            parts[:2] = parts[1::-1]
-                        yield long_text(call, (number, style("hex", width, pad, upper, prefix)), parts)
+                        yield number_case(call, number, width, pad, upper, prefix)
+
+
+def column_case(text, width, fill, align):
+    """A text in a column of this width, filled with this character."""
+    missing = max(width - len(text), 0)
+    before = (0, missing // 2, missing)[align]
+    shown = b" " if fill == "\0" else fill.encode()
+    parts = [(shown, before), (text.encode(), 1), (shown, missing - before)]
+    return long_text("in_column", (text.encode(), style("column", width, ord(fill), align)), parts)
 
 
 def wide_columns():
@@ -294,11 +318,7 @@ def wide_columns():
         for fill in ("\0", " ", "0", "\u00e9", "\u20ac", "\U0010ffff"):
             for align in (0, 1, 2):
                 for width in HUGE + NEAR:
-                    missing = max(width - len(text), 0)
-                    before = (0, missing // 2, missing)[align]
-                    shown = b" " if fill == "\0" else fill.encode()
-                    parts = [(shown, before), (text.encode(), 1), (shown, missing - before)]
-                    yield long_text("in_column", (text.encode(), style("column", width, ord(fill), align)), parts)
+                    yield column_case(text, width, fill, align)
 
 
 def dump_rows(data, per_row, group, first):
@@ -312,16 +332,21 @@ def dump_rows(data, per_row, group, first):
         yield "%08x: " % (first + at), digits, missing, "".join(chr(byte) if 0x20 <= byte < 0x7F else "." for byte in row)
 
 
+def dump_case(data, per_row, group, first, has_offsets, has_text):
+    """A dump with these options."""
+    parts = []
+    for offset, digits, missing, shown in dump_rows(data, per_row, group, first):
+        parts += [(offset.encode(), has_offsets), (digits.encode(), 1)]
+        parts += [(b" ", missing + 2), (shown.encode(), 1)] * has_text + [(b"\n", 1)]
+    return long_text("dump", (data, style("dump", per_row, group, first, has_offsets, has_text)), parts)
+
+
 def wide_dumps():
     for data in (b"", b"a", bytes(range(0x60, 0x85)), bytes(range(256)) * 2):
         for per_row in (0, 3, 32, 33, *HUGE, *(NEAR if len(data) == 1 else ())):
             for group in (0, 1, 5, *HUGE):
                 for first, has_offsets, has_text in ((0, 0, 0), (0, 0, 1), (0xFFFFFFFF, 1, 1)):
-                    parts = []
-                    for offset, digits, missing, shown in dump_rows(data, per_row, group, first):
-                        parts += [(offset.encode(), has_offsets), (digits.encode(), 1)]
-                        parts += [(b" ", missing + 2), (shown.encode(), 1)] * has_text + [(b"\n", 1)]
-                    yield long_text("dump", (data, style("dump", per_row, group, first, has_offsets, has_text)), parts)
+                    yield dump_case(data, per_row, group, first, has_offsets, has_text)
 
 
 def huge_options():

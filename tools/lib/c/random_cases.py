@@ -1,0 +1,165 @@
+"""Random cases of every call of libufmt_c, the same ones for each seed. What they expect comes from outside, as in `lib/c/cases.py`."""
+import random
+
+from lib.c import cases
+from lib.c.cases import BAD_OPTION, NO_TEXT, NOT_UTF8, SIZE_MAX, Case, style
+from lib.model.characters import any_character
+from lib.model.documents import DebugMaker, Maker
+from lib.model.model import DEBUG, TOKEN, quoted, unquoted
+
+# Inputs are cut at so many bytes, so that many are tried. What happens to long ones is in the tables.
+LONGEST, LONGEST_QUOTED = 200, 60
+# A document that is longer is made anew at most so often.
+TRIES = 4
+# Of each so many cases with options one has an option that means nothing.
+WRONG_EACH = 12
+
+
+class RandomCases:
+    def __init__(self, seed):
+        self.random = random.Random(seed)
+        self.makers = Maker(seed), DebugMaker(seed)
+
+    def made(self, count):
+        """So many cases: a conversion and the test of the same bytes, and a case of each other call in turn."""
+        kinds = (self.conversion, self.quoted, self.conversion, self.unquoted, self.conversion, self.number, self.conversion,
+                 self.based, self.dump, self.conversion, self.column, self.difference, self.number_read)
+        found = []
+        while len(found) < count:
+            for kind in kinds:
+                found += kind()
+        return found
+
+    def rooms(self, case):
+        """How long the buffers are with which a case is tried: a random one too."""
+        if not cases.has_buffer(case):
+            return [0]
+        most = cases.FRONT if case.length is not None else len(case.text or b"") + 9
+        length = len(case.text or b"")
+        return sorted({min(length, most), max(length - 1, 0), self.random.randint(0, most), self.random.choice((0, 1, most))})
+
+    def document(self):
+        """A text of a document, or nearly one. The makers' long ones are cut."""
+        found = self.random.choice(self.makers).data()
+        for _ in range(TRIES):
+            if len(found) <= LONGEST:
+                break
+            found = self.random.choice(self.makers).data()
+        return found[:LONGEST]
+
+    def characters(self, most):
+        some = self.random.choice((
+            lambda: any_character(self.random),
+            lambda: self.random.choice("ab \"'\\\n\r\t\0\x1b\x7f{u}"),
+            lambda: chr(self.random.randrange(128)),
+        ))
+        return "".join(some() for _ in range(self.random.randint(0, most)))
+
+    def data(self, most):
+        """Bytes: a text, a piece of one, a document, or anything."""
+        form = self.random.randrange(5)
+        if form == 0:
+            return self.random.randbytes(self.random.randint(0, most))
+        if form == 1:
+            return self.document()[:most]
+        text = self.characters(most).encode()[:most]
+        return text if form < 4 else text[: self.random.randint(0, len(text))]
+
+    def whole_number(self, most):
+        """A number: small, of any length, or next to the largest."""
+        return min(self.random.choice((self.random.randrange(200), 2 ** self.random.randrange(64) - self.random.randrange(2),
+                                       most - self.random.randrange(3), self.random.getrandbits(64))), most)
+
+    def is_wrong(self):
+        return self.random.randrange(WRONG_EACH) == 0
+
+    def conversion(self):
+        data = self.document()
+        if self.is_wrong():
+            text_class, mode = self.random.choice(((2, 0), (0, 2), (self.random.getrandbits(32) | 2, 1), (1, self.random.getrandbits(32) | 2)))
+            return Case("convert", (text_class, mode, data), result=BAD_OPTION), Case("is_text", (text_class, mode, data), result=0)
+        modes = (("plain", "pretty"), ("pretty", "plain"))
+        mode, other = modes[1] if b"\n" in data and self.random.randrange(9) else self.random.choice(modes)
+        return cases.converted(self.random.choice((TOKEN, DEBUG)), mode, other, data)
+
+    def quoted(self):
+        data = self.data(LONGEST)
+        try:
+            return [Case("quote", (data,), text=quoted(data.decode()).encode())]
+        except UnicodeDecodeError:
+            return [Case("quote", (data,), result=NOT_UTF8, detail=cases.valid_up_to(data))]
+
+    def unquoted(self):
+        data = quoted(self.characters(LONGEST_QUOTED // 2)).encode() if self.random.randrange(3) else self.data(LONGEST_QUOTED)
+        if self.random.randrange(3) == 0:
+            at = self.random.randint(0, len(data))
+            data = data[:at] + self.random.choice((b"", b"\\", b'"', b"\\u{", b"\x00", self.random.randbytes(1))) + data[at + self.random.randrange(2):]
+        place = cases.misquoted_at(data)
+        if place is None:
+            return [Case("unquote", (data,), text=unquoted(data.decode()).encode())]
+        return [Case("unquote", (data,), result=NO_TEXT, detail=place)]
+
+    def number(self):
+        number = self.whole_number(SIZE_MAX)
+        signed = number - 2**63
+        return Case("unsigned", (number,), text=b"%d" % number), Case("signed", (signed,), text=b"%d" % signed)
+
+    def based(self):
+        call, number = self.random.choice(("hexadecimal", "binary")), self.whole_number(SIZE_MAX)
+        width, upper, prefix = self.whole_number(SIZE_MAX), self.random.randrange(2), self.random.randrange(2)
+        if self.is_wrong():
+            size, pad = self.random.choice(((24, self.random.randint(128, 255)), (self.size_but(24), 32)))
+            return [Case(call, (number, (size, width, pad, upper, prefix)), result=BAD_OPTION)]
+        return [cases.number_case(call, number, width, self.random.randrange(128), upper, prefix)]
+
+    def dump(self):
+        data = self.data(LONGEST)
+        options = (self.whole_number(SIZE_MAX), self.whole_number(SIZE_MAX), self.random.getrandbits(32), self.random.randrange(2), self.random.randrange(2))
+        if self.is_wrong():
+            return [Case("dump", (data, (self.size_but(32), *options)), result=BAD_OPTION)]
+        return [cases.dump_case(data, *options)]
+
+    def column(self):
+        data, width, align = self.data(LONGEST), self.whole_number(SIZE_MAX), self.random.randrange(3)
+        if self.is_wrong():
+            members = self.random.choice(((24, width, 0xD800, align), (24, width, 0x110000, align), (24, width, 32, 3), (self.size_but(24), width, 32, align)))
+            return [Case("in_column", (data, members), result=BAD_OPTION)]
+        fill = self.random.choice((" ", "\0", any_character(self.random)))
+        try:
+            return [cases.column_case(data.decode(), width, fill, align)]
+        except UnicodeDecodeError:
+            return [Case("in_column", (data, style("column", width, ord(fill), align)), result=NOT_UTF8, detail=cases.valid_up_to(data))]
+
+    def size_but(self, size):
+        """A size that the struct doesn't have."""
+        found = self.whole_number(SIZE_MAX)
+        return found if found != size else 0
+
+    def difference(self):
+        given, stored = (self.data(40) for _ in range(2))
+        if self.random.randrange(2):
+            lines = [self.characters(6).encode() for _ in range(4)]
+            given, stored = (b"\n".join(lines[: self.random.randint(0, 4)] + [self.data(6)] * self.random.randrange(2)) for _ in range(2))
+        for data in (given, stored):
+            try:
+                data.decode()
+            except UnicodeDecodeError as error:
+                return [Case(call, (given, stored), result=NOT_UTF8, detail=error.start) for call in ("difference", "first_difference")]
+        line, message = first_difference(given.decode(), stored.decode())
+        return Case("difference", (given, stored), text=message.encode()), Case("first_difference", (given, stored), result=line)
+
+    def number_read(self):
+        sign, digits = self.random.choice((b"", b"", b"-", b"+")), b"%d" % self.whole_number(SIZE_MAX)
+        data = sign + digits + self.random.choice((b"", b"", b" ", b",", b"0", self.random.randbytes(1)))
+        return [cases.number_read(call, data if self.random.randrange(4) else self.data(24)) for call in cases.NUMBERS]
+
+
+def first_difference(given, stored):
+    """The number of the first line in which two texts differ, or 0, and the message about it."""
+    given, stored = given.split("\n"), stored.split("\n")
+    for at in range(max(len(given), len(stored))):
+        lines = [lines[at] if at < len(lines) else None for lines in (given, stored)]
+        if lines[0] != lines[1]:
+            shown = ["none" if line is None else quoted(line) for line in lines]
+            return at + 1, "line %d differs\n given: %s\nstored: %s" % (at + 1, *shown)
+    return 0, ""
