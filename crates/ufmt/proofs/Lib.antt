@@ -1,6 +1,7 @@
 pub mod AsciiDumps
 pub mod Columns
 pub mod DecimalsAreLeaves
+pub mod Devices
 pub mod DumpColumns
 pub mod DumpRows
 pub mod Dumps

@@ -1,5 +1,6 @@
 pub mod Column
 pub mod Cut
+pub mod Device
 pub mod Dump
 pub mod FixedPoint
 pub mod Hex

@@ -5,6 +5,7 @@
 mod column;
 mod cut;
 mod decimal;
+mod device;
 mod display;
 mod dump;
 mod fields;
@@ -21,6 +22,7 @@ mod zeros;
 pub use column::{Align, Column};
 pub use cut::{Cut, debug_cut_into, display_cut_into, line_cut_into, pretty_cut_into};
 pub use decimal::Decimal;
+pub use device::Device;
 pub use display::uDisplay;
 pub use dump::{HexDump, hex_dump_into, write_hex_dump};
 pub use hex::{HexOptions, uDisplayHex};

@@ -1,5 +1,5 @@
 -- A lawful writer: what a call does to its text, its room and the bytes past its text.
-use Rattle.std.specs.Prelude.{◌≡◌, ℕ, ◌+◌, ◌≤◌, List, [], ◌++◌, length, drop, Bool, true, false, IsTrue, String, ⊤, string_bytes}
+use Rattle.std.specs.Prelude.{◌≡◌, ℕ, ◌+◌, ◌≤◌, List, [], ◌++◌, length, drop, Bool, true, false, IsTrue, String, Vec, ⊤, string_bytes}
 
 -- what contracts see of a writer
 pub record Seen (W : Type 0) : Type 1 where
@@ -41,3 +41,7 @@ pub record Writes {W : Type 0} (seen : Seen W) (old : W) (piece : List ℕ) (ok 
 -- a `String` as a writer: its text is always known, any growth may be refused, and it was lent no buffer
 abbrev pub string_seen : {A : Type 0} → Seen (String A)
 string_seen = record { known = λ s. ⊤; text = string_bytes; room = λ s. 0; failed = λ s. ⊤; identity = λ s. []; whole_buffer = λ s. [] }
+
+-- a vector of bytes as a writer, likewise
+abbrev pub bytes_seen : {A : Type 0} → Seen (Vec ℕ A)
+bytes_seen = record { known = λ v. ⊤; text = λ v. v.items; room = λ v. 0; failed = λ v. ⊤; identity = λ v. []; whole_buffer = λ v. [] }

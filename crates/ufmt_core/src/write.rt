@@ -2,6 +2,8 @@
 ghost use Rattle.std.specs.Prelude.{◌≡◌, ◌<◌, ◌∷◌, ◌++◌, [], if◌then◌else◌, is_ok, encode_utf8, string_bytes, OnErr};
 ghost use Rattle.ufmt_core.specs.Writes.{Writes, Seen, string_seen};
 
+mod bytes;
+
 use std::alloc::{AllocError, Allocator};
 
 /// A destination for text, with an error type of its own.

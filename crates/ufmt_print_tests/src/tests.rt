@@ -6,6 +6,7 @@ mod asserts;
 mod blocks;
 mod collections;
 mod decimals;
+mod devices;
 mod laws;
 mod leaves;
 mod long_values;
