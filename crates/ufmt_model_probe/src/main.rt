@@ -25,9 +25,9 @@ use std::alloc::AllocError;
 use std::env;
 use std::io::{self, Read, Write};
 use ufmt::layout::Mode;
-use ufmt_print_probe::requests;
+use ufmt_print_probe::requests::Request;
 use ufmt_read_probe::calls::Calls;
-use ufmt_read_probe::{half, leaf};
+use ufmt_read_probe::{half, leaf, nested};
 
 fn main(rt: HostRuntime) -> io::Result<()> {
     let arguments: Vec<String> = env::args(&rt)?.skip(1).collect(rt.alloc())?;
@@ -62,7 +62,8 @@ fn split_text(input: &[u8]) -> Option<(&[u8], &[u8])> {
 
 fn report<W: Write>(rt: &HostRuntime, output: &mut W, text: &[u8]) -> io::Result<()> {
     let alloc = rt.alloc();
-    if let Some(line) = requests::verdict(alloc, text)? {
+    if let Some(request) = Request::from_text(alloc, text) {
+        let line = of_request(&request)?;
         return output.write_all(line.as_bytes());
     }
     let plain = of_mode(Calls::on_token_text(alloc, Mode::Plain, text))?;
@@ -70,6 +71,19 @@ fn report<W: Write>(rt: &HostRuntime, output: &mut W, text: &[u8]) -> io::Result
     let leaf = leaf::verdict(alloc, text)?;
     let line = format!(in alloc; "plain: {plain}; pretty: {pretty}; leaf: {leaf}\n")?;
     output.write_all(line.as_bytes())
+}
+
+// What a request prints, and lists around its text.
+fn of_request(request: &Request<'_>) -> Result<String, AllocError> {
+    let printed = request.verdict()?;
+    let alloc = request.alloc;
+    match str::from_utf8(request.payload) {
+        Ok(text) => {
+            let nested = nested::pieces(request, text)?.message(alloc)?;
+            format!(in alloc; "{printed}, nested {nested}\n")
+        }
+        Err(_) => format!(in alloc; "{printed}\n"),
+    }
 }
 
 // What the calls of one mode say of the text, and which types have a value with it.

@@ -20,20 +20,12 @@ const REQUEST_PREFIX: &[u8] = b"\0pieces ";
 /// The options, and a payload.
 #[derive(Clone, Copy)]
 pub struct Request<'a> {
-    alloc: Global,
+    pub alloc: Global,
     pub column: Column,
     pub hex: HexOptions,
     pub dump: HexDump,
     pub payload: &'a [u8],
     ghost has_ascii_pad: { hex.pad_char < 128 },
-}
-
-/// Returns the digests of what a request prints, as a message, or `None` if the text is no request.
-pub fn verdict(alloc: Global, text: &[u8]) -> Result<Option<String>, AllocError> {
-    match Request::from_text(alloc, text) {
-        Some(request) => Ok(Some(request.line()?)),
-        None => Ok(None),
-    }
 }
 
 impl<'a> Request<'a> {
@@ -82,14 +74,14 @@ impl<'a> Request<'a> {
         })
     }
 
-    fn line(&self) -> Result<String, AllocError> {
+    /// Returns the digests of what the request prints, as a message.
+    pub fn verdict(&self) -> Result<String, AllocError> {
         let mut line = String::new(self.alloc);
         self.note("request: dump ", &self.dump_pieces(), &mut line)?;
         if let Ok(text) = str::from_utf8(self.payload) {
             self.note_texts(text, &mut line)?;
-            self.note_values(text, &mut line)?;
+            self.note(", values ", &values::pieces(self, text)?, &mut line)?;
         }
-        line.push('\n')?;
         Ok(line)
     }
 
@@ -97,11 +89,6 @@ impl<'a> Request<'a> {
         self.note(", lines ", &lines::pieces(self, text), line)?;
         self.note(", names ", &names::pieces(text), line)?;
         self.note(", numbers ", &numbers::pieces(self, text), line)
-    }
-
-    fn note_values(&self, text: &str, line: &mut String) -> Result<(), AllocError> {
-        self.note(", values ", &values::pieces(self, text)?, line)?;
-        self.note(", nested ", &values::nested_pieces(self, text)?, line)
     }
 
     fn note(&self, name: &str, digest: &Digest, line: &mut String) -> Result<(), AllocError> {

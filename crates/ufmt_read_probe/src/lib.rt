@@ -10,6 +10,7 @@ mod fields;
 pub mod half;
 pub mod leaf;
 mod loose;
+pub mod nested;
 mod parts;
 mod text_pieces;
 mod tokens;

@@ -13,10 +13,6 @@ use std::rc::{Rc, RcStr};
 use std::sync::{Arc, ArcStr};
 use ufmt::cells::{CellValue, RefCellValue};
 use ufmt::{uDebug, uDisplay, write_debug, write_display, write_pretty};
-use ufmt_doc::doc::Doc;
-
-// Blocks are nested at most this deep. Indentation stops at 255.
-const DEEPEST: usize = 260;
 
 /// Writes values that hold the text.
 pub fn pieces(request: &Request<'_>, text: &str) -> Result<Digest, AllocError> {
@@ -32,21 +28,9 @@ pub fn pieces(request: &Request<'_>, text: &str) -> Result<Digest, AllocError> {
     Ok(pieces.digest)
 }
 
-/// Writes lists around the text, as deep as the column is wide.
-pub fn nested_pieces(request: &Request<'_>, text: &str) -> Result<Digest, AllocError> {
-    let mut doc = Doc::Leaf(String::from_str(request.alloc, text)?);
-    for _list in 0..request.column.width.min(DEEPEST) {
-        let mut entries = Vec::new(request.alloc);
-        entries.push(doc)?;
-        doc = Doc::Listed(entries);
-    }
-    let mut pieces = Pieces::new();
-    pieces.value(&doc);
-    Ok(pieces.digest)
-}
-
 impl Pieces {
-    fn value<T: uDebug>(&mut self, value: &T) {
+    /// Prints a value in each mode.
+    pub fn value<T: uDebug>(&mut self, value: &T) {
         let _ = write_debug(self, value);
         let _ = write_pretty(self, value);
     }

@@ -1,0 +1,22 @@
+//! Lists around the text of a request.
+use std::alloc::AllocError;
+use ufmt_doc::doc::Doc;
+use ufmt_print_probe::digest::Digest;
+use ufmt_print_probe::pieces::Pieces;
+use ufmt_print_probe::requests::Request;
+
+// Blocks are nested at most this deep. Indentation stops at 255.
+const DEEPEST: usize = 260;
+
+/// Prints lists around the text, as deep as the column is wide.
+pub fn pieces(request: &Request<'_>, text: &str) -> Result<Digest, AllocError> {
+    let mut doc = Doc::Leaf(String::from_str(request.alloc, text)?);
+    for _list in 0..request.column.width.min(DEEPEST) {
+        let mut entries = Vec::new(request.alloc);
+        entries.push(doc)?;
+        doc = Doc::Listed(entries);
+    }
+    let mut pieces = Pieces::new();
+    pieces.value(&doc);
+    Ok(pieces.digest)
+}
