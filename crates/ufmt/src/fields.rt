@@ -86,7 +86,7 @@ macro_rules! variants {
         let formatter: &mut $crate::Formatter<_> = $formatter;
         match $value {
             $($name::$variant $(($($item),*))? $({ $($field),* })? => {
-                $crate::fields!(formatter, $variant $(($($item),*))? $({ $($field),* })?)
+                $crate::fields!(formatter, $variant $(($(*$item),*))? $({ $($field: *$field),* })?)
             })+
         }
     }};

@@ -1,5 +1,5 @@
 -- Decimal texts: each number has exactly one, each denotes one number, and a text grows by its last digit.
-use Rattle.std.proofs.Common.{◌≡◌, true, ℕ, suc, ◌+◌, ◌^◌, ◌<◌, ◌≤◌, List, [], ◌∷◌, ◌++◌, map, length, get_or, drop, ℤ, pos, negsuc, nat_abs, refl, sym, ap, ◌∙◌, arith}
+use Rattle.std.proofs.Common.{◌≡◌, true, false, true≢false, ℕ, suc, ◌+◌, ◌^◌, ◌<◌, ◌≤◌, List, [], ◌∷◌, ◌++◌, map, length, get_or, drop, ℤ, pos, negsuc, nat_abs, refl, sym, ap, ◌∙◌, arith}
 use borrow.Author.Tests.{ltb-true}
 use Rattle.std.specs.Str.{IsAscii}
 use Rattle.std.specs.Int.{is_negative}
@@ -65,6 +65,11 @@ pub decimal-negative : (z : ℤ) → is_negative z ≡ true → decimal z ≡ 45
 unfolding decimal
 decimal-negative (pos n) sign = absurd (omega (arith, ltb-true n 0 sign))
 decimal-negative (negsuc n) sign = refl
+
+-- the text of any other number is the text of its magnitude
+pub decimal-positive : (z : ℤ) → is_negative z ≡ false → decimal z ≡ decimal (pos (nat_abs z))
+decimal-positive (pos n) sign = refl
+decimal-positive (negsuc n) sign = absurd (true≢false sign)
 
 -- a number's text is at least as long as the text of its magnitude
 pub length-magnitude-le : (z : ℤ) → length (decimal (pos (nat_abs z))) ≤ length (decimal z)

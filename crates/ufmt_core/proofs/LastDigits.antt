@@ -1,10 +1,13 @@
 -- Decimal texts that are written from the right, several digits at a time.
-use Rattle.std.proofs.Common.{◌≡◌, ℕ, zero, suc, ◌+◌, ◌-◌, ◌/◌, ◌%◌, ◌^◌, ◌<◌, ◌≤◌, List, [], ◌∷◌, ◌++◌, length, drop, set, pos, refl, sym, ap, ◌∙◌, arith, pow-suc, length-append, length-drop, length-set, append_assoc, append-nil}
-use Rattle.std.proofs.Math.Nat.{pow-zero, pow-succ', div-one, one-le-pow, div-div-eq-div-mul}
+use Rattle.std.proofs.Common.{◌≡◌, ℕ, zero, suc, ◌+◌, ◌-◌, ◌/◌, ◌%◌, ◌^◌, ◌<◌, ◌≤◌, List, [], ◌∷◌, ◌++◌, length, drop, set, Bool, true, false, pos, refl, sym, ap, ◌∙◌, arith, pow-suc, length-append, length-drop, length-set, append_assoc, append-nil}
+use Rattle.std.proofs.Math.Nat.{mod-eq_of_lt, pow-zero, pow-succ', div-one, one-le-pow, div-div-eq-div-mul}
 use Rattle.std.proofs.Math.Arith.{mod-mul}
 use Rattle.std.proofs.Math.Seq.{drop-length}
-use Rattle.std.proofs.lemmas.List.{drop-set}
+use Rattle.std.proofs.lemmas.List.{drop-set, drop-drop}
 use Rattle.std.proofs.lemmas.Nat.{le-div}
+use Rattle.std.specs.Int.{from_bool}
+use Rattle.std.proofs.Math.Dec.{ltb}
+use Rattle.std.proofs.lemmas.Bool.{ltb-true, ltb-false}
 use Rattle.ufmt_core.specs.Decimal.{decimal_byte, decimal, last_digits}
 use Rattle.ufmt_core.proofs.DecimalTexts.{decimal-in_base}
 use Rattle.ufmt_core.proofs.NumeralTexts.{text-digit, text-step, text-nonempty}
@@ -37,6 +40,34 @@ pub drop-pair : (buffer : List ℕ) (at next tens ones : ℕ) → next ≡ at + 
 drop-pair buffer at next tens ones after room =
     let end : next + 1 ≡ at + 2 = omega arith in
     rw (drop-set (set buffer next ones) at tens (omega (arith, length-set buffer next ones)), ← after, drop-set buffer next ones (omega arith), end) refl
+
+-- a text that isn't empty and ends with the buffer begins within it
+pub begins_within : (start : ℕ) (text : List ℕ) {size : ℕ} → 0 < length text → start + length text ≡ size → start % size ≡ start
+begins_within start text some ends = mod-eq_of_lt (omega (arith, some, ends))
+
+-- two digits were written before `end`: from the second on if the first is a zero, they are the number's text
+pub record IsFirst (n start end : ℕ) (old new : List ℕ) : Type 0 where
+  pub starts : start + length (decimal (pos n)) ≡ end
+  pub written : drop start new ≡ decimal (pos n) ++ drop end old
+
+pub first_written : (n end : ℕ) (low : Bool) (old new : List ℕ) → ltb n 10 ≡ low → n < 100 → 2 ≤ end
+    → drop (end - 2) new ≡ last_digits 2 n ++ drop (end - 2 + 2) old → IsFirst n (end - 2 + from_bool low) end old new
+first_written n end true old new is_low within room placed =
+    let low = ltb-true n 10 is_low in
+    let one = text-digit decimal-in_base n low in
+    let whole : end - 2 + 2 ≡ end = omega arith in
+    let ones : n % 10 ≡ n = omega (arith, low) in
+    let pair = rw (last_digits-two n within, ones, whole) at placed in record {
+      starts = omega (arith, ap length one);
+      written = sym (drop-drop 1 (end - 2) new) ∙ ap (drop 1) pair ∙ rw one refl;
+    }
+first_written n end false old new is_high within room placed =
+    let high = ltb-false n 10 is_high in
+    let whole : end - 2 + 2 ≡ end = omega arith in
+    let none : end - 2 + 0 ≡ end - 2 = omega arith in record {
+      starts = omega (arith, length_two n high within);
+      written = rw (none, decimal_two n high within) (rw whole at placed);
+    }
 
 positive_power : (count : ℕ) → 0 < 10 ^ count
 positive_power count = one-le-pow count 10 (omega arith)
@@ -98,14 +129,15 @@ last_digits-halves half n start buffer mid new second first =
     rw (first, second, end, last_digits-split half half n)
     (sym (append_assoc (last_digits half (n / 10 ^ half)) (last_digits half (n % 10 ^ half)) (drop (start + (half + half)) buffer)))
 
--- the invariant of a loop that writes `count` last digits a turn: while more digits are left, there is room for them
+-- the invariant of a loop that writes `count` last digits a turn: there is room for those that are left, and a byte before them
 pub record IsCutFrom (count n left start : ℕ) (buffer : List ℕ) : Type 0 where
-  pub fits : length (decimal (pos n)) ≤ length buffer
+  pub fits : length (decimal (pos n)) < length buffer
   pub written : IsWrittenFrom (λ m. decimal (pos m)) n left start buffer
+  pub left_fits : length (decimal (pos left)) < start
   pub room : 10 ^ count ≤ left → count < start
 
 -- there is room because of the lengths of the texts
-cut_from : (count n left start : ℕ) (buffer : List ℕ) → length (decimal (pos n)) ≤ length buffer
+cut_from : (count n left start : ℕ) (buffer : List ℕ) → length (decimal (pos n)) < length buffer
     → IsWrittenFrom (λ m. decimal (pos m)) n left start buffer → IsCutFrom count n left start buffer
 cut_from count n left start buffer fits written =
     let digits = ap length written.joined in
@@ -114,12 +146,13 @@ cut_from count n left start buffer fits written =
     record {
       fits = fits;
       written = written;
+      left_fits = omega (arith, written.within, digits, whole, length-drop start buffer);
       room =
           λ high. omega (arith, written.within, digits, whole, length-drop start buffer, length-cut count left high, another);
     }
 
 -- the invariant holds before the first turn
-pub IsCutFrom-none : (count n : ℕ) (buffer : List ℕ) → length (decimal (pos n)) ≤ length buffer → IsCutFrom count n n (length buffer) buffer
+pub IsCutFrom-none : (count n : ℕ) (buffer : List ℕ) → length (decimal (pos n)) < length buffer → IsCutFrom count n n (length buffer) buffer
 IsCutFrom-none count n buffer fits =
     cut_from count n n (length buffer) buffer fits record { within = omega arith; joined = rw (drop-length buffer, append-nil) refl }
 

@@ -1,10 +1,10 @@
 -- Digits that are written from the last to the first, each before the others.
-use Rattle.std.proofs.Common.{true, ℤ, nat_abs, ◌≡◌, ◌≢◌, ℕ, ◌+◌, ◌-◌, ◌/◌, ◌%◌, ◌<◌, ◌≤◌, List, [], ◌∷◌, ◌++◌, length, drop, set, pos, ap, ◌∙◌, refl, arith, length-append, length-drop, length-set, append_assoc}
+use Rattle.std.proofs.Common.{Bool, true, false, sym, ℤ, nat_abs, ◌≡◌, ◌≢◌, ℕ, ◌+◌, ◌-◌, ◌/◌, ◌%◌, ◌<◌, ◌≤◌, List, [], ◌∷◌, ◌++◌, length, drop, set, pos, ap, ◌∙◌, refl, arith, length-append, length-drop, length-set, append_assoc}
 use Rattle.std.proofs.Math.Nat.{div-lt_iff_lt-mul, le-div_iff_mul-le, mod-eq_of_lt}
-use Rattle.std.proofs.lemmas.List.{drop-set}
-use Rattle.std.specs.Int.{is_negative}
+use Rattle.std.proofs.lemmas.List.{drop-set, drop-set-lt}
+use Rattle.std.specs.Int.{from_bool, is_negative}
 use Rattle.ufmt_core.specs.Decimal.{decimal}
-use Rattle.ufmt_core.proofs.DecimalTexts.{decimal-negative}
+use Rattle.ufmt_core.proofs.DecimalTexts.{decimal-negative, decimal-positive}
 use Rattle.ufmt_core.proofs.NumeralTexts.{IsTextInBase, text-digit, text-step, text-nonempty}
 
 -- the text of `left` and the bytes from `start` on are together the text of `n`
@@ -48,15 +48,22 @@ module _ {base : ℕ} {byte_of : ℕ → ℕ} {text : ℕ → List ℕ} (t : IsT
         let same : digit ≡ left = is_digit ∙ mod-eq_of_lt low in
         put_before [] buffer start byte digit_fits written.within ∙ rw (is_byte, same) (rw (text-digit t left low) at written.joined)
 
--- the digits of a negative number's magnitude are the bytes from `start` on: with a sign before them they are its text
-pub record IsSigned (z : ℤ) (start : ℕ) (buffer : List ℕ) : Type 0 where
-  pub room : 0 < start
-  pub starts : start - 1 + length (decimal z) ≡ length buffer
-  pub written : drop (start - 1) (set buffer (start - 1) 45) ≡ decimal z
+-- the number's text begins here, after a sign was put before the digits of its magnitude
+pub record IsSigned (z : ℤ) (start size : ℕ) (new : List ℕ) : Type 0 where
+  pub starts : start + length (decimal z) ≡ size
+  pub written : drop start new ≡ decimal z
 
-pub put_sign : (z : ℤ) {magnitude : ℕ} (start : ℕ) (buffer : List ℕ) → is_negative z ≡ true → magnitude ≡ nat_abs z → length (decimal z) ≤ length buffer →
-    start + length (decimal (pos magnitude)) ≡ length buffer → drop start buffer ≡ decimal (pos magnitude) → IsSigned z start buffer
-put_sign z {magnitude} start buffer negative is_magnitude fits starts digits =
-    let whole : decimal z ≡ 45 ∷ decimal (pos magnitude) = rw is_magnitude (decimal-negative z negative) in
-    let longer = ap length whole in
-    record { room = omega arith; starts = omega arith; written = put_before [] buffer start 45 (omega arith) (omega arith) ∙ rw (whole, digits) refl }
+module _ (z : ℤ) (magnitude start : ℕ) (buffer : List ℕ) (is_magnitude : magnitude ≡ nat_abs z) (room : length (decimal (pos magnitude)) < length buffer)
+    (ends : start + length (decimal (pos magnitude)) ≡ length buffer) (digits : drop start buffer ≡ decimal (pos magnitude)) where
+  pub put_sign : (negative : Bool) → negative ≡ is_negative z → IsSigned z (start - from_bool negative) (length buffer) (set buffer (start - 1) 45)
+  put_sign true sign =
+      let whole : decimal z ≡ 45 ∷ decimal (pos magnitude) = rw is_magnitude (decimal-negative z (sym sign)) in record {
+        starts = omega (arith, ap length whole);
+        written = put_before [] buffer start 45 (omega arith) (omega arith) ∙ rw (whole, digits) refl;
+      }
+  put_sign false sign =
+      let whole : decimal z ≡ decimal (pos magnitude) = rw is_magnitude (decimal-positive z (sym sign)) in
+      let none : start - 0 ≡ start = omega arith in record {
+        starts = omega (arith, ap length whole);
+        written = rw none (drop-set-lt start buffer (start - 1) 45 (omega arith) ∙ rw (whole, digits) refl);
+      }

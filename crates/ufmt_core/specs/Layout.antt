@@ -87,6 +87,21 @@ abbrev pub trail : Mode → List ℕ
 trail Plain = []
 trail Pretty = codes ",\n"
 
+-- the end of the text before a first entry, without the indentation: a line feed, or the space inside a struct's brace
+abbrev pub first_gap : Mode → Kind → List ℕ
+first_gap Pretty kind = line_feed ∷ []
+first_gap Plain Brackets = []
+first_gap Plain Braces = []
+first_gap Plain Struct = codes " "
+first_gap Plain Tuple = []
+first_gap Plain Unnamed = []
+
+-- the same of an entry after this count of others
+abbrev pub gap : Mode → Kind → Count → List ℕ
+gap mode kind Zero = first_gap mode kind
+gap mode kind One = []
+gap mode kind Several = []
+
 -- the text before an entry, after this count of others, at the entries' mode and depth
 abbrev pub lead : Frame → Setting → Count → List ℕ
 lead f i Zero = f.start ++ new_line i.mode i.depth

@@ -90,8 +90,8 @@ pub fn put(bytes: &[u8], buffer: &mut [u8], start: usize)
     copy(bytes, &mut buffer[start..start + bytes.len()]);
 }
 
-// Copies the bytes to a target of the same length. Up to 32 bytes are copied as their two ends, without
-// a loop and without a test whether source and target overlap.
+// Copies the bytes to a target of the same length, without a test whether source and target overlap. Up to 16
+// bytes are copied as their two ends, without a loop.
 #[inline(always)]
 fn copy(bytes: &[u8], target: &mut [u8])
     requires { length bytes.now ≡ length target.old }
@@ -101,7 +101,7 @@ fn copy(bytes: &[u8], target: &mut [u8])
     if count == 1 {
         target[0] = bytes[0];
     } else if count > 16 {
-        copy_long(bytes, target);
+        copy_longer(bytes, target);
     } else if count >= 8 {
         copy_ends::<8>(bytes, target);
     } else if count >= 4 {
@@ -111,51 +111,38 @@ fn copy(bytes: &[u8], target: &mut [u8])
     }
 }
 
+// In line: a call would cost each caller more than the loop does.
 #[inline(always)]
-fn copy_long(bytes: &[u8], target: &mut [u8])
-    requires same_length { length bytes.now ≡ length target.old }
-    requires long { 16 < length bytes.now }
-    ensures { target.new ≡ bytes.now }
-{
-    if bytes.len() <= 32 {
-        copy_ends::<16>(bytes, target);
-    } else {
-        copy_longer(bytes, target);
-    }
-}
-
-// Not inlined: most pieces are shorter.
-#[inline(never)]
 fn copy_longer(bytes: &[u8], target: &mut [u8])
     requires same_length { length bytes.now ≡ length target.old }
-    requires longer { 32 < length bytes.now }
+    requires longer { 16 < length bytes.now }
     ensures { target.new ≡ bytes.now }
 {
     // From the end: the last chunk may overlap the one before it.
-    let mut start = bytes.len() - 32;
+    let mut start = bytes.len() - 16;
     copy_chunk(bytes, target, start);
-    while start > 32 {
-        // To a multiple of 32, and not by 32: LLVM would see how often the loop runs, and unroll it into
+    while start > 16 {
+        // To a multiple of 16, and not by 16: LLVM would see how often the loop runs, and unroll it into
         // three times as many bytes of code.
-        start = (start - 1) / 32 * 32;
+        start = (start - 1) / 16 * 16;
         copy_chunk(bytes, target, start);
     }
     copy_chunk(bytes, target, 0);
 }
 
-// Copies the 32 bytes from `start` on.
+// Copies the 16 bytes from `start` on.
 #[inline(always)]
 fn copy_chunk(bytes: &[u8], target: &mut [u8], start: usize)
     requires same_length { length bytes.now ≡ length target.old }
-    requires within { start + 32 ≤ length bytes.now }
+    requires within { start + 16 ≤ length bytes.now }
     ensures same_length { length target.new ≡ length bytes.now }
-    ensures copied { (n : ℕ) → n ≤ start + 32 → drop n target.old ≡ drop n bytes.now
+    ensures copied { (n : ℕ) → n ≤ start + 16 → drop n target.old ≡ drop n bytes.now
         → drop start target.new ≡ drop start bytes.now }
 {
-    copy_whole::<32>(&bytes[start..start + 32], &mut target[start..start + 32]);
+    copy_whole::<16>(&bytes[start..start + 16], &mut target[start..start + 16]);
 }
 
-// Copies N bytes. For any number the check finds the proof, and for 32 it doesn't.
+// Copies N bytes. For any number the check finds the proof, and for 16 it doesn't.
 #[inline(always)]
 fn copy_whole<const N: usize>(bytes: &[u8], target: &mut [u8])
     requires source { length bytes.now ≡ N }

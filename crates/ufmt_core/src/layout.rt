@@ -2,7 +2,7 @@
 //! An entry is its lead, its text and its trail. Formatters take these from here, and the scanner the
 //! text that begins a block.
 ghost use Rattle.std.specs.Prelude.{◌≡◌, ◌++◌, ℕ};
-ghost use Rattle.ufmt_core.specs.Layout.{frame, indentation, inside, line_start, new_line, next, later_lead, trail, tuple_kind, Mode};
+ghost use Rattle.ufmt_core.specs.Layout.{frame, gap, indentation, inside, lead, line_start, setting, new_line, next, later_lead, trail, tuple_kind, Mode};
 
 /// Opens a list.
 pub const OPENING_BRACKET: &str = "[";
@@ -101,6 +101,37 @@ impl Kind {
             (Kind::Struct, Mode::Plain) => (" {", " "),
             (Kind::Struct, Mode::Pretty) => (" {", ""),
             (Kind::Tuple | Kind::Unnamed, _) => ("(", ""),
+        }
+    }
+
+    /// The text before an entry that follows `count` others, up to the gap: of the first a bracket, which may be
+    /// empty, and later a comma and a space.
+    #[inline(always)]
+    pub(crate) fn lead(self, mode: Mode, count: Count) -> &'static str
+        ensures { (k : ℕ) → result.now ++ (gap mode self count ++ line_start mode k)
+            ≡ lead (frame mode self) (setting mode k) count }
+    {
+        match count {
+            Count::Zero => match self {
+                Kind::Brackets | Kind::Braces => "",
+                Kind::Struct => " {",
+                Kind::Tuple | Kind::Unnamed => "(",
+            },
+            Count::One | Count::Several => mode.later_lead(),
+        }
+    }
+
+    /// The text between the bracket and the line of the first entry: a line feed, or the space in a plain struct.
+    /// It may be empty.
+    #[inline(always)]
+    pub(crate) fn gap(self, mode: Mode, count: Count) -> &'static str
+        ensures { result.now ≡ gap mode self count }
+    {
+        match (count, mode, self) {
+            (Count::One | Count::Several, _, _) => "",
+            (Count::Zero, Mode::Pretty, _) => "\n",
+            (Count::Zero, Mode::Plain, Kind::Struct) => " ",
+            (Count::Zero, Mode::Plain, _) => "",
         }
     }
 

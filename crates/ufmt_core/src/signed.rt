@@ -1,5 +1,5 @@
 //! Decimal texts of signed numbers.
-ghost use Rattle.std.specs.Prelude.{◌≡◌, ◌+◌, ◌-◌, ◌^◌, ◌<◌, ◌≤◌, ℤ, nat_abs, length, drop};
+ghost use Rattle.std.specs.Prelude.{◌≡◌, ◌+◌, ◌-◌, ◌^◌, ◌<◌, ◌≤◌, ℤ, pos, nat_abs, length, drop};
 ghost use Rattle.std.specs.Int.{is_negative};
 ghost use Rattle.ufmt_core.specs.Document.{leaf};
 ghost use Rattle.ufmt_core.specs.Decimal.{decimal};
@@ -66,7 +66,8 @@ impl Signed for i128 {
     }
 }
 
-/// Returns the decimal text of `z`, made at the end of `buffer`.
+/// Returns the decimal text of `z`, made at the end of `buffer`. N is best a power of two, as for an unsigned
+/// number.
 #[inline(always)]
 pub(crate) fn decimal_text<S: Signed, const N: usize>(z: S, buffer: &mut [u8; N]) -> &str
     requires sign_and_digit { 1 < N }
@@ -74,23 +75,20 @@ pub(crate) fn decimal_text<S: Signed, const N: usize>(z: S, buffer: &mut [u8; N]
     ensures { result.now ≡ decimal (S.value z) }
 {
     let start = write_decimal(z, buffer);
-    text_from(buffer, start)
+    text_from(buffer, start % N)
 }
 
-// Writes the decimal text of `z` at the end of `buffer`, and returns the index of its first byte.
+// Writes the decimal text of `z` at the end of `buffer`, and returns the index of its first byte. There must be
+// room for a sign, which is written before each number: a jump would take more.
 #[inline(always)]
 fn write_decimal<S: Signed>(z: S, buffer: &mut [u8]) -> usize
-    requires { length (decimal (S.value z)) ≤ length buffer.old }
+    requires { length (decimal (pos (nat_abs (S.value z)))) < length buffer.old }
     ensures start { result + length (decimal (S.value z)) ≡ length buffer.old }
     ensures written { drop result buffer.new ≡ decimal (S.value z) }
 {
-    let start = z.magnitude().write_digits(buffer);
-    if !z.is_negative() {
-        return start;
-    }
-    let sign = start - 1;
-    buffer[sign] = b'-';
-    sign
+    let digits = z.magnitude().write_digits(buffer);
+    buffer[digits - 1] = b'-';
+    digits - usize::from(z.is_negative())
 }
 
 impl uDebug for i8 {
@@ -98,7 +96,7 @@ impl uDebug for i8 {
 
     #[inline(always)]
     fn fmt<W: uWrite>(&self, f: &mut Formatter<W>) -> Result<(), W::Error> {
-        f.write_str(decimal_text(i32::from(*self), &mut [0; 4]))
+        f.write_str(decimal_text(i32::from(*self), &mut [0; 16]))
     }
 }
 
@@ -107,7 +105,7 @@ impl uDebug for i16 {
 
     #[inline(always)]
     fn fmt<W: uWrite>(&self, f: &mut Formatter<W>) -> Result<(), W::Error> {
-        f.write_str(decimal_text(i32::from(*self), &mut [0; 6]))
+        f.write_str(decimal_text(i32::from(*self), &mut [0; 16]))
     }
 }
 
@@ -116,7 +114,7 @@ impl uDebug for i32 {
 
     #[inline(always)]
     fn fmt<W: uWrite>(&self, f: &mut Formatter<W>) -> Result<(), W::Error> {
-        f.write_str(decimal_text(*self, &mut [0; 11]))
+        f.write_str(decimal_text(*self, &mut [0; 16]))
     }
 }
 
@@ -125,7 +123,7 @@ impl uDebug for i64 {
 
     #[inline(always)]
     fn fmt<W: uWrite>(&self, f: &mut Formatter<W>) -> Result<(), W::Error> {
-        f.write_str(decimal_text(*self, &mut [0; 20]))
+        f.write_str(decimal_text(*self, &mut [0; 32]))
     }
 }
 
@@ -133,7 +131,7 @@ impl uDebug for i128 {
     ghost document = { λ z. leaf (decimal z) };
 
     fn fmt<W: uWrite>(&self, f: &mut Formatter<W>) -> Result<(), W::Error> {
-        f.write_str(decimal_text(*self, &mut [0; 40]))
+        f.write_str(decimal_text(*self, &mut [0; 64]))
     }
 }
 
@@ -142,6 +140,6 @@ impl uDebug for isize {
 
     #[inline(always)]
     fn fmt<W: uWrite>(&self, f: &mut Formatter<W>) -> Result<(), W::Error> {
-        f.write_str(decimal_text(*self as i64, &mut [0; 20]))
+        f.write_str(decimal_text(*self as i64, &mut [0; 32]))
     }
 }

@@ -72,12 +72,14 @@ impl<W: uWrite> DebugTuple<'_, W> {
             (is_ok result) (tuple_view self.new) }
         ensures is_open { OnOk result (IsOpen (tuple_view self.new)) }
     {
-        let outcome = value.fmt(self.begin()?);
+        let outcome = value.fmt(self.begin_field()?);
         self.end(outcome)
     }
 
     /// Writes the text before a field, and lends the formatter for it. On `Err` the builder is
     /// closed.
+    // Out of line, as that of a struct.
+    #[inline(never)]
     pub fn begin_field(&mut self) -> Result<&mut Formatter<W>, W::Error>
         requires { IsOpen (tuple_view self.old) }
         ensures* loan { sem 𝓛 (LendsForUnnamedField W.row W.seen self.entry result) }

@@ -1,5 +1,5 @@
 //! Decimal texts of unsigned numbers.
-ghost use Rattle.std.specs.Prelude.{◌≡◌, ◌+◌, ◌++◌, ◌/◌, ◌%◌, ◌^◌, ◌<◌, ◌≤◌, ℕ, pos, length, drop};
+ghost use Rattle.std.specs.Prelude.{◌≡◌, ◌+◌, ◌-◌, ◌++◌, ◌/◌, ◌%◌, ◌^◌, ◌<◌, ◌≤◌, ℕ, pos, length, drop};
 ghost use Rattle.ufmt_core.specs.Document.{leaf};
 ghost use Rattle.ufmt_core.specs.Decimal.{decimal, decimal_byte, last_digits, EachNumberIsDenoted, OneTextDenotes, OneNumberIsDenoted};
 
@@ -45,9 +45,10 @@ pub fn digit_pair(i: u8) -> (u8, u8)
 pub(crate) trait Magnitude: Copy {
     ghost value: { Self → ℕ };
 
-    /// Writes the decimal text at the end of `buffer`, and returns the index of its first digit.
+    /// Writes the decimal text at the end of `buffer`, and returns the index of its first digit. The text
+    /// must leave a byte before it, which may be written too.
     fn write_digits(self, buffer: &mut [u8]) -> usize
-        requires { length (decimal (pos (value self))) ≤ length buffer.old }
+        requires { length (decimal (pos (value self))) < length buffer.old }
         ensures start { result + length (decimal (pos (value self))) ≡ length buffer.old }
         ensures written { drop result buffer.new ≡ decimal (pos (value self)) };
 }
@@ -75,9 +76,10 @@ impl Magnitude for u64 {
         let mut start = buffer.len();
         let mut left = self;
         while left >= EIGHT_DIGITS {
+            let rest = left / EIGHT_DIGITS;
             start -= 8;
-            write_eight((left % EIGHT_DIGITS) as u32, buffer, start);
-            left /= EIGHT_DIGITS;
+            write_eight((left - EIGHT_DIGITS * rest) as u32, buffer, start);
+            left = rest;
         }
         (left as u32).write_digits(&mut buffer[..start])
     }
@@ -134,8 +136,9 @@ fn write_turn(n: u32, buffer: &mut [u8], start: usize) -> u32
     ensures left { result ≡ n / 100 }
     ensures written { drop start buffer.new ≡ last_digits 2 (n % 100) ++ drop (start + 2) buffer.old }
 {
-    write_pair(n % 100, buffer, start);
-    n / 100
+    let left = n / 100;
+    write_pair(n - 100 * left, buffer, start);
+    left
 }
 
 #[inline(always)]
@@ -149,33 +152,30 @@ fn write_pair(pair: u32, buffer: &mut [u8], start: usize)
     buffer[start + 1] = ones;
 }
 
-// Writes a number of one digit or two before `end`, and returns the index of the first.
-#[tactic(auto, using(crate::proofs::LastDigits::decimal_nonempty, crate::proofs::LastDigits::length_two))]
+// Writes a number of one digit or two before `end`, and returns the index of the first. Before one digit a
+// zero is written too: a jump would take more.
 #[inline(always)]
 fn write_first(n: u32, buffer: &mut [u8], end: usize) -> usize
     requires two_digits { n < 100 }
-    requires room { length (decimal (pos n)) ≤ end }
+    requires room { 2 ≤ end }
     requires within { end ≤ length buffer.old }
     ensures start { result + length (decimal (pos n)) ≡ end }
     ensures written { drop result buffer.new ≡ decimal (pos n) ++ drop end buffer.old }
 {
-    if n < 10 {
-        buffer[end - 1] = b'0' + n as u8;
-        return end - 1;
-    }
     write_pair(n, buffer, end - 2);
-    end - 2
+    end - 2 + usize::from(n < 10)
 }
 
-/// Returns the decimal text of `n`, made at the end of `buffer`.
+/// Returns the decimal text of `n`, made at the end of `buffer`. If N is a power of two, LLVM sees that the
+/// text is no longer, and leaves out what copies longer ones.
 #[inline(always)]
 pub(crate) fn decimal_text<M: Magnitude, const N: usize>(n: M, buffer: &mut [u8; N]) -> &str
-    requires not_empty { 0 < N }
-    requires room { M.value n < 10 ^ N }
+    requires not_empty { 1 < N }
+    requires room { M.value n < 10 ^ (N - 1) }
     ensures { result.now ≡ decimal (pos (M.value n)) }
 {
     let start = n.write_digits(buffer);
-    text_from(buffer, start)
+    text_from(buffer, start % N)
 }
 
 impl uDebug for u8 {
@@ -183,7 +183,7 @@ impl uDebug for u8 {
 
     #[inline(always)]
     fn fmt<W: uWrite>(&self, f: &mut Formatter<W>) -> Result<(), W::Error> {
-        f.write_str(decimal_text(u32::from(*self), &mut [0; 3]))
+        f.write_str(decimal_text(u32::from(*self), &mut [0; 16]))
     }
 }
 
@@ -192,7 +192,7 @@ impl uDebug for u16 {
 
     #[inline(always)]
     fn fmt<W: uWrite>(&self, f: &mut Formatter<W>) -> Result<(), W::Error> {
-        f.write_str(decimal_text(u32::from(*self), &mut [0; 5]))
+        f.write_str(decimal_text(u32::from(*self), &mut [0; 16]))
     }
 }
 
@@ -201,7 +201,7 @@ impl uDebug for u32 {
 
     #[inline(always)]
     fn fmt<W: uWrite>(&self, f: &mut Formatter<W>) -> Result<(), W::Error> {
-        f.write_str(decimal_text(*self, &mut [0; 10]))
+        f.write_str(decimal_text(*self, &mut [0; 16]))
     }
 }
 
@@ -210,7 +210,7 @@ impl uDebug for u64 {
 
     #[inline(always)]
     fn fmt<W: uWrite>(&self, f: &mut Formatter<W>) -> Result<(), W::Error> {
-        f.write_str(decimal_text(*self, &mut [0; 20]))
+        f.write_str(decimal_text(*self, &mut [0; 32]))
     }
 }
 
@@ -218,7 +218,7 @@ impl uDebug for u128 {
     ghost document = { λ n. leaf (decimal (pos n)) };
 
     fn fmt<W: uWrite>(&self, f: &mut Formatter<W>) -> Result<(), W::Error> {
-        f.write_str(decimal_text(*self, &mut [0; 39]))
+        f.write_str(decimal_text(*self, &mut [0; 64]))
     }
 }
 
@@ -227,6 +227,6 @@ impl uDebug for usize {
 
     #[inline(always)]
     fn fmt<W: uWrite>(&self, f: &mut Formatter<W>) -> Result<(), W::Error> {
-        f.write_str(decimal_text(*self as u64, &mut [0; 20]))
+        f.write_str(decimal_text(*self as u64, &mut [0; 32]))
     }
 }

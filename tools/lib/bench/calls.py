@@ -5,8 +5,8 @@ import sys
 
 from lib.bench import build, peers
 
-# `two` prints a second type as well. The peers have the first six.
-PEER_SIZES = ("text", "number", "struct", "pretty", "two", "line")
+# `two` prints a second type as well, `eight` eight types. The peers have the first seven.
+PEER_SIZES = ("text", "number", "struct", "pretty", "two", "eight", "line")
 SIZES = PEER_SIZES + ("tuple", "list", "set", "map")
 LEAST = "-2147483648"
 # What is called, and with which number.

@@ -65,8 +65,8 @@ impl<W: uWrite> Formatter<W> {
             (λ b. WritesOpening W.seen self.old self.entry.ghost_name (K.kind marker) opening.now
             (view_of K.kind b)) }
     {
-        self.write_str(opening)?;
         let outer = self.setting;
+        self.write_str(opening)?;
         if matches!(outer.mode, Mode::Pretty) {
             self.setting = outer.inside();
         }
@@ -95,7 +95,8 @@ impl<W: uWrite, K: BlockKind> Builder<'_, W, K> {
     }
 
     /// Writes the text before the value of a struct's field, and lends the formatter for the value.
-    #[inline(always)]
+    // Out of line: fields of all types have one copy of it.
+    #[inline(never)]
     pub(crate) fn begin_named(&mut self, name: &str) -> Result<&mut Formatter<W>, W::Error>
         requires { IsInside (view_of K.kind self.old) }
         ensures* loan { sem 𝓛 (LendsAfter W.row K.row (view_of K.kind) W.seen self.entry result

@@ -15,25 +15,9 @@ impl<W: uWrite> Formatter<W> {
             (lead (frame (mode_of self.old) kind) (setting_of self.old) count) (is_ok result)
             self.new }
     {
-        self.write_lead_start(kind, count)?;
+        self.write_piece(kind.lead(self.setting.mode, count))?;
+        self.write_piece(kind.gap(self.setting.mode, count))?;
         self.write_line_start()
-    }
-
-    // Writes the text before an entry, without the indentation.
-    #[inline(always)]
-    fn write_lead_start(&mut self, kind: Kind, count: Count) -> Result<(), W::Error>
-        ensures { (start : List ℕ)
-            × (start ++ line_start (mode_of self.old) (depth_of self.old)
-            ≡ lead (frame (mode_of self.old) kind) (setting_of self.old) count)
-            × Prints W.seen self.old start (is_ok result) self.new }
-    {
-        match count {
-            Count::Zero => {
-                self.write_start(kind)?;
-                self.write_piece(self.setting.mode.line_feed())
-            }
-            Count::One | Count::Several => self.write_piece(self.setting.mode.later_lead()),
-        }
     }
 
     /// Writes the text before the value of a struct's field.
@@ -107,24 +91,6 @@ impl<W: uWrite> Formatter<W> {
         }
     }
 
-    #[inline(always)]
-    fn write_start(&mut self, kind: Kind) -> Result<(), W::Error>
-        ensures { Prints W.seen self.old (frame (mode_of self.old) kind).start (is_ok result)
-            self.new }
-    {
-        // An arm for each mode: there the bracket is a constant.
-        match self.setting.mode {
-            Mode::Plain => {
-                let (bracket, space) = kind.start(Mode::Plain);
-                self.write_both(bracket, space)
-            }
-            Mode::Pretty => {
-                let (bracket, space) = kind.start(Mode::Pretty);
-                self.write_both(bracket, space)
-            }
-        }
-    }
-
     // An empty piece isn't written.
     #[inline(always)]
     fn write_both(&mut self, first: &str, second: &str) -> Result<(), W::Error>
@@ -160,17 +126,8 @@ impl<W: uWrite> Formatter<W> {
         ensures { Prints W.seen self.old ((frame (mode_of self.old) kind).closing count)
             (is_ok result) self.new }
     {
-        // As in `write_start`, the bracket is a constant in each arm.
-        match self.setting.mode {
-            Mode::Plain => {
-                let (before, bracket) = kind.closing(Mode::Plain, count);
-                self.write_both(before, bracket)
-            }
-            Mode::Pretty => {
-                let (before, bracket) = kind.closing(Mode::Pretty, count);
-                self.write_both(before, bracket)
-            }
-        }
+        let (before, bracket) = kind.closing(self.setting.mode, count);
+        self.write_both(before, bracket)
     }
 
     #[inline(always)]

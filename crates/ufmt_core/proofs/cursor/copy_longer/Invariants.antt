@@ -3,7 +3,7 @@ use Rattle.ufmt_core.proofs.cursor.copy_longer.Given as goal
 
 abbrev pub invariant-loop-start : goal.invariant-loop-start
 invariant-loop-start l = record {
-  within : l.start + 32 ≤ length l.bytes;
+  within : l.start + 16 ≤ length l.bytes;
   same_length : length l.target ≡ length l.bytes;
   copied : drop l.start l.target ≡ drop l.start l.bytes;
 }

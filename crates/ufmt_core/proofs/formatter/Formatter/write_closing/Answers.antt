@@ -1,10 +1,5 @@
-use Rattle.std.proofs.Common.{ap, sym, ◌∙◌}
-use Rattle.ufmt_core.specs.Layout.{frame}
 use Rattle.ufmt_core.proofs.Writing.{Prints-same}
 use Rattle.ufmt_core.proofs.formatter.Formatter.write_closing.Goals as goal
 
-pub returns-in-Plain : goal.returns-in-Plain
-returns-in-Plain g c = Prints-same (c.closing.ensures ∙ ap (λ mode. (frame mode c.args.kind).closing c.args.count) (sym c.in-Plain.is)) c.write_both.ensures
-
-pub returns-in-Pretty : goal.returns-in-Pretty
-returns-in-Pretty g c = Prints-same (c.closing-in-Pretty.ensures ∙ ap (λ mode. (frame mode c.args.kind).closing c.args.count) (sym c.in-Pretty.is)) c.write_both-in-Pretty.ensures
+pub returns : goal.returns
+returns g c = Prints-same c.closing.ensures c.write_both.ensures
