@@ -14,7 +14,7 @@ use Rattle.ufmt_grammar.proofs.ClassTokens.{IsPlainByte, plain_byte_in_word, wor
 use Rattle.ufmt.proofs.FixedPoint.{fixed-denotes}
 use Rattle.ufmt_grammar.proofs.NumbersAreWords.{decimal_byte_is_word}
 
-abbrev ArePlain : List ℕ → Type 0
+abbrev pub ArePlain : List ℕ → Type 0
 ArePlain [] = ⊤
 ArePlain (c ∷ text) = IsPlainByte c × ArePlain text
 
@@ -26,7 +26,7 @@ plain_is_ascii : (text : List ℕ) → ArePlain text → IsAscii text
 plain_is_ascii [] plain = IsAscii-nil
 plain_is_ascii (c ∷ text) plain = IsAscii-cons c text plain.0.ascii (plain_is_ascii text plain.1)
 
-plain_is_text : (c : ℕ) (text : List ℕ) → ArePlain (c ∷ text) → IsDebugLeaf (c ∷ text)
+pub plain_is_text : (c : ℕ) (text : List ℕ) → ArePlain (c ∷ text) → IsDebugLeaf (c ∷ text)
 plain_is_text c text plain = record {
   some = λ none. absurd (cc);
   pieces = from_beginning (c ∷ text) (plain_ends (c ∷ text) plain);
@@ -36,7 +36,7 @@ plain_is_text c text plain = record {
 digit_is_plain : (digit : ℕ) → digit < 10 → IsPlainByte (decimal_byte digit)
 digit_is_plain digit low = word_byte_is_plain (decimal_byte digit) (decimal_byte_is_word digit low)
 
-point_is_plain : IsPlainByte 46
+pub point_is_plain : IsPlainByte 46
 point_is_plain = record { word = refl; ascii = omega arith; no_backslash = refl; no_colon = refl }
 
 minus_is_plain : IsPlainByte 45

@@ -2,6 +2,7 @@ pub mod Column
 pub mod Cut
 pub mod Dump
 pub mod FixedPoint
+pub mod Floats
 pub mod Hex
 pub mod Lines
 pub mod Pieces
@@ -18,6 +19,7 @@ pub use Rattle.ufmt_core.specs.Cursor
 pub use Rattle.ufmt_core.specs.Decimal
 pub use Rattle.ufmt_core.specs.Document
 pub use Rattle.ufmt_core.specs.EachText
+pub use Rattle.ufmt_core.specs.FloatText
 pub use Rattle.ufmt_core.specs.Formatter
 pub use Rattle.ufmt_core.specs.Layout
 pub use Rattle.ufmt_core.specs.Quoted

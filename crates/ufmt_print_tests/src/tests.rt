@@ -6,6 +6,7 @@ mod asserts;
 mod blocks;
 mod collections;
 mod decimals;
+mod floats;
 mod laws;
 mod leaves;
 mod long_values;
