@@ -2,7 +2,7 @@
 use Rattle.std.proofs.Common.{refl, sym, subst, inl, inr, ◌≡◌, ◌≢◌, ◌⊎◌, ℕ, ◌+◌, ◌-◌, List, [], ◌∷◌, true, codes, arith}
 use Rattle.std.specs.List.{All}
 use Rattle.std.proofs.lemmas.List.Elements.{All-head, All-tail}
-use Rattle.core.specs.Float.Numeral.{dot}
+use Rattle.std.specs.Float.Numeral.{dot}
 use Rattle.ufmt_float.proofs.NumberBytes.{IsNumberByte, AreNumberBytes, IsNumber, number_or_word}
 use Rattle.ufmt_grammar.specs.Leaves.{is_word_byte, IsWord, IsWordOrEmpty, IsDebugLeaf}
 use Rattle.ufmt_grammar.proofs.ClassTokens.{IsPlainByte, word_byte_is_plain}

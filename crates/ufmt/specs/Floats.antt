@@ -2,7 +2,7 @@
 use Rattle.std.specs.Prelude.{◌≢◌, ℕ, List, Bool, T}
 use Rattle.std.specs.List.{All}
 use lib.Ieee.{Float, Format, fits}
-use Rattle.core.specs.Float.Numeral.{dot}
+use Rattle.std.specs.Float.Numeral.{dot}
 use Rattle.ufmt_float.specs.Text.{IsFloatText}
 use Rattle.ufmt_grammar.specs.Leaves.{IsLeaf, IsWord}
 use Rattle.ufmt_grammar.specs.declared.class.Class.TheVariants.{Debug}
