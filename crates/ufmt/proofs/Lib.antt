@@ -5,7 +5,6 @@ pub mod DumpColumns
 pub mod DumpRows
 pub mod Dumps
 pub mod FittingParts
-pub mod FloatsAreLeaves
 pub mod FixedPoint
 pub mod LeftToWrite
 pub mod Lines

@@ -2,7 +2,6 @@ pub mod Column
 pub mod Cut
 pub mod Dump
 pub mod FixedPoint
-pub mod Floats
 pub mod Hex
 pub mod Lines
 pub mod Pieces
@@ -26,6 +25,7 @@ pub use Rattle.ufmt_core.specs.Quoted
 pub use Rattle.ufmt_core.specs.Shift
 pub use Rattle.ufmt_core.specs.ValueDocuments
 pub use Rattle.ufmt_core.specs.Writes
+pub use Rattle.ufmt_grammar.specs.FloatLaws
 pub use Rattle.ufmt_grammar.specs.Leaves
 pub use Rattle.ufmt_grammar.specs.NormalFormLaws
 pub use Rattle.ufmt_grammar.specs.Parse

@@ -26,7 +26,7 @@ use crate::display::uDisplay;
 use crate::hex::{HexOptions, uDisplayHex};
 use crate::pieces::Line;
 use crate::{pieces, uwrite, uwriteln};
-pub use floats::{float_texts_are_leaves, floats_display_their_texts};
+pub use floats::floats_display_their_texts;
 pub use numbers::{
     decimals_denote_their_values, digits_are_one_text, integers_print_zeros, line_of_numbers,
     nonzero_prints_one_radix_text, nonzero_prints_zeros, padding_reaches_length,
@@ -53,9 +53,9 @@ pub use ufmt_core::laws::{
 use ufmt_core::{Formatter, uDebug, uWrite};
 pub use ufmt_float::laws::{float_texts_are_parsed, floats_have_one_text};
 pub use ufmt_grammar::laws::{
-    normal_forms, numbers_are_words, plain_reads_one_way, pretty_reads_one_way,
-    quoted_leaves_are_read_exactly, quoted_one_way, shifted_at_depth, texts_are_read_exactly,
-    texts_determine_normal_forms, tokens_are_debug, unquoted_as_before,
+    float_texts_are_leaves, normal_forms, numbers_are_words, plain_reads_one_way,
+    pretty_reads_one_way, quoted_leaves_are_read_exactly, quoted_one_way, shifted_at_depth,
+    texts_are_read_exactly, texts_determine_normal_forms, tokens_are_debug, unquoted_as_before,
 };
 
 /// After the loan of a cursor, its buffer begins with the bytes that were written. The others are as

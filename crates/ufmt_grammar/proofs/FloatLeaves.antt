@@ -7,8 +7,8 @@ use Rattle.ufmt_float.proofs.NumberBytes.{IsNumberByte, AreNumberBytes, IsNumber
 use Rattle.ufmt_grammar.specs.Leaves.{is_word_byte, IsWord, IsWordOrEmpty, IsDebugLeaf}
 use Rattle.ufmt_grammar.proofs.ClassTokens.{IsPlainByte, word_byte_is_plain}
 use Rattle.ufmt_grammar.proofs.NumbersAreWords.{decimal_byte_is_word}
-use Rattle.ufmt.specs.Floats.{FloatTextsAreLeaves, FloatTextsWithoutPointAreWords}
-use Rattle.ufmt.proofs.DecimalsAreLeaves.{ArePlain, plain_is_text, point_is_plain}
+use Rattle.ufmt_grammar.specs.FloatLaws.{FloatTextsAreLeaves, FloatTextsWithoutPointAreWords}
+use Rattle.ufmt_grammar.proofs.PlainLeaves.{ArePlain, plain_is_text, point_is_plain}
 
 -- each byte but the point is one of a word
 word_or_point : (c : ℕ) → IsNumberByte c → (is_word_byte c ≡ true) ⊎ (c ≡ dot)

@@ -4,8 +4,7 @@ use Rattle.std.specs.List.{All}
 use lib.Ieee.{Float, Format, fits}
 use Rattle.std.specs.Float.Numeral.{dot}
 use Rattle.ufmt_float.specs.Text.{IsFloatText}
-use Rattle.ufmt_grammar.specs.Leaves.{IsLeaf, IsWord}
-use Rattle.ufmt_grammar.specs.declared.class.Class.TheVariants.{Debug}
+use Rattle.ufmt_grammar.specs.Leaves.{Debug, IsLeaf, IsWord}
 
 -- the text of a float is a debug leaf
 abbrev pub FloatTextsAreLeaves : Type 0
