@@ -1,43 +1,18 @@
 -- The text of a fixed-point number is a leaf of a debug document, so it can be read again.
 use Rattle.std.proofs.Common.{refl, sym, subst, ℕ, ◌<◌, ℤ, pos, negsuc, List, [], ◌∷◌, ◌++◌, map, length, arith}
-use Rattle.std.specs.Prelude.{⊤}
 use Rattle.std.specs.List.{All}
 use Rattle.std.specs.Str.{IsAscii}
 use Rattle.std.proofs.lemmas.List.Elements.{All-head, All-tail}
-use Rattle.std.proofs.lemmas.Str.{IsUtf8-from_ascii, is_utf8-from_IsUtf8}
-use Rattle.std.proofs.lemmas.Str.Ascii.{IsAscii-cons, IsAscii-nil}
 use Rattle.ufmt_core.specs.Decimal.{decimal_byte, sign_of}
 use Rattle.ufmt.specs.FixedPoint.{fixed, fixed_digits, point_and}
-use Rattle.ufmt_grammar.specs.Leaves.{EndsLeaf, IsDebugLeaf, outside}
-use Rattle.ufmt_grammar.proofs.DebugLeaves.{from_beginning}
-use Rattle.ufmt_grammar.proofs.ClassTokens.{IsPlainByte, plain_byte_in_word, word_byte_is_plain}
+use Rattle.ufmt_grammar.specs.Leaves.{IsDebugLeaf}
+use Rattle.ufmt_grammar.proofs.ClassTokens.{IsPlainByte, word_byte_is_plain}
+use Rattle.ufmt_grammar.proofs.PlainLeaves.{ArePlain, plain_is_ascii, plain_is_text, point_is_plain}
 use Rattle.ufmt.proofs.FixedPoint.{fixed-denotes}
 use Rattle.ufmt_grammar.proofs.NumbersAreWords.{decimal_byte_is_word}
 
-abbrev ArePlain : List ℕ → Type 0
-ArePlain [] = ⊤
-ArePlain (c ∷ text) = IsPlainByte c × ArePlain text
-
-plain_ends : (text : List ℕ) → ArePlain text → EndsLeaf outside text
-plain_ends [] plain = refl
-plain_ends (c ∷ text) plain = (outside, rw (plain_byte_in_word c text plain.0) refl, plain_ends text plain.1)
-
-plain_is_ascii : (text : List ℕ) → ArePlain text → IsAscii text
-plain_is_ascii [] plain = IsAscii-nil
-plain_is_ascii (c ∷ text) plain = IsAscii-cons c text plain.0.ascii (plain_is_ascii text plain.1)
-
-plain_is_text : (c : ℕ) (text : List ℕ) → ArePlain (c ∷ text) → IsDebugLeaf (c ∷ text)
-plain_is_text c text plain = record {
-  some = λ none. absurd (cc);
-  pieces = from_beginning (c ∷ text) (plain_ends (c ∷ text) plain);
-  utf8 = is_utf8-from_IsUtf8 (c ∷ text) (IsUtf8-from_ascii (c ∷ text) (plain_is_ascii (c ∷ text) plain));
-}
-
 digit_is_plain : (digit : ℕ) → digit < 10 → IsPlainByte (decimal_byte digit)
 digit_is_plain digit low = word_byte_is_plain (decimal_byte digit) (decimal_byte_is_word digit low)
-
-point_is_plain : IsPlainByte 46
-point_is_plain = record { word = refl; ascii = omega arith; no_backslash = refl; no_colon = refl }
 
 minus_is_plain : IsPlainByte 45
 minus_is_plain = record { word = refl; ascii = omega arith; no_backslash = refl; no_colon = refl }

@@ -19,12 +19,14 @@ pub use Rattle.ufmt_core.specs.Cursor
 pub use Rattle.ufmt_core.specs.Decimal
 pub use Rattle.ufmt_core.specs.Document
 pub use Rattle.ufmt_core.specs.EachText
+pub use Rattle.ufmt_core.specs.FloatText
 pub use Rattle.ufmt_core.specs.Formatter
 pub use Rattle.ufmt_core.specs.Layout
 pub use Rattle.ufmt_core.specs.Quoted
 pub use Rattle.ufmt_core.specs.Shift
 pub use Rattle.ufmt_core.specs.ValueDocuments
 pub use Rattle.ufmt_core.specs.Writes
+pub use Rattle.ufmt_grammar.specs.FloatLaws
 pub use Rattle.ufmt_grammar.specs.Leaves
 pub use Rattle.ufmt_grammar.specs.NormalFormLaws
 pub use Rattle.ufmt_grammar.specs.Parse

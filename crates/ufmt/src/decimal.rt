@@ -13,7 +13,7 @@ use ufmt_core::{Formatter, uDebug, uWrite};
 
 /// A fixed-point number, `value` over ten to the power of `places`. `Decimal { value: -125, places: 1 }`
 /// prints `-12.5`.
-#[derive(Clone, Copy)]
+#[derive(Clone, Copy, Debug, PartialEq, Eq)]
 pub struct Decimal {
     pub value: i64,
     /// How many digits come after the point. Without any there is no point.

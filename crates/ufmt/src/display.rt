@@ -4,6 +4,7 @@ ghost use Rattle.ufmt_core.specs.Document.{Document};
 ghost use Rattle.ufmt_core.specs.Formatter.{LaysOut};
 
 mod core_impls;
+mod floats;
 mod integers;
 mod nonzero;
 mod std_impls;

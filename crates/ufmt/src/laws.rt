@@ -18,6 +18,7 @@ ghost use Rattle.ufmt.specs.declared.hex.HexOptions.{HexOptions};
 ghost use Rattle.ufmt.specs.Hex.{PrintsHexadecimal, PrintsBits};
 ghost use Rattle.ufmt.specs.Dump.{DigitsHaveTheirWidth, DumpHasEachByte, TextsBeginInOneColumn};
 
+mod floats;
 mod numbers;
 
 use crate::column::Column;
@@ -25,6 +26,7 @@ use crate::display::uDisplay;
 use crate::hex::{HexOptions, uDisplayHex};
 use crate::pieces::Line;
 use crate::{pieces, uwrite, uwriteln};
+pub use floats::floats_display_their_texts;
 pub use numbers::{
     decimals_denote_their_values, digits_are_one_text, integers_print_zeros, line_of_numbers,
     nonzero_prints_one_radix_text, nonzero_prints_zeros, padding_reaches_length,
@@ -44,15 +46,16 @@ use std::sync::{Arc, ArcStr};
 use ufmt_core::cursor::{Cursor, Full};
 pub use ufmt_core::laws::{
     blocks_are_their_parts, documents_of_cell_values, documents_of_collections,
-    documents_of_leaves, documents_of_ranges, documents_of_shared_values,
+    documents_of_floats, documents_of_leaves, documents_of_ranges, documents_of_shared_values,
     documents_of_sorted_collections, documents_of_texts, documents_of_tuples,
     documents_of_unsorted_collections, documents_of_wrappers, references_print_what_they_refer_to,
 };
 use ufmt_core::{Formatter, uDebug, uWrite};
+pub use ufmt_float::laws::{float_texts_are_parsed, floats_have_one_text};
 pub use ufmt_grammar::laws::{
-    normal_forms, numbers_are_words, plain_reads_one_way, pretty_reads_one_way,
-    quoted_leaves_are_read_exactly, quoted_one_way, shifted_at_depth, texts_are_read_exactly,
-    texts_determine_normal_forms, tokens_are_debug, unquoted_as_before,
+    float_texts_are_leaves, normal_forms, numbers_are_words, plain_reads_one_way,
+    pretty_reads_one_way, quoted_leaves_are_read_exactly, quoted_one_way, shifted_at_depth,
+    texts_are_read_exactly, texts_determine_normal_forms, tokens_are_debug, unquoted_as_before,
 };
 
 /// After the loan of a cursor, its buffer begins with the bytes that were written. The others are as

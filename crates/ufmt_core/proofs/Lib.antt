@@ -3,6 +3,7 @@ pub mod Blocks
 pub mod Counts
 pub mod Cursors
 pub mod DecimalTexts
+pub mod FloatTexts
 pub mod Fronts
 pub mod Indentation
 pub mod Items

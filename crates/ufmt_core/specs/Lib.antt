@@ -7,6 +7,7 @@ pub mod Cursor
 pub mod Decimal
 pub mod Document
 pub mod EachText
+pub mod FloatText
 pub mod Formatter
 pub mod Layout
 pub mod Quoted

@@ -1,10 +1,12 @@
 -- The documents of values, written with names in quotes and with lists.
 use Prim.Native.String.{String as Text}
-use Rattle.std.specs.Prelude.{ℕ, ℤ, pos, List, [], ◌∷◌, codes, Option, Some, None, Result, Ok, Err, String, string_bytes}
+use Rattle.std.specs.Prelude.{ℕ, ℤ, pos, List, [], ◌∷◌, true, codes, Option, Some, None, Result, Ok, Err, String, string_bytes}
+use lib.Ieee.{Float, binary32, binary64}
 use Rattle.std.specs.Borrow.{Bor}
 use Rattle.std.specs.Str.{chars}
 use Rattle.ufmt_core.specs.Document.{Document, leaf, struct_of, non_exhaustive_of, tuple_of, documents, Fields, no_fields, first_field}
 use Rattle.ufmt_core.specs.Decimal.{decimal}
+use Rattle.ufmt_core.specs.FloatText.{float_text}
 use Rattle.ufmt_core.specs.Quoted.{quoted_char, quoted_text}
 
 -- fields in a row, each a name and a document
@@ -34,6 +36,13 @@ number n = leaf (decimal (pos n))
 
 abbrev pub integer : ℤ → Document
 integer z = leaf (decimal z)
+
+-- an `f32` and an `f64`
+abbrev pub float32 : Float → Document
+float32 x = leaf (float_text binary32 true x)
+
+abbrev pub float64 : Float → Document
+float64 x = leaf (float_text binary64 true x)
 
 -- a `String`, in quotation marks
 abbrev pub string : {A : Type 0} → String A → Document

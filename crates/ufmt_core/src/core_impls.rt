@@ -2,6 +2,7 @@
 
 pub mod cells;
 mod enums;
+mod floats;
 mod primitives;
 mod ranges;
 mod references;

@@ -21,10 +21,12 @@ ghost use Rattle.ufmt_core.specs.Quoted.{quoted_char, quoted_text};
 ghost use Rattle.ufmt_core.specs.Ranges.{after, before, between, range_inclusive_document};
 ghost use Rattle.ufmt_core.specs.ValueDocuments.{integer, named, named_struct, named_tuple, number};
 
+mod of_floats;
 mod of_tuples;
 
 use crate::core_impls::cells::{CellValue, RefCellValue};
 use crate::uDebug;
+pub use of_floats::documents_of_floats;
 pub use of_tuples::documents_of_tuples;
 use std::alloc::Allocator;
 use std::borrow::{Cow, CowSlice, CowStr};

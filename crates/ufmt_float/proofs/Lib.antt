@@ -6,6 +6,7 @@ pub mod FloatParts
 pub mod FloatTexts
 pub mod Intervals
 pub mod LimbSteps
+pub mod NumberBytes
 pub mod Parsing
 pub mod Puts
 pub mod Scales

@@ -22,7 +22,7 @@ unfolding float_with_sign
 size_of s n e = refl
 
 -- a finite float that isn't 0 has a decimal
-decimal_of : (f : Format) (s : Bool) (n : ℕ) (e : ℤ) → T (fits f (fin s (suc n) e)) → HasDecimal f (fin false (suc n) e)
+pub decimal_of : (f : Format) (s : Bool) (n : ℕ) (e : ℤ) → T (fits f (fin s (suc n) e)) → HasDecimal f (fin false (suc n) e)
 decimal_of f s n e h = let p = parts_exist f s n e h in subst (HasDecimal f) (sym p.2.size ∙ size_of s n e) (exists_decimal f p.0 p.1 p.2.parts)
 
 signed : (f : Format) (s : Bool) (a c n : ℕ) (e : ℤ) → round f false a c ≡ fin false n e → round f s a c ≡ fin s n e

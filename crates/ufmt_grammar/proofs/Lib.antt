@@ -5,6 +5,7 @@ pub mod ClassLines
 pub mod ClassTokens
 pub mod DebugLeaves
 pub mod DottedStructs
+pub mod FloatLeaves
 pub mod FramesClose
 pub mod NoStarts
 pub mod NormalForms
@@ -12,6 +13,7 @@ pub mod NormalRows
 pub mod NumbersAreWords
 pub mod OneWay
 pub mod Parsing
+pub mod PlainLeaves
 pub mod QuotedComplete
 pub mod QuotedDecoded
 pub mod QuotedLines

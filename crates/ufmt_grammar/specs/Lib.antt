@@ -1,3 +1,4 @@
+pub mod FloatLaws
 pub mod Leaves
 pub mod NormalFormLaws
 pub mod Parse

@@ -1,6 +1,7 @@
 //! Laws of texts that can be read again, each as the contract of a function.
 ghost use Rattle.std.specs.Prelude.{ℤ};
 ghost use Rattle.ufmt_core.specs.Decimal.{decimal};
+ghost use Rattle.ufmt_grammar.specs.FloatLaws.{FloatTextsAreLeaves, FloatTextsWithoutPointAreWords};
 ghost use Rattle.ufmt_grammar.specs.NormalFormLaws.{NormalFormsAreNormal, NormalFormsKeepTexts, NormalFormsKeepClasses};
 ghost use Rattle.ufmt_grammar.specs.Token.{Class, IsWord};
 ghost use Rattle.ufmt_grammar.specs.QuotedLaws.{QuotedCharDetermines, QuotedEndsItself, QuotedIsNoOtherLeaf, QuotedIsOneLine, QuotedTextIsNoChar, QuotedTextDetermines, ReadsEachQuoted, ReadsOnlyQuoted};
@@ -12,6 +13,13 @@ ghost use Rattle.ufmt_grammar.specs.UnquotedLaws.{UnquotedAsBefore};
 /// The decimal text of a whole number is a word, so it can be read back.
 pub fn numbers_are_words()
     ensures { (z : ℤ) → IsWord (decimal z) }
+{}
+
+/// The text of a float by either trait is a debug leaf, so it can be read again. Without a point it is a
+/// word, and so a token leaf too, as `1e-7`, `inf` and `NaN`.
+pub fn float_texts_are_leaves()
+    ensures debug_leaf { FloatTextsAreLeaves }
+    ensures word { FloatTextsWithoutPointAreWords }
 {}
 
 /// The normal form of a document is in normal form, and has the document's text in each mode and from

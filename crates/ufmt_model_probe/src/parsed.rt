@@ -2,8 +2,8 @@
 use crate::parsing::parse_in_mode;
 use crate::shapes;
 use crate::types::{
-    FurtherKeys, Keyed, Leaves, Lists, Nested, NonZeros, Numbers, Owned, Results, Shared, Slices,
-    Tuples, Types, Wrappers,
+    Floats, FurtherKeys, Keyed, Leaves, Lists, Nested, NonZeros, Numbers, Owned, Results, Shared,
+    Slices, Tuples, Types, Wrappers,
 };
 use std::alloc::{AllocError, Global};
 use ufmt_parse::{ParseError, uParse};
@@ -61,6 +61,7 @@ fn letters(calls: Calls<'_>) -> Result<TypeLetters, Fault> {
     FurtherKeys::add_all(calls, alloc, "но", &mut letters)?;
     Nested::add_all(calls, alloc, "678", &mut letters)?;
     Tuples::add_all(calls, (), "αβγδεζηθικλμ", &mut letters)?;
+    Floats::add_all(calls, (), "пр", &mut letters)?;
     Ok(letters)
 }
 

@@ -208,6 +208,9 @@ pub type Nested = (Tree, (Node, (Vec<Tree>, ())));
 
 type B = bool;
 
+/// Floats: `пр`.
+pub type Floats = (f32, (f64, ()));
+
 /// Tuples of one field to twelve: `αβγδεζηθικλμ`.
 pub type Tuples = (
     (u32,),

@@ -3,6 +3,7 @@
 mod cells;
 mod characters;
 mod enums;
+mod floats;
 mod integers;
 mod nonzero;
 pub mod options;

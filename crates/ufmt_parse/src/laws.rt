@@ -12,7 +12,7 @@ use std::num::{
 use std::ops::{Bound, ControlFlow, RangeFull};
 use ufmt::cells::CellValue;
 
-/// Integers, nonzero integers, truth values, `()`, characters, orderings and `..` hold no memory.
+/// Integers, nonzero integers, floats, truth values, `()`, characters, orderings and `..` hold no memory.
 pub fn leaves_hold_no_memory<A: Copy>()
     ensures of_u8 { ⟦<u8 as uParse<A>>⟧.holds_no_memory }
     ensures of_u16 { ⟦<u16 as uParse<A>>⟧.holds_no_memory }
@@ -26,6 +26,8 @@ pub fn leaves_hold_no_memory<A: Copy>()
     ensures of_i64 { ⟦<i64 as uParse<A>>⟧.holds_no_memory }
     ensures of_i128 { ⟦<i128 as uParse<A>>⟧.holds_no_memory }
     ensures of_isize { ⟦<isize as uParse<A>>⟧.holds_no_memory }
+    ensures of_f32 { ⟦<f32 as uParse<A>>⟧.holds_no_memory }
+    ensures of_f64 { ⟦<f64 as uParse<A>>⟧.holds_no_memory }
     ensures of_nonzero_u8 { ⟦<NonZeroU8 as uParse<A>>⟧.holds_no_memory }
     ensures of_nonzero_u16 { ⟦<NonZeroU16 as uParse<A>>⟧.holds_no_memory }
     ensures of_nonzero_u32 { ⟦<NonZeroU32 as uParse<A>>⟧.holds_no_memory }

@@ -1,5 +1,6 @@
 pub mod CharacterFronts
 pub mod DecimalFronts
+pub mod FloatFronts
 pub mod IntegerFronts
 pub mod PackedDigits
 pub mod PlainFronts

@@ -1,5 +1,6 @@
 -- The values of each number type, for `is_value` of types with numbers.
-use Rattle.std.specs.Prelude.{ℕ, ◌^◌, ◌<◌, ◌≢◌, ℤ, pos}
+use Rattle.std.specs.Prelude.{ℕ, ◌^◌, ◌<◌, ◌≢◌, ℤ, pos, T}
+use lib.Ieee.{Float, Format, binary32, binary64, fits}
 use Rattle.std.specs.Int.{w8, w16, w32, w64, w128}
 use Rattle.std.specs.Int.RustNames.{FitsSigned}
 use Rattle.std.specs.Int.NonZero.{non_zero_u8_get, non_zero_u16_get, non_zero_u32_get, non_zero_u64_get, non_zero_u128_get, non_zero_usize_get, non_zero_i8_get, non_zero_i16_get, non_zero_i32_get, non_zero_i64_get, non_zero_i128_get, non_zero_isize_get}
@@ -52,6 +53,16 @@ is_i128 z = FitsSigned w128 z
 
 abbrev pub is_isize : ℤ → Type 0
 is_isize z = FitsSigned w64 z
+
+-- a float of this format
+abbrev pub IsFloatOf : Format → Float → Type 0
+IsFloatOf f x = T (fits f x)
+
+abbrev pub is_f32 : Float → Type 0
+is_f32 x = IsFloatOf binary32 x
+
+abbrev pub is_f64 : Float → Type 0
+is_f64 x = IsFloatOf binary64 x
 
 -- a nonzero number is a value of its type, and not 0
 abbrev pub is_non_zero_u8 : NonZeroU8 → Type 0

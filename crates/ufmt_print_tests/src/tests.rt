@@ -7,6 +7,7 @@ mod blocks;
 mod collections;
 mod decimals;
 mod devices;
+mod floats;
 mod laws;
 mod leaves;
 mod long_values;

@@ -13,6 +13,8 @@ offset; `: `; each byte, with the space before it; spaces in place of the bytes 
 each of their digits and once for the spaces between their groups; two spaces; the bytes as text; and the line feed.
 Spaces and the bytes as text come 64 in a piece, and last what is left.
 
+A number that fits is the bits of a float too, of 32 and of 64. The text of a float is one piece.
+
 A range is its ends and dots between them. A mark of a line adds no pieces. What is between the items of a slice is a
 piece, also if it is empty.
 """
@@ -21,6 +23,7 @@ import re
 from decimal import Decimal
 from typing import NamedTuple
 
+from lib.model import floats
 from lib.model.model import Block, add_pretty, plain, pretty, quoted
 from lib.model.pieces import by_character, by_text, digest, of_value, printed
 
@@ -207,6 +210,9 @@ def numbers(request, text):
     add(-(2**63), 2**63 - 1, 64, 1)
     if -(2**63) <= number <= 2**63 - 1:
         out += [with_places(number, request.pad, width) for width in (0, 0, request.pad_length)]
+    for width in (32, 64):
+        if 0 <= number < 2**width:
+            out.append(by_text(floats.debug(number, width)) * 2 + by_text(floats.display(number, width)))
     return b"".join(out)
 
 
@@ -384,5 +390,8 @@ def made(seed):
             yield asker.request(width, per_row, asker.text(length)).data()
             yield asker.request(min(width, 130), asker.random.randrange(1, 41), asker.number()).data()
             yield asker.request(0, per_row, asker.random.randbytes(length)).data()
+    for width in (32, 64):
+        for bits in floats.edges(width):
+            yield asker.request(1, 1, str(bits).encode()).data()
     for length in (20_000, 70_000):
         yield asker.request(length, length, asker.text(length)).data()

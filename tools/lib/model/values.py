@@ -4,6 +4,7 @@ Each has a letter, which the program prints of a text if a value of the type has
 """
 import re
 
+from lib.model import floats
 from lib.model.model import Block, plain, quoted, unquoted
 
 NUMBER = re.compile(r"0|-?[1-9][0-9]*")
@@ -36,6 +37,25 @@ class Number:
         """A number of the type with any number of digits."""
         size = 10 ** random.randrange(len(str(self.high)))
         return max(self.low, min(self.high, random.randrange(size, 10 * size)))
+
+
+class Float:
+    def __init__(self, width):
+        self.width = width
+
+    def has(self, document):
+        return isinstance(document, str) and floats.reads(document, self.width) is not None
+
+    def made(self, random):
+        """A float of the type, or what is nearly one."""
+        form, bits = random.random(), random.getrandbits(self.width)
+        if form < 0.5:
+            return floats.debug(bits, self.width)
+        if form < 0.75:
+            return floats.debug(random.choice(floats.edges(self.width)), self.width)
+        if form < 0.9:
+            return floats.debug(bits, self.width) + random.choice("05")
+        return random.choice(("4", "4.50", "+4.5", "1E5", "1e5", "-NaN", "nan", "infinity", "-0", ".5", "4."))
 
 
 class Word:
@@ -310,6 +330,7 @@ TYPES = {
         Fields("tuple", "", [(None, unsigned(32))]),
         *(few(count) for count in range(2, 13)),
     ),
+    **row("\u043f\u0440", Float(32), Float(64)),
 }
 
 

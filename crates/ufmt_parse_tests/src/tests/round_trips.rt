@@ -2,7 +2,7 @@
 use super::same;
 use std::collections::BTreeMap;
 use ufmt_parse::{ParseError, parse, round_trip, round_trip_in};
-use ufmt_parse_examples::Set;
+use ufmt_parse_examples::{Sample, Set};
 
 const SET: Set = Set {
     channel: 255,
@@ -14,6 +14,11 @@ fn a_value_comes_back_from_memory(rt: HostRuntime) {
     let alloc = rt.alloc();
     same(&rt, round_trip(alloc, &SET), Ok(SET), "a struct");
     same(&rt, round_trip(alloc, &'\''), Ok('\''), "a character");
+    let sample = Sample {
+        channel: 3,
+        celsius: -4.5,
+    };
+    same(&rt, round_trip(alloc, &sample), Ok(sample), "a float");
     let pair = (1u8, Some(false));
     same(&rt, round_trip(alloc, &pair), Ok(pair), "a tuple");
     let text: Result<String, ParseError> = parse(alloc, "\"a\\n\\\"b\\\\µ\"".as_bytes());

@@ -5,6 +5,7 @@ use crate::pieces::Pieces;
 use std::num::{
     NonZeroI8, NonZeroI16, NonZeroI32, NonZeroI64, NonZeroI128, NonZeroIsize, NonZeroU8,
     NonZeroU16, NonZeroU32, NonZeroU64, NonZeroU128, NonZeroUsize, Saturating, Wrapping,
+    f32_from_bits_with_nan, f64_from_bits_with_nan,
 };
 use ufmt::{
     Decimal, Formatter, pieces, uDebug, uDisplay, uDisplayHex, uDisplayRadix, uDisplayZeros,
@@ -21,8 +22,8 @@ macro_rules! of_types {
     }};
 }
 
-/// Writes the number in decimal digits, also with zeros before them and with places after a point, and in each radix. A
-/// text that is no number is written as the payload of a padded text.
+/// Writes the number in decimal digits, also with zeros before them and with places after a point, and in each radix, and
+/// the floats with these bits. A text that is no number is written as the payload of a padded text.
 pub fn pieces(request: &Request<'_>, text: &str) -> Digest {
     let mut printer = Printer {
         request: *request,
@@ -34,6 +35,16 @@ pub fn pieces(request: &Request<'_>, text: &str) -> Digest {
     printer.number(text.parse::<u32>().ok().map(Wrapping));
     printer.number(text.parse::<i64>().ok().map(Saturating));
     printer.decimal(text.parse::<i64>().ok());
+    printer.float(
+        text.parse::<u32>()
+            .ok()
+            .map(|bits| f32_from_bits_with_nan(bits)),
+    );
+    printer.float(
+        text.parse::<u64>()
+            .ok()
+            .map(|bits| f64_from_bits_with_nan(bits)),
+    );
     printer.pieces.digest
 }
 
@@ -76,6 +87,15 @@ impl Printer<'_> {
             hex number with hex, bin number with hex, oct number with hex, zeros number to width
         );
         let _ = write_line(&mut self.pieces, &line);
+    }
+
+    fn float<T: uDebug + uDisplay + Drop>(&mut self, float: Option<T>) {
+        let Some(float) = float else {
+            return;
+        };
+        let _ = write_debug(&mut self.pieces, &float);
+        let _ = write_pretty(&mut self.pieces, &float);
+        let _ = write_display(&mut self.pieces, &float);
     }
 
     // The number of places is that of the pad byte.

@@ -26,6 +26,11 @@ fn laws_of_numbers_and_types_can_be_called() {
     laws::nonzero_prints_zeros();
     laws::references_print_zeros::<u8>();
     laws::decimals_denote_their_values();
+    laws::floats_have_one_text();
+    laws::float_texts_are_parsed();
+    laws::float_texts_are_leaves();
+    laws::floats_display_their_texts();
+    laws::documents_of_floats();
     laws::pieces_of_lines::<(), ((), ())>();
     laws::texts_display_as_they_are::<Global>();
     laws::documents_of_leaves::<u8>();
