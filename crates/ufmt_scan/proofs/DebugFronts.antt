@@ -22,9 +22,9 @@ use Rattle.ufmt_grammar.proofs.QuotedSound.{read_quoted-sound}
 use Rattle.ufmt_grammar.specs.declared.class.Class.TheVariants.{Debug}
 use Rattle.ufmt_grammar.specs.Reading.{is_whole}
 use Rattle.ufmt_scan.specs.declared.front.Front.{Front}
-use Rattle.ufmt_scan.specs.Private.Fronts.{EndsAt, EndsLeaf, IsSplit, Passes, StaysBetween, StopsWord, is_ending, is_started}
+use Rattle.ufmt_scan.specs.Private.Fronts.{EndsAt, EndsLeaf, IsSplit, Passes, StaysBetween, StopsWord, begins_name, is_ending, is_started}
 use Rattle.ufmt_scan.specs.Private.MarkedBytes.{is_marked, marked_len}
-use Rattle.ufmt_scan.specs.declared.debug_leaf.TheConstants.{DEBUG_BYTES, LEAF_BYTES, NAME_BYTES, QUOTED_BYTES, WORD_BYTES}
+use Rattle.ufmt_scan.specs.declared.debug_leaf.TheConstants.{DEBUG_BYTES, LEAF_BYTES, NAME_BYTES, QUOTED_BYTES, RUN_BYTES, WORD_BYTES}
 use Rattle.ufmt_scan.proofs.WordBytes.{marks, marks_with}
 
 has_name_bytes-append : (a b : List ℕ) → has_name_bytes (a ++ b) ≡ has_name_bytes a && has_name_bytes b
@@ -90,25 +90,6 @@ word_passes c t h =
     subst (Passes outside (c ∷ t) outside t) (rw plain.word refl)
     (pass_byte outside c t outside (rw (plain_in_word c t plain.word plain.no_backslash) refl))
 
--- what is left after some bytes at the front
-record PassesWord (t : List ℕ) (n : ℕ) : Type 0 where
-  passes : Passes outside t outside (drop n t) true
-  stops : StopsWord (drop n t)
-
-word_run : (t : List ℕ) → PassesWord t (marked_len WORD_BYTES t)
-word_run [] = record { passes = passes_none outside []; stops = tt }
-word_run (c ∷ t) = go (is_marked WORD_BYTES c) (sym (words_are_marked c)) (word_run t)
-  where
-    go : (b : Bool) → is_plain_byte c ≡ b → PassesWord t (marked_len WORD_BYTES t) → PassesWord (c ∷ t) (cond b (suc (marked_len WORD_BYTES t)) 0)
-    go true is more = record { passes = passes_then (word_passes c t is) more.passes; stops = more.stops }
-    go false is more = record { passes = passes_none outside (c ∷ t); stops = is }
-
-pub words_are_passed : (t rest : List ℕ) (n : ℕ) → n ≡ marked_len WORD_BYTES t → rest ≡ drop n t → Passes outside t outside rest true
-words_are_passed t rest n len is = rw (is, len) (word_run t).passes
-
-pub word_stops : (t rest : List ℕ) (n : ℕ) → n ≡ marked_len WORD_BYTES t → rest ≡ drop n t → StopsWord rest
-word_stops t rest n len is = rw (is, len) (word_run t).stops
-
 -- ---- colons, backslashes and `()`
 
 -- a byte of a word is no colon only if a name may have it, and a colon too
@@ -120,6 +101,128 @@ in_word_passes c t h = subst (Passes outside (c ∷ t) outside t) (named (c == 5
     named true false h = refl
     named false true h = refl
     named false false h = absurd (cc)
+
+-- ---- runs of bytes of words and colons
+
+is_run_byte : ℕ → Bool
+is_run_byte c = is_plain_byte c || c == 58
+
+runs_are_marked : (c : ℕ) → is_marked RUN_BYTES c ≡ is_run_byte c
+unfolding is_run_byte
+runs_are_marked c = marks RUN_BYTES is_run_byte refl refl (λ c past. grind (arith, nat_tests)) c
+
+-- whether these bytes end in a colon, and a space is after them
+run_spaced : List ℕ → ℕ → Bool
+run_spaced t n = ends_in_colon (take n t) && is_spaced (drop n t)
+
+-- a run is passed, but for a colon at its end before a space
+record PassesRun (t : List ℕ) (n : ℕ) : Type 0 where
+  whole : run_spaced t n ≡ false → Passes outside t outside (drop n t) true
+  shorter : run_spaced t n ≡ true → (m : ℕ) × (n ≡ suc m) × (begins_with 58 (drop m t) ≡ true) × Passes outside t outside (drop m t) true
+  stops : StopsWord (drop n t)
+
+run_stops_word : (c : ℕ) → is_marked RUN_BYTES c ≡ false → is_plain_byte c ≡ false
+unfolding is_run_byte
+run_stops_word c h = go (is_plain_byte c) refl (sym (runs_are_marked c) ∙ h)
+  where
+    go : (plain : Bool) → is_plain_byte c ≡ plain → is_run_byte c ≡ false → is_plain_byte c ≡ false
+    go false e k = e
+    go true e k = let yes : is_run_byte c ≡ true = rw e refl in absurd (cc)
+
+-- such a byte is passed, if it is no colon before a space
+run_byte_passes : (c : ℕ) (t : List ℕ) → is_marked RUN_BYTES c ≡ true → (c == 58) && is_spaced t ≡ false → Passes outside (c ∷ t) outside t true
+unfolding is_run_byte
+run_byte_passes c t h unspaced = go (is_plain_byte c) (c == 58) refl refl (sym (runs_are_marked c) ∙ h) unspaced
+  where
+    go : (plain colon : Bool) → is_plain_byte c ≡ plain → (c == 58) ≡ colon → plain || colon ≡ true → colon && is_spaced t ≡ false → Passes outside (c ∷ t) outside t true
+    go true colon e f k none = word_passes c t e
+    go false true e f k none = in_word_passes c t (rw (f, none) refl)
+    go false false e f k none = absurd (cc)
+
+-- a run of one byte
+one_runs : (c : ℕ) (t : List ℕ) → is_marked RUN_BYTES c ≡ true → StopsWord t → PassesRun (c ∷ t) 1
+unfolding run_spaced
+one_runs c t h stops = record {
+  whole = λ unspaced. run_byte_passes c t h unspaced;
+  shorter = λ spaced. (0, refl, colon (c == 58) spaced, passes_none outside (c ∷ t));
+  stops = stops;
+}
+  where
+    colon : (ends : Bool) → ends && is_spaced t ≡ true → ends ≡ true
+    colon true k = refl
+    colon false k = absurd (cc)
+
+-- and a longer one: no space comes after its first byte
+more_runs : (c b : ℕ) (u : List ℕ) (k : ℕ) → is_marked RUN_BYTES c ≡ true → is_marked RUN_BYTES b ≡ true → PassesRun (b ∷ u) (suc k) → PassesRun (c ∷ b ∷ u) (suc (suc k))
+unfolding run_spaced is_run_byte
+more_runs c b u k first second more = record {
+  whole = λ unspaced. passes_then passed (more.whole unspaced);
+  shorter = λ spaced. let left = more.shorter spaced in (suc left.0, ap suc left.1, left.2, passes_then passed left.3);
+  stops = more.stops;
+}
+  where
+    no_space_next : is_run_byte b ≡ true → (b == 32) ≡ false
+    no_space_next run = grind (arith, nat_tests)
+
+    and-false : (x : Bool) → x && false ≡ false
+    and-false true = refl
+    and-false false = refl
+
+    passed : Passes outside (c ∷ b ∷ u) outside (b ∷ u) true
+    passed = run_byte_passes c (b ∷ u) first (rw (no_space_next (sym (runs_are_marked b) ∙ second)) (and-false (c == 58)))
+
+run : (t : List ℕ) → PassesRun t (marked_len RUN_BYTES t)
+unfolding run_spaced
+run [] = record { whole = λ unspaced. passes_none outside []; shorter = λ spaced. absurd (cc); stops = tt }
+run (c ∷ t) = go (is_marked RUN_BYTES c) refl (run t)
+  where
+    longer : (t : List ℕ) → is_marked RUN_BYTES c ≡ true → PassesRun t (marked_len RUN_BYTES t) → PassesRun (c ∷ t) (suc (marked_len RUN_BYTES t))
+    longer [] e more = one_runs c [] e tt
+    longer (b ∷ u) e more = by (is_marked RUN_BYTES b) refl more
+      where
+        by : (x : Bool) → is_marked RUN_BYTES b ≡ x → PassesRun (b ∷ u) (cond x (suc (marked_len RUN_BYTES u)) 0)
+            → PassesRun (c ∷ b ∷ u) (suc (cond x (suc (marked_len RUN_BYTES u)) 0))
+        by true f more = more_runs c b u (marked_len RUN_BYTES u) e f more
+        by false f more = one_runs c (b ∷ u) e more.stops
+
+    go : (x : Bool) → is_marked RUN_BYTES c ≡ x → PassesRun t (marked_len RUN_BYTES t) → PassesRun (c ∷ t) (cond x (suc (marked_len RUN_BYTES t)) 0)
+    go true e more = longer t e more
+    go false e more = record { whole = λ unspaced. passes_none outside (c ∷ t); shorter = λ spaced. absurd (cc); stops = run_stops_word c e }
+
+module _ (t front rest : List ℕ) (n : ℕ) (len : n ≡ marked_len RUN_BYTES t) (before : front ≡ take n t) (after : rest ≡ drop n t) where
+  run_here : PassesRun t n
+  run_here = subst (PassesRun t) (sym len) (run t)
+
+  spaced_here : ends_in_colon front && is_spaced rest ≡ run_spaced t n
+  unfolding run_spaced
+  spaced_here = rw (before, after) refl
+
+  pub run_passes : ends_in_colon front && is_spaced rest ≡ false → Passes outside t outside rest true
+  run_passes unspaced = subst (λ u. Passes outside t outside u true) (sym after) (run_here.whole (sym spaced_here ∙ unspaced))
+
+  pub run_stops : StopsWord rest
+  run_stops = subst StopsWord (sym after) run_here.stops
+
+  module _ (spaced : ends_in_colon front && is_spaced rest ≡ true) where
+    pub run_is_some : 1 ≤ n
+    run_is_some = omega (arith, (run_here.shorter (sym spaced_here ∙ spaced)).1)
+
+    module _ (left : List ℕ) (is : left ≡ drop (n - 1) t) where
+      pub shorter_run_passes : Passes outside t outside left true
+      shorter_run_passes =
+          let run = run_here.shorter (sym spaced_here ∙ spaced) in
+          let count : n - 1 ≡ run.0 = omega (arith, run.1) in
+          subst (λ u. Passes outside t outside u true) (sym (is ∙ ap (λ k. drop k t) count)) run.3
+
+      pub shorter_run_stops : StopsWord left
+      shorter_run_stops =
+          let run = run_here.shorter (sym spaced_here ∙ spaced) in
+          let count : n - 1 ≡ run.0 = omega (arith, run.1) in
+          at_colon left (ap (begins_with 58) (is ∙ ap (λ k. drop k t) count) ∙ run.2)
+        where
+          at_colon : (u : List ℕ) → begins_with 58 u ≡ true → StopsWord u
+          at_colon [] h = absurd (cc)
+          at_colon (c ∷ u) h = subst (λ b. is_plain_byte b ≡ false) (sym (eqb-true c 58 h)) refl
 
 -- whether such a byte is in a word
 pub colon_in_word : (c : ℕ) (t : List ℕ) → c ≡ 58 → is_in_word c t ≡ not (is_spaced t)
@@ -364,11 +467,27 @@ past_marked table is marked (c ∷ t) = go (is_marked table c) (is c) (marked c)
     go true false e more = absurd (cc)
     go false true e more = absurd (cc)
 
+-- no start is where no name could begin
+pub no_word_without_name : (t : List ℕ) → begins_name t ≡ false → is_word_closed t ≡ false
+no_word_without_name [] h = refl
+no_word_without_name (c ∷ t) h = go (is_debug_byte c) (c == 58) h
+  where
+    go : (word colon : Bool) → word || colon ≡ false → word && begins_with 41 (past is_debug_byte t) ≡ false
+    go true colon k = absurd (cc)
+    go false colon k = refl
+
+pub no_address_without_name : (t : List ℕ) → begins_name t ≡ false → is_address_closed t ≡ false
+no_address_without_name [] h = refl
+no_address_without_name (c ∷ t) h = ap (λ b. b && is_port (past is_name_byte t)) h
+
 debug_bytes_are_marked : (c : ℕ) → is_marked DEBUG_BYTES c ≡ is_debug_byte c
 debug_bytes_are_marked c = marks DEBUG_BYTES is_debug_byte refl refl (λ c past. grind (arith, nat_tests)) c
 
 name_bytes_are_marked : (c : ℕ) → is_marked NAME_BYTES c ≡ is_name_byte c
 name_bytes_are_marked c = marks NAME_BYTES is_name_byte refl refl (λ c past. grind (arith, nat_tests)) c
+
+pub name_bytes_are_marked_so : (c : ℕ) → (slice_index_or NAME_BYTES c 0 == 119) ≡ is_name_byte c
+name_bytes_are_marked_so c = name_bytes_are_marked c
 
 word_stays : (c : ℕ) (t : List ℕ) → is_debug_byte c ≡ true → place_after in_word c t ≡ Some in_word
 word_stays c t h = let other : (c == 41) ≡ false = grind (arith, nat_tests) in rw (h, other) refl
@@ -598,6 +717,21 @@ module _ (t word : List ℕ) (n : ℕ) (len : n ≡ marked_len LEAF_BYTES t) (fr
       let no_colon : ends_in_colon word ≡ false = rw (front, len) (ascii_run t).no_colon in
       leaf_splits t rest word true (ends_leaf t t rest true (not_started t bare) passes ends) (front ∙ sym (ap (λ k. take k t) count)) found text after
       (named ∙ sym (ap not no_colon)) (IsUtf8-from_ascii word word_is_ascii)
+
+-- a leaf with a start begins with no word
+pub started_by_bracket : (t : List ℕ) (n : ℕ) → n ≡ marked_len LEAF_BYTES t → n ≢ 0 → is_started t ≡ false
+started_by_bracket [] n len some = refl
+started_by_bracket (c ∷ t) n len some = go (is_marked LEAF_BYTES c) refl
+  where
+    bare : is_plain_byte c ≡ true → is_started (c ∷ t) ≡ false
+    bare word =
+        let no_parenthesis : (c == 40) ≡ false = grind (arith, nat_tests) in
+        let no_bracket : (c == 91) ≡ false = grind (arith, nat_tests) in
+        rw (no_parenthesis, no_bracket) refl
+
+    go : (b : Bool) → is_marked LEAF_BYTES c ≡ b → is_started (c ∷ t) ≡ false
+    go true e = bare (marked_in_ascii c e).word
+    go false e = absurd (some (len ∙ ap (λ b. cond b (suc (marked_len LEAF_BYTES t)) 0) e))
 
 -- a text whose last byte is no colon
 ends_otherwise : (w : List ℕ) (c : ℕ) → (c == 58) ≡ false → ends_in_colon (w ++ c ∷ []) ≡ false

@@ -2,8 +2,8 @@
 //! address in brackets before them.
 ghost use Rattle.std.specs.Prelude.{◌≡◌, ◌<◌, ◌≤◌, ◌==◌, ◌&&◌, ◌||◌, ◌≢◌, ◌∷◌, [], ℕ, IfSome, IsTrue, MatchOption, None, false, length, nat_le, not, true};
 ghost use Rattle.ufmt_grammar.specs.declared.class.Class.TheVariants.{Debug};
-ghost use Rattle.ufmt_grammar.specs.Leaves.{after_quotes, beginning, begins_quote, begins_with, between, ends_in_colon, is_address_closed, is_control, is_in_word, is_plain_byte, is_quote, is_spaced, is_word_closed, outside, place_outside};
-ghost use Rattle.ufmt_scan.specs.Private.Fronts.{EndsAt, EndsLeaf, IsSplit, NeverCloses, Passes, SplitsFront, StaysBetween, StopsWord, is_ending, is_started};
+ghost use Rattle.ufmt_grammar.specs.Leaves.{after_quotes, beginning, begins_quote, begins_with, between, ends_in_colon, is_address_closed, is_control, is_in_word, is_name_byte, is_plain_byte, is_quote, is_spaced, is_word_closed, outside, place_outside};
+ghost use Rattle.ufmt_scan.specs.Private.Fronts.{EndsAt, EndsLeaf, IsSplit, NeverCloses, Passes, SplitsFront, StaysBetween, StopsWord, begins_name, is_ending, is_started};
 
 use crate::front::Front;
 use crate::leaf::marked_len;
@@ -33,6 +33,13 @@ static DEBUG_BYTES: [u8; 256] = *b"\
     wwwwwwwwwwwwwwwwwwwwwwwwwwwwwwwwwwwwwwwwwwwwwwwwwwwwwwwwwwwwwwww\
     wwwwwwwwwwwwwwwwwwwwwwwwwwwwwwwwwwwwwwwwwwwwwwwwwwwwwwwwwwwwwwww";
 
+// Marks each byte of a word that is no backslash, and a colon.
+static RUN_BYTES: [u8; 256] = *b"\
+    .................................w.wwww...ww.wwwwwwwwwwwwwwwwwww\
+    wwwwwwwwwwwwwwwwwwwwwwwwwww...wwwwwwwwwwwwwwwwwwwwwwwwwwwww.w.w.\
+    wwwwwwwwwwwwwwwwwwwwwwwwwwwwwwwwwwwwwwwwwwwwwwwwwwwwwwwwwwwwwwww\
+    wwwwwwwwwwwwwwwwwwwwwwwwwwwwwwwwwwwwwwwwwwwwwwwwwwwwwwwwwwwwwwww";
+
 // Marks each byte that a name may have: that of a word, and a colon.
 static NAME_BYTES: [u8; 256] = *b"\
     .................................w.wwww...ww.wwwwwwwwwwwwwwwwwww\
@@ -53,7 +60,7 @@ pub(crate) fn split_debug_word(input: &[u8]) -> Option<Front<'_>>
     ensures { IfSome result (λ front. IsSplit Debug input.now front) }
 {
     let (word, rest) = input.split_at(marked_len(&LEAF_BYTES, input));
-    if ends_here(rest) && !is_started(input) {
+    if ends_here(rest) && (!word.is_empty() || !is_started(rest)) {
         Some(Front {
             text: text_from(word, 0),
             is_name: true,
@@ -156,15 +163,65 @@ fn after_leaf(input: &[u8]) -> Option<(&[u8], bool)>
     }
 }
 
-// Whether the leaf begins with a word in parentheses, or an address in brackets and a colon.
+// Whether the leaf begins with a word in parentheses, or an address in brackets and a colon. In pretty
+// texts the byte after the bracket tells.
 #[inline(always)]
 fn is_started(input: &[u8]) -> bool
     ensures { result ≡ is_started input.now }
 {
     match input.split_first() {
-        Some((b'(', after)) => after_closed_word(after).is_some(),
-        Some((b'[', after)) => after_closed_address(after).is_some(),
+        Some((b'(', after)) => is_word_here(after),
+        Some((b'[', after)) => is_address_here(after),
         _ => false,
+    }
+}
+
+#[inline(always)]
+#[tactic(auto, using(crate::proofs::DebugFronts::no_word_without_name))]
+fn is_word_here(input: &[u8]) -> bool
+    ensures { result ≡ is_word_closed input.now }
+{
+    begins_name(input) && is_word_closed(input)
+}
+
+#[inline(always)]
+#[tactic(auto, using(crate::proofs::DebugFronts::no_address_without_name))]
+fn is_address_here(input: &[u8]) -> bool
+    ensures { result ≡ is_address_closed input.now }
+{
+    begins_name(input) && is_address_closed(input)
+}
+
+// These two are cold, so that the scan's loop keeps its registers.
+#[cold]
+fn is_word_closed(input: &[u8]) -> bool
+    ensures { result ≡ is_word_closed input.now }
+{
+    after_closed_word(input).is_some()
+}
+
+#[cold]
+fn is_address_closed(input: &[u8]) -> bool
+    ensures { result ≡ is_address_closed input.now }
+{
+    after_closed_address(input).is_some()
+}
+
+#[inline(always)]
+#[tactic(auto, using(crate::proofs::DebugFronts::name_bytes_are_marked_so))]
+fn is_name_byte(byte: u8) -> bool
+    ensures { result ≡ is_name_byte byte }
+{
+    NAME_BYTES[byte as usize] == b'w'
+}
+
+#[inline(always)]
+fn begins_name(input: &[u8]) -> bool
+    ensures { result ≡ begins_name input.now }
+{
+    match input.split_first() {
+        Some((&byte, _)) => is_name_byte(byte),
+        None => false,
     }
 }
 
@@ -222,15 +279,21 @@ fn after_closed_address(input: &[u8]) -> Option<&[u8]>
     }
 }
 
-// What follows the bytes of a word, if there are any.
+// What follows bytes of a word and colons, if there are any. Only the last colon may be before a space.
 #[inline(always)]
-#[tactic(auto, using(crate::proofs::DebugFronts::words_are_passed, crate::proofs::DebugFronts::word_stops))]
+#[tactic(auto, using(crate::proofs::DebugFronts::run_passes, crate::proofs::DebugFronts::run_stops, crate::proofs::DebugFronts::shorter_run_passes, crate::proofs::DebugFronts::shorter_run_stops, crate::proofs::DebugFronts::run_is_some))]
 fn after_word(input: &[u8]) -> &[u8]
     ensures passes { Passes outside input.now outside result.now true }
     ensures stops { StopsWord result.now }
     ensures within { length result.now ≤ length input.now }
 {
-    input.split_at(marked_len(&WORD_BYTES, input)).1
+    let len = marked_len(&RUN_BYTES, input);
+    let (run, rest) = input.split_at(len);
+    if ends_in_colon(run) && is_spaced(rest) {
+        input.split_at(len - 1).1
+    } else {
+        rest
+    }
 }
 
 // Whether a colon or a backslash is in a word, before this rest of the text.

@@ -246,6 +246,8 @@ def no_texts():
         "colons and spaces": lambda size: "x: " * (size // 3),
         "an open quote after quotes": lambda size: '"a"' * (size // 3) + '"',
         "an open quote after quotes and words": lambda size: "'a'.." * (size // 5) + "'",
+        "open parentheses before words": lambda size: "(w" * (size // 2),
+        "open brackets before addresses": lambda size: "[v" * (size // 2),
         "points and a control": lambda size: "." * size + "\x7f",
         "opening brackets": lambda size: "[" * size,
         "spaces": lambda size: " " * size,

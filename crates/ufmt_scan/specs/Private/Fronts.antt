@@ -2,7 +2,7 @@
 use Rattle.std.specs.Prelude.{◌≡◌, ℕ, ◌==◌, ◌&&◌, ◌||◌, nat_le, Bool, true, false, not, List, [], ◌∷◌, ◌++◌, Option, None, MatchOption, ⊤}
 use Rattle.ufmt_core.specs.Bytes.{colon, opening_bracket, opening_parenthesis}
 use Rattle.ufmt_grammar.specs.declared.class.Class.{Class}
-use Rattle.ufmt_grammar.specs.Leaves.{Place, beginning, between, is_outside, is_address_closed, is_plain_byte, is_word_closed, place_outside, has_name_bytes, is_debug_byte, is_quote}
+use Rattle.ufmt_grammar.specs.Leaves.{Place, beginning, between, is_outside, is_address_closed, is_name_byte, is_plain_byte, is_word_closed, place_outside, has_name_bytes, is_debug_byte, is_quote}
 use Rattle.ufmt_grammar.specs.Reading.{front_of, after_front, is_whole, is_name, leaf_from, after_leaf, last_place}
 use Rattle.ufmt_scan.specs.declared.front.Front.{Front}
 
@@ -43,6 +43,11 @@ pub record StaysBetween (quote : ℕ) (t rest : List ℕ) : Type 0 where
 -- no leaf of a debug document has this byte outside of quotes
 abbrev pub is_ending : ℕ → Bool
 is_ending c = nat_le c 255 && not (is_debug_byte c || is_quote c || c == colon || c == opening_parenthesis)
+
+-- a name could begin here
+abbrev pub begins_name : List ℕ → Bool
+begins_name [] = false
+begins_name (c ∷ t) = is_name_byte c
 
 -- the leaf begins with a word in parentheses, or an address in brackets and a colon
 abbrev pub is_started : List ℕ → Bool
