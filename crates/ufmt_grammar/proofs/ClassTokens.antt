@@ -11,10 +11,11 @@ use Rattle.ufmt_core.specs.Bytes.{apostrophe, backslash, closing_brace, colon, o
 use Rattle.ufmt_core.specs.Quoted.{IsQuote, escaped_byte, escaped_bytes, hex_digits, quoted}
 use Rattle.ufmt_core.specs.Document.{Document, leaf, joined, list_of, set_of, map_of, struct_of, non_exhaustive_of, tuple_of, pretty_part, Documents, no_documents, first_document, Pairs, no_pairs, first_pair, Fields, no_fields, first_field}
 use Rattle.ufmt_grammar.specs.Token.{Token, Debug, IsWord, IsWordOrEmpty, OrEmpty, IsName, IsLeaf, IsBuilt, AreBuilt, PairsAreBuilt, FieldsAreBuilt}
-use Rattle.ufmt_grammar.specs.Leaves.{is_word_byte, is_debug_byte, is_control, is_in_word, has_name_bytes, ends_in_colon, beginning, outside, after_quotes, between, after_backslash, place_after, EndsLeaf, IsSymbol, IsTokenLeaf, IsDebugLeaf, IsDebugWord}
+use Rattle.ufmt_grammar.specs.Leaves.{is_word_byte, is_debug_byte, is_control, is_in_word, has_name_bytes, ends_in_colon, opens_quotes, beginning, outside, after_quotes, between, after_backslash, place_after, EndsLeaf, IsSymbol, IsTokenLeaf, IsDebugLeaf, IsDebugWord}
 use Rattle.ufmt_grammar.specs.ReadingLaws.{TokensAreDebug}
+use Rattle.ufmt_grammar.proofs.CharactersClose.{bytes_close}
 use Rattle.ufmt_grammar.proofs.ClassLeaves.{unit_leaf}
-use Rattle.ufmt_grammar.proofs.DebugLeaves.{from_beginning}
+use Rattle.ufmt_grammar.proofs.DebugLeaves.{at_beginning, from_beginning, step_outside}
 use Rattle.ufmt_grammar.proofs.QuotedComplete.{quoted-bytes}
 use Rattle.ufmt_grammar.proofs.QuotedDecoded.{each_row}
 use Rattle.ufmt_grammar.proofs.QuotedUtf8.{quoted-utf8}
@@ -145,16 +146,19 @@ module _ (q : ℕ) (quote : IsQuote q) where
   bytes_inside [] = (after_quotes, of_quote (λ c. place_after (between c) c [] ≡ Some after_quotes) refl refl, refl)
   bytes_inside (b ∷ bs) = rw (append_assoc (escaped_byte q b) (escaped_bytes q bs) (q ∷ [])) (byte_inside b (escaped_bytes q bs ++ (q ∷ [])) (bytes_inside bs))
 
-  -- characters in quotes are the text of a leaf
-  quoted_is_text : (cs : List ℕ) → all_scalars cs ≡ true → IsDebugLeaf (quoted q cs)
-  quoted_is_text cs scalars = record {
+  -- characters in quotes are the text of a leaf, if the quotes open
+  quoted_is_text : (cs : List ℕ) → all_scalars cs ≡ true → opens_quotes q (escaped_bytes q (encode_utf8_all cs) ++ (q ∷ [])) ≡ true → IsDebugLeaf (quoted q cs)
+  quoted_is_text cs scalars opens = record {
     some = λ none. absurd (cc);
-    pieces = subst (EndsLeaf beginning) (sym (quoted-bytes q cs quote)) (between q, of_quote (λ c. place_after beginning c (escaped_bytes q bytes ++ (q ∷ [])) ≡ Some (between c)) refl refl, bytes_inside bytes);
+    pieces = subst (EndsLeaf beginning) (sym (quoted-bytes q cs quote)) (between q, opened, bytes_inside bytes);
     utf8 = is_utf8-from_IsUtf8 (quoted q cs) (subst IsUtf8 (sym (quoted-bytes q cs quote)) ((quoted-utf8 q quote bytes).1 (cs, (scalars, refl))));
   }
     where
       bytes : List ℕ
       bytes = encode_utf8_all cs
+
+      opened : place_after beginning q (escaped_bytes q bytes ++ (q ∷ [])) ≡ Some (between q)
+      opened = at_beginning q (escaped_bytes q bytes ++ (q ∷ [])) (between q) (step_outside q (escaped_bytes q bytes ++ (q ∷ [])) (between q) (inr (inl (opens, refl))))
 
 -- ---- documents
 
@@ -164,8 +168,8 @@ leaf_is_debug text h = go h.shape
     go : IsWord text ⊎ IsSymbol text → IsLeaf Debug text
     go (inl w) = word_is_text text w
     go (inr (inl unit)) = subst IsDebugLeaf (sym unit) (unit_leaf Debug)
-    go (inr (inr (inl of_text))) = subst IsDebugLeaf (sym of_text.2) (quoted_is_text quotation_mark (inl refl) of_text.0 of_text.1)
-    go (inr (inr (inr of_char))) = subst IsDebugLeaf (sym of_char.2) (quoted_is_text apostrophe (inr refl) (of_char.0 ∷ []) (rw of_char.1 refl))
+    go (inr (inr (inl of_text))) = subst IsDebugLeaf (sym of_text.2) (quoted_is_text quotation_mark (inl refl) of_text.0 of_text.1 refl)
+    go (inr (inr (inr of_char))) = subst IsDebugLeaf (sym of_char.2) (quoted_is_text apostrophe (inr refl) (of_char.0 ∷ []) (rw of_char.1 refl) (bytes_close of_char.0))
 
 name_is_debug : (w : List ℕ) → OrEmpty (IsName Token) w → OrEmpty (IsName Debug) w
 name_is_debug [] h = tt

@@ -3,28 +3,53 @@ use Rattle.std.proofs.Common.{◌≡◌, ◌⊎◌, inl, inr, refl, ap, sym, sub
 use Rattle.std.specs.Prelude.{⊤}
 use Rattle.std.proofs.lemmas.Bool.Decides.{nat_tests}
 use Rattle.ufmt_core.specs.Bytes.{apostrophe, backslash, closing_bracket, closing_parenthesis, colon, opening_bracket, opening_parenthesis, quotation_mark, space}
-use Rattle.ufmt_grammar.specs.Leaves.{is_control, is_quote, is_ender, is_debug_byte, begins_with, begins_quote, is_spaced, is_in_word, is_plain_byte, is_name_byte, past, is_word_closed, is_port, is_address_closed, Place, beginning, outside, after_quotes, in_parentheses, in_word, in_address, after_address, between, after_backslash, is_outside, place_outside, place_after, EndsLeaf, ends_in_colon, IsDebugFollower}
+use Rattle.ufmt_grammar.specs.Leaves.{is_control, is_quote, is_ender, is_debug_byte, begins_with, begins_quote, is_spaced, is_in_word, is_plain_byte, is_name_byte, past, is_word_closed, is_port, is_address_closed, begins_plain, is_continuation, is_escape_byte, is_escape_closed, is_character_closed, opens_quotes, is_lifetime, Place, beginning, outside, after_quotes, in_parentheses, in_word, in_address, after_address, between, after_backslash, is_outside, place_outside, place_after, EndsLeaf, ends_in_colon, IsDebugFollower}
 use Rattle.ufmt_grammar.specs.Parse.{choose}
 use Rattle.ufmt_grammar.specs.Reading.{leaf_from, after_leaf, last_place}
 use Rattle.ufmt_grammar.proofs.ReadingWords.{each_ender}
 
 -- ---- bytes outside of quotes
 
--- a byte outside of quotes is in a word, or opens quotes or `()`
+-- a byte outside of quotes is in a word, opens quotes, is a lifetime's apostrophe, or opens `()`
 abbrev pub OutsideStep : ℕ → List ℕ → Place → Type 0
-OutsideStep c t next = ((is_in_word c t ≡ true) × (next ≡ outside)) ⊎ ((is_quote c ≡ true) × (next ≡ between c))
-    ⊎ ((c ≡ opening_parenthesis) × (begins_with closing_parenthesis t ≡ true) × (next ≡ in_parentheses))
+OutsideStep c t next = ((is_in_word c t ≡ true) × (next ≡ outside)) ⊎ ((opens_quotes c t ≡ true) × (next ≡ between c))
+    ⊎ ((opens_quotes c t ≡ false) × (is_lifetime c t ≡ true) × (next ≡ outside)) ⊎ ((c ≡ opening_parenthesis) × (begins_with closing_parenthesis t ≡ true) × (next ≡ in_parentheses))
 
 pub outside_step : (c : ℕ) (t : List ℕ) (next : Place) → place_outside c t ≡ Some next → OutsideStep c t next
-outside_step c t next h = go (is_in_word c t) (is_quote c) (c == opening_parenthesis) (begins_with closing_parenthesis t) refl refl refl refl h
+outside_step c t next h = go (is_in_word c t) (opens_quotes c t) (is_lifetime c t) (c == opening_parenthesis) (begins_with closing_parenthesis t) refl refl refl refl refl h
   where
-    go : (word quote opens closes : Bool) → is_in_word c t ≡ word → is_quote c ≡ quote → (c == opening_parenthesis) ≡ opens → begins_with closing_parenthesis t ≡ closes
-        → cond word (Some outside) (cond quote (Some (between c)) (cond (opens && closes) (Some in_parentheses) None)) ≡ Some next → OutsideStep c t next
-    go true quote opens closes e f g k h = inl (e, cc)
-    go false true opens closes e f g k h = inr (inl (f, cc))
-    go false false true true e f g k h = inr (inr (eqb-true c opening_parenthesis g, k, cc))
-    go false false true false e f g k h = absurd (cc)
-    go false false false closes e f g k h = absurd (cc)
+    go : (word quote lifetime opens closes : Bool) → is_in_word c t ≡ word → opens_quotes c t ≡ quote → is_lifetime c t ≡ lifetime
+        → (c == opening_parenthesis) ≡ opens → begins_with closing_parenthesis t ≡ closes
+        → cond word (Some outside) (cond quote (Some (between c)) (cond lifetime (Some outside) (cond (opens && closes) (Some in_parentheses) None))) ≡ Some next → OutsideStep c t next
+    go true quote lifetime opens closes e f l g k h = inl (e, cc)
+    go false true lifetime opens closes e f l g k h = inr (inl (f, cc))
+    go false false true opens closes e f l g k h = inr (inr (inl (f, l, cc)))
+    go false false false true true e f l g k h = inr (inr (inr (eqb-true c opening_parenthesis g, k, cc)))
+    go false false false true false e f l g k h = absurd (cc)
+    go false false false false closes e f l g k h = absurd (cc)
+
+-- an opening quote is a quotation mark, or an apostrophe before a character
+pub opens_by : (c : ℕ) (t : List ℕ) → opens_quotes c t ≡ true → (c ≡ quotation_mark) ⊎ ((c ≡ apostrophe) × (is_character_closed t ≡ true))
+opens_by c t h = go (c == quotation_mark) (c == apostrophe) (is_character_closed t) refl refl refl h
+  where
+    go : (mark apostrophes character : Bool) → (c == quotation_mark) ≡ mark → (c == apostrophe) ≡ apostrophes → is_character_closed t ≡ character
+        → mark || apostrophes && character ≡ true → (c ≡ quotation_mark) ⊎ ((c ≡ apostrophe) × (is_character_closed t ≡ true))
+    go true apostrophes character e f g h = inl (eqb-true c quotation_mark e)
+    go false true true e f g h = inr (eqb-true c apostrophe f, g)
+    go false true false e f g h = absurd (cc)
+    go false false character e f g h = absurd (cc)
+
+pub opening_is_quote : (c : ℕ) (t : List ℕ) → opens_quotes c t ≡ true → is_quote c ≡ true
+opening_is_quote c t h = elim (opens_by c t h) [ inl mark ↦ rw mark refl | inr character ↦ rw character.0 refl ]
+
+-- so is the apostrophe of a lifetime, before a byte of a word
+pub lifetime_by : (c : ℕ) (t : List ℕ) → is_lifetime c t ≡ true → (c ≡ apostrophe) × (begins_plain t ≡ true)
+lifetime_by c t h = go (c == apostrophe) (begins_plain t) refl refl h
+  where
+    go : (apostrophes plain : Bool) → (c == apostrophe) ≡ apostrophes → begins_plain t ≡ plain → apostrophes && plain ≡ true → (c ≡ apostrophe) × (begins_plain t ≡ true)
+    go true true e f h = (eqb-true c apostrophe e, f)
+    go true false e f h = absurd (cc)
+    go false plain e f h = absurd (cc)
 
 -- a property of each quote holds of every quote
 pub each_quote : (P : ℕ → Type 0) → P quotation_mark → P apostrophe → (c : ℕ) → is_quote c ≡ true → P c
@@ -37,12 +62,28 @@ each_quote P of_mark of_apostrophe c h = go (c == quotation_mark) (c == apostrop
 
 pub step_outside : (c : ℕ) (t : List ℕ) (next : Place) → OutsideStep c t next → place_outside c t ≡ Some next
 step_outside c t next (inl h) = rw (h.0, h.1) refl
-step_outside c t next (inr (inl h)) = rw h.1 (each_quote (λ b. place_outside b t ≡ Some (between b)) refl refl c h.0)
-step_outside c t next (inr (inr h)) = rw (h.0, h.1, h.2) refl
+step_outside c t next (inr (inl h)) = rw h.1 (quotes (opens_by c t h.0))
+  where
+    quotes : (c ≡ quotation_mark) ⊎ ((c ≡ apostrophe) × (is_character_closed t ≡ true)) → place_outside c t ≡ Some (between c)
+    quotes (inl mark) = rw mark refl
+    quotes (inr character) = rw (character.0, character.1) refl
+step_outside c t next (inr (inr (inl h))) = rw h.2 (lifetime (lifetime_by c t h.1) h.0)
+  where
+    lifetime : (c ≡ apostrophe) × (begins_plain t ≡ true) → opens_quotes c t ≡ false → place_outside c t ≡ Some outside
+    lifetime is none =
+        let character : is_character_closed t ≡ false = sym (ap (λ b. opens_quotes b t) is.0) ∙ none in
+        rw (is.0, character, is.1) refl
+step_outside c t next (inr (inr (inr h))) = rw (h.0, h.1, h.2) refl
 
 -- a byte of a word that is no backslash is in a word, whatever follows
 pub plain_in_word : (c : ℕ) (t : List ℕ) → is_debug_byte c ≡ true → (c == backslash) ≡ false → is_in_word c t ≡ true
 plain_in_word c t word plain = let no_colon : (c == colon) ≡ false = grind (arith, nat_tests) in rw (word, no_colon, plain) refl
+
+pub plain_is_in_word : (c : ℕ) (t : List ℕ) → is_plain_byte c ≡ true → is_in_word c t ≡ true
+plain_is_in_word c t h =
+    let word : is_debug_byte c ≡ true = grind (arith, nat_tests) in
+    let plain : (c == backslash) ≡ false = grind (arith, nat_tests) in
+    plain_in_word c t word plain
 
 -- no word has a space
 pub no_space : (c : ℕ) (t : List ℕ) (next : Place) → place_outside c t ≡ Some next → (c == space) ≡ false
@@ -88,6 +129,8 @@ record SameAhead (c : ℕ) (next : Place) (t u : List ℕ) : Type 0 where
   closes : next ≡ in_parentheses → begins_with closing_parenthesis t ≡ true → begins_with closing_parenthesis u ≡ true
   word : next ≡ in_word → is_word_closed t ≡ true → is_word_closed u ≡ true
   address : next ≡ in_address → is_address_closed t ≡ true → is_address_closed u ≡ true
+  character : next ≡ between apostrophe → is_character_closed t ≡ true → is_character_closed u ≡ true
+  lifetime : next ≡ outside → is_character_closed t ≡ false → begins_plain t ≡ true → (is_character_closed u ≡ false) × (begins_plain u ≡ true)
 
 word_too : (c : ℕ) (t u : List ℕ) → ((c == colon) ≡ true → is_spaced t ≡ false → is_spaced u ≡ false) → (begins_quote t ≡ false → begins_quote u ≡ false)
     → is_in_word c t ≡ true → is_in_word c u ≡ true
@@ -102,13 +145,26 @@ word_too c t u unspaced no_quote h = go (c == colon) (is_spaced t) (is_debug_byt
     go false spaced true true true e f g k l h = absurd (cc)
     go false spaced true true false e f g k l h = rw (g, e, k, no_quote l) refl
 
+quotes_too : (c : ℕ) (t u : List ℕ) (next : Place) → SameAhead c next t u → next ≡ between c → (c ≡ quotation_mark) ⊎ ((c ≡ apostrophe) × (is_character_closed t ≡ true))
+    → opens_quotes c u ≡ true
+quotes_too c t u next same place (inl mark) = rw mark refl
+quotes_too c t u next same place (inr character) = rw (character.0, same.character (place ∙ ap between character.0) character.1) refl
+
+lifetime_too : (c : ℕ) (t u : List ℕ) (next : Place) → SameAhead c next t u → next ≡ outside → (c ≡ apostrophe) × (begins_plain t ≡ true) → opens_quotes c t ≡ false
+    → (opens_quotes c u ≡ false) × (is_lifetime c u ≡ true) × (next ≡ outside)
+lifetime_too c t u next same place is none =
+    let character : is_character_closed t ≡ false = sym (ap (λ b. opens_quotes b t) is.0) ∙ none in
+    let later = same.lifetime place character is.1 in
+    (rw (is.0, later.0) refl, rw (is.0, later.1) refl, place)
+
 outside_too : (c : ℕ) (t u : List ℕ) (next : Place) → SameAhead c next t u → place_outside c t ≡ Some next → place_outside c u ≡ Some next
 outside_too c t u next same h = step_outside c u next (go (outside_step c t next h))
   where
     go : OutsideStep c t next → OutsideStep c u next
     go (inl step) = inl (word_too c t u (same.unspaced step.1) same.no_quote step.0, step.1)
-    go (inr (inl step)) = inr (inl step)
-    go (inr (inr step)) = inr (inr (step.0, same.closes step.2 step.1, step.2))
+    go (inr (inl step)) = inr (inl (quotes_too c t u next same step.1 (opens_by c t step.0), step.1))
+    go (inr (inr (inl step))) = inr (inr (inl (lifetime_too c t u next same step.2 (lifetime_by c t step.1) step.0)))
+    go (inr (inr (inr step))) = inr (inr (inr (step.0, same.closes step.2 step.1, step.2)))
 
 -- a byte of the leaf belongs to it too where the same comes next
 after_too : (place : Place) (c : ℕ) (t u : List ℕ) (next : Place) → SameAhead c next t u → place_after place c t ≡ Some next → place_after place c u ≡ Some next
@@ -192,6 +248,68 @@ address_more (c ∷ w) u h =
     let parts = both (is_name_byte c) (is_port (past is_name_byte w)) h in
     rw (parts.0, past_more is_name_byte is_port refl port_more w u parts.1) refl
 
+-- a character is closed in a longer text too
+character_more : (w u : List ℕ) → is_character_closed w ≡ true → is_character_closed (w ++ u) ≡ true
+character_more [] u h = absurd (cc)
+character_more (c ∷ w) u h = go (c == backslash) h
+  where
+    escape : (w : List ℕ) → is_escape_closed w ≡ true → is_escape_closed (w ++ u) ≡ true
+    escape [] k = absurd (cc)
+    escape (b ∷ w) k =
+        let parts = both (not (is_control b || nat_le 128 b)) (begins_with apostrophe (past is_escape_byte w)) k in
+        rw (parts.0, past_more is_escape_byte (begins_with apostrophe) refl (λ d t v e. e) w u parts.1) refl
+
+    go : (escapes : Bool) → cond escapes (is_escape_closed w) (not (is_control c || c == apostrophe) && begins_with apostrophe (past is_continuation w)) ≡ true
+        → cond escapes (is_escape_closed (w ++ u)) (not (is_control c || c == apostrophe) && begins_with apostrophe (past is_continuation (w ++ u))) ≡ true
+    go true k = escape w k
+    go false k =
+        let parts = both (not (is_control c || c == apostrophe)) (begins_with apostrophe (past is_continuation w)) k in
+        rw (parts.0, past_more is_continuation (begins_with apostrophe) refl (λ d t v e. e) w u parts.1) refl
+
+-- a byte of a word at the front is no control, no apostrophe and no backslash
+record IsLetter (c : ℕ) : Type 0 where
+  inside : not (is_control c || c == apostrophe) ≡ true
+  no_backslash : (c == backslash) ≡ false
+
+plain_is_letter : (c : ℕ) → is_plain_byte c ≡ true → IsLetter c
+plain_is_letter c h = record { inside = grind (arith, nat_tests); no_backslash = grind (arith, nat_tests) }
+
+-- so before it an apostrophe opens quotes only if one comes after the character
+pub character_by : (c : ℕ) (t : List ℕ) → is_plain_byte c ≡ true → is_character_closed (c ∷ t) ≡ begins_with apostrophe (past is_continuation t)
+character_by c t h =
+    let letter = plain_is_letter c h in
+    rw (letter.no_backslash, letter.inside) refl
+
+-- what stops a leaf begins with no apostrophe after the rest of a character
+no_apostrophe_past : (u : List ℕ) → StopsLeaf u → begins_with apostrophe (past is_continuation u) ≡ false
+no_apostrophe_past [] stops = refl
+no_apostrophe_past (c ∷ u) stops = go (is_continuation c) refl
+  where
+    other : is_quote c ≡ false → (c == apostrophe) ≡ false
+    other none = grind (arith, nat_tests)
+
+    go : (more : Bool) → is_continuation c ≡ more → begins_with apostrophe (cond more (past is_continuation u) (c ∷ u)) ≡ false
+    go true e =
+        let word : is_debug_byte c ≡ true = grind (arith, nat_tests) in
+        let plain : (c == backslash) ≡ false = grind (arith, nat_tests) in
+        let step : place_outside c u ≡ Some outside = rw (plain_in_word c u word plain) refl in
+        absurd (cc (step, stops.0))
+    go false e = other stops.1
+
+no_apostrophe_more : (w u : List ℕ) → StopsLeaf u → begins_with apostrophe (past is_continuation w) ≡ false → begins_with apostrophe (past is_continuation (w ++ u)) ≡ false
+no_apostrophe_more [] u stops h = no_apostrophe_past u stops
+no_apostrophe_more (c ∷ w) u stops h = go (is_continuation c) h (λ k. no_apostrophe_more w u stops k)
+  where
+    go : (more : Bool) → begins_with apostrophe (cond more (past is_continuation w) (c ∷ w)) ≡ false
+        → (begins_with apostrophe (past is_continuation w) ≡ false → begins_with apostrophe (past is_continuation (w ++ u)) ≡ false)
+        → begins_with apostrophe (cond more (past is_continuation (w ++ u)) (c ∷ (w ++ u))) ≡ false
+    go true k others = others k
+    go false k others = k
+
+-- a lifetime at a leaf's end stays one before what stops the leaf
+no_character_more : (c : ℕ) (w u : List ℕ) → is_plain_byte c ≡ true → StopsLeaf u → is_character_closed (c ∷ w) ≡ false → is_character_closed (c ∷ (w ++ u)) ≡ false
+no_character_more c w u plain stops h = character_by c (w ++ u) plain ∙ no_apostrophe_more w u stops (sym (character_by c w plain) ∙ h)
+
 no_quote_next : (u : List ℕ) → StopsLeaf u → begins_quote u ≡ false
 no_quote_next [] stops = refl
 no_quote_next (c ∷ u) stops = stops.1
@@ -204,6 +322,8 @@ same_before c next [] u ends stops seam = record {
   closes = λ place h. absurd (cc);
   word = λ place h. absurd (cc);
   address = λ place h. absurd (cc);
+  character = λ place h. absurd (cc);
+  lifetime = λ place h plain. absurd (cc);
 }
 same_before c next (b ∷ w) u ends stops seam = record {
   unspaced = λ place is h. let none = no_space b w ends.0 (subst (λ p. place_after p b w ≡ Some ends.0) place ends.1) in rw none refl;
@@ -211,6 +331,8 @@ same_before c next (b ∷ w) u ends stops seam = record {
   closes = λ place h. h;
   word = λ place h. word_more (b ∷ w) u h;
   address = λ place h. address_more (b ∷ w) u h;
+  character = λ place h. character_more (b ∷ w) u h;
+  lifetime = λ place h plain. (no_character_more b w u plain stops h, plain);
 }
 
 -- the leaf has begun at this place, or it isn't over
@@ -245,7 +367,8 @@ begun_outside c t next w h = go (outside_step c t next h)
     go : OutsideStep c t next → HasBegun next w
     go (inl step) = subst (λ p. HasBegun p w) (sym step.1) tt
     go (inr (inl step)) = subst (λ p. HasBegun p w) (sym step.1) tt
-    go (inr (inr step)) = subst (λ p. HasBegun p w) (sym step.2) tt
+    go (inr (inr (inl step))) = subst (λ p. HasBegun p w) (sym step.2) tt
+    go (inr (inr (inr step))) = subst (λ p. HasBegun p w) (sym step.2) tt
 
 pub begun_after : (place : Place) (c : ℕ) (t : List ℕ) (next : Place) (w : List ℕ) → place_after place c t ≡ Some next → HasBegun next w
 begun_after place c t beginning [] h = absurd (none place h)
@@ -407,9 +530,85 @@ address_alone (c ∷ t) h =
     let step = name_stays c t parts.0 in
     rw step (rw (parts.0, address_past_alone t parts.1) refl)
 
+-- a byte that stays between apostrophes
+record StaysInside (c : ℕ) : Type 0 where
+  no_control : is_control c ≡ false
+  no_apostrophe : (c == apostrophe) ≡ false
+  no_backslash : (c == backslash) ≡ false
+
+stays_inside : (c : ℕ) (t : List ℕ) → StaysInside c → place_after (between apostrophe) c t ≡ Some (between apostrophe)
+stays_inside c t h = rw (h.no_control, h.no_apostrophe, h.no_backslash) refl
+
+-- such bytes and the apostrophe after them are in the leaf
+inside_alone : (is : ℕ → Bool) → ((c : ℕ) → is c ≡ true → StaysInside c) → (t : List ℕ) → begins_with apostrophe (past is t) ≡ true
+    → begins_with apostrophe (past is (leaf_from (between apostrophe) t)) ≡ true
+inside_alone is stays [] h = absurd (cc)
+inside_alone is stays (c ∷ t) h = go (is c) refl h (λ k. inside_alone is stays t k)
+  where
+    go : (inside : Bool) → is c ≡ inside → begins_with apostrophe (cond inside (past is t) (c ∷ t)) ≡ true
+        → (begins_with apostrophe (past is t) ≡ true → begins_with apostrophe (past is (leaf_from (between apostrophe) t)) ≡ true)
+        → begins_with apostrophe (past is (leaf_from (between apostrophe) (c ∷ t))) ≡ true
+    go true e k more = rw (stays_inside c t (stays c e)) (rw e (more k))
+    go false e k more =
+        let closes = eqb-true c apostrophe k in
+        let none : is apostrophe ≡ false = subst (λ b. is b ≡ false) closes e in
+        rw closes (rw none refl)
+
+continuation_stays : (c : ℕ) → is_continuation c ≡ true → StaysInside c
+continuation_stays c h = record { no_control = grind (arith, nat_tests); no_apostrophe = grind (arith, nat_tests); no_backslash = grind (arith, nat_tests) }
+
+escape_byte_stays : (c : ℕ) → is_escape_byte c ≡ true → StaysInside c
+escape_byte_stays c h = record { no_control = grind (arith, nat_tests); no_apostrophe = grind (arith, nat_tests); no_backslash = grind (arith, nat_tests) }
+
+-- the character in quotes is closed in the leaf alone too
+escape_alone : (t : List ℕ) → is_escape_closed t ≡ true → is_escape_closed (leaf_from (after_backslash apostrophe) t) ≡ true
+escape_alone [] h = absurd (cc)
+escape_alone (c ∷ t) h =
+    let parts = both (not (is_control c || nat_le 128 c)) (begins_with apostrophe (past is_escape_byte t)) h in
+    let step : place_after (after_backslash apostrophe) c t ≡ Some (between apostrophe) = taken (is_control c || nat_le 128 c) parts.0 in
+    rw step (rw (parts.0, inside_alone is_escape_byte escape_byte_stays t parts.1) refl)
+  where
+    taken : (x : Bool) → not x ≡ true → cond x None (Some (between apostrophe)) ≡ Some (between apostrophe)
+    taken true k = absurd (cc)
+    taken false k = refl
+
+character_alone : (t : List ℕ) → is_character_closed t ≡ true → is_character_closed (leaf_from (between apostrophe) t) ≡ true
+character_alone [] h = absurd (cc)
+character_alone (c ∷ t) h = go (c == backslash) refl h
+  where
+    letter : not (is_control c || c == apostrophe) ≡ true → (c == backslash) ≡ false → StaysInside c
+    letter k e = parts (is_control c) (c == apostrophe) refl refl k
+      where
+        parts : (control same : Bool) → is_control c ≡ control → (c == apostrophe) ≡ same → not (control || same) ≡ true → StaysInside c
+        parts true same f g l = absurd (cc)
+        parts false true f g l = absurd (cc)
+        parts false false f g l = record { no_control = f; no_apostrophe = g; no_backslash = e }
+
+    go : (escapes : Bool) → (c == backslash) ≡ escapes
+        → cond escapes (is_escape_closed t) (not (is_control c || c == apostrophe) && begins_with apostrophe (past is_continuation t)) ≡ true
+        → is_character_closed (leaf_from (between apostrophe) (c ∷ t)) ≡ true
+    go true e k = rw (eqb-true c backslash e) (escape_alone t k)
+    go false e k =
+        let parts = both (not (is_control c || c == apostrophe)) (begins_with apostrophe (past is_continuation t)) k in
+        rw (stays_inside c t (letter parts.0 e)) (rw (e, parts.0, inside_alone is_continuation continuation_stays t parts.1) refl)
+
+-- a lifetime's byte is in the leaf alone, and no apostrophe comes after it there if none did
+lifetime_alone : (c : ℕ) (t : List ℕ) → is_character_closed (c ∷ t) ≡ false → is_plain_byte c ≡ true
+    → (is_character_closed (leaf_from outside (c ∷ t)) ≡ false) × (begins_plain (leaf_from outside (c ∷ t)) ≡ true)
+lifetime_alone c t none plain =
+    let step : place_outside c t ≡ Some outside = rw (plain_is_in_word c t plain) refl in
+    rw step (go (is_character_closed (c ∷ leaf_from outside t)) refl, plain)
+  where
+    go : (b : Bool) → is_character_closed (c ∷ leaf_from outside t) ≡ b → is_character_closed (c ∷ leaf_from outside t) ≡ false
+    go false e = e
+    go true e =
+        let whole : c ∷ t ≡ (c ∷ leaf_from outside t) ++ after_leaf outside t = ap (λ u. c ∷ u) (leaves_whole outside t) in
+        let closed = ap is_character_closed whole ∙ character_more (c ∷ leaf_from outside t) (after_leaf outside t) e in
+        absurd (cc (closed, none))
+
 -- the same comes next in the leaf alone
 same_alone : (c : ℕ) (next : Place) (t : List ℕ) → SameAhead c next t (leaf_from next t)
-same_alone c next [] = record { unspaced = λ place is h. h; no_quote = λ h. h; closes = λ place h. h; word = λ place h. h; address = λ place h. h }
+same_alone c next [] = record { unspaced = λ place is h. h; no_quote = λ h. h; closes = λ place h. h; word = λ place h. h; address = λ place h. h; character = λ place h. h; lifetime = λ place h plain. (h, plain) }
 same_alone c next (b ∷ t) = go (place_after next b t) refl
   where
     none_outside : next ≡ in_parentheses → (b == closing_parenthesis) ≡ true → place_after next b t ≡ None → ⊥
@@ -423,6 +622,13 @@ same_alone c next (b ∷ t) = go (place_after next b t) refl
     address_here : next ≡ in_address → is_address_closed (b ∷ t) ≡ true → is_address_closed (leaf_from next (b ∷ t)) ≡ true
     address_here place h = subst (λ p. is_address_closed (leaf_from p (b ∷ t)) ≡ true) (sym place) (address_alone (b ∷ t) h)
 
+    character_here : next ≡ between apostrophe → is_character_closed (b ∷ t) ≡ true → is_character_closed (leaf_from next (b ∷ t)) ≡ true
+    character_here place h = subst (λ p. is_character_closed (leaf_from p (b ∷ t)) ≡ true) (sym place) (character_alone (b ∷ t) h)
+
+    lifetime_here : next ≡ outside → is_character_closed (b ∷ t) ≡ false → is_plain_byte b ≡ true
+        → (is_character_closed (leaf_from next (b ∷ t)) ≡ false) × (begins_plain (leaf_from next (b ∷ t)) ≡ true)
+    lifetime_here place h plain = subst (λ p. (is_character_closed (leaf_from p (b ∷ t)) ≡ false) × (begins_plain (leaf_from p (b ∷ t)) ≡ true)) (sym place) (lifetime_alone b t h plain)
+
     go : (o : Option Place) → place_after next b t ≡ o → SameAhead c next (b ∷ t) (choose o (λ n. b ∷ leaf_from n t) [])
     go None e = record {
       unspaced = λ place is h. refl;
@@ -430,6 +636,8 @@ same_alone c next (b ∷ t) = go (place_after next b t) refl
       closes = λ place h. absurd (none_outside place h e);
       word = λ place h. subst (λ o. is_word_closed (choose o (λ n. b ∷ leaf_from n t) []) ≡ true) e (word_here place h);
       address = λ place h. subst (λ o. is_address_closed (choose o (λ n. b ∷ leaf_from n t) []) ≡ true) e (address_here place h);
+      character = λ place h. subst (λ o. is_character_closed (choose o (λ n. b ∷ leaf_from n t) []) ≡ true) e (character_here place h);
+      lifetime = λ place h plain. subst (λ o. (is_character_closed (choose o (λ n. b ∷ leaf_from n t) []) ≡ false) × (begins_plain (choose o (λ n. b ∷ leaf_from n t) []) ≡ true)) e (lifetime_here place h plain);
     }
     go (Some n) e = record {
       unspaced = λ place is h. let none = no_space b t n (subst (λ p. place_after p b t ≡ Some n) place e) in rw none refl;
@@ -437,6 +645,8 @@ same_alone c next (b ∷ t) = go (place_after next b t) refl
       closes = λ place h. h;
       word = λ place h. subst (λ o. is_word_closed (choose o (λ n. b ∷ leaf_from n t) []) ≡ true) e (word_here place h);
       address = λ place h. subst (λ o. is_address_closed (choose o (λ n. b ∷ leaf_from n t) []) ≡ true) e (address_here place h);
+      character = λ place h. subst (λ o. is_character_closed (choose o (λ n. b ∷ leaf_from n t) []) ≡ true) e (character_here place h);
+      lifetime = λ place h plain. subst (λ o. (is_character_closed (choose o (λ n. b ∷ leaf_from n t) []) ≡ false) × (begins_plain (choose o (λ n. b ∷ leaf_from n t) []) ≡ true)) e (lifetime_here place h plain);
     }
 
 -- a byte that belongs to the leaf at the front belongs to it without what follows the leaf

@@ -11,7 +11,7 @@ use Rattle.ufmt_core.specs.declared.layout.Count.TheVariants.{One}
 use Rattle.ufmt_grammar.specs.Token.{Class, Token, Debug, IsName, IsBuilt, MayFollow}
 use Rattle.ufmt_grammar.specs.Leaves.{is_ender, is_debug_byte, is_name_byte, begins_with, past, is_word_closed, is_port, is_address_closed, Place, beginning, outside, in_word, in_address, place_outside, place_after, EndsLeaf, IsDebugFollower}
 use Rattle.ufmt_grammar.proofs.ReadingWords.{each_ender}
-use Rattle.ufmt_grammar.proofs.DebugLeaves.{OutsideStep, each_quote, outside_step, at_beginning, leaf_no_ender}
+use Rattle.ufmt_grammar.proofs.DebugLeaves.{OutsideStep, each_quote, opening_is_quote, outside_step, at_beginning, leaf_no_ender}
 use Rattle.ufmt_grammar.proofs.ClassLeaves.{IsNoAddress, IsNoWord, name_some}
 
 -- bytes that a name may have, and what is looked for past them: it begins with a closing bracket
@@ -43,8 +43,9 @@ name_step c t next named h = go (outside_step c t next h)
   where
     go : OutsideStep c t next → next ≡ outside
     go (inl step) = step.1
-    go (inr (inl step)) = let none = each_quote (λ b. is_name_byte b ≡ false) refl refl c step.0 in absurd (cc (none, named))
-    go (inr (inr step)) = let opens = subst (λ b. is_name_byte b ≡ true) step.0 named in absurd (cc)
+    go (inr (inl step)) = let none = each_quote (λ b. is_name_byte b ≡ false) refl refl c (opening_is_quote c t step.0) in absurd (cc (none, named))
+    go (inr (inr (inl step))) = step.2
+    go (inr (inr (inr step))) = let opens = subst (λ b. is_name_byte b ≡ true) step.0 named in absurd (cc)
 
 -- at a leaf's start too
 name_begins : (c : ℕ) (t : List ℕ) → is_name_byte c ≡ true → place_after beginning c t ≡ place_outside c t

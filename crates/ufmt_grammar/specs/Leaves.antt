@@ -93,6 +93,11 @@ is_plain_byte c = is_debug_byte c && not (c == backslash)
 abbrev pub is_name_byte : ℕ → Bool
 is_name_byte c = is_debug_byte c || c == colon
 
+-- whether the text begins with a byte of a word that is in it whatever follows
+abbrev pub begins_plain : List ℕ → Bool
+begins_plain [] = false
+begins_plain (c ∷ t) = is_plain_byte c
+
 -- what is left of a text after the bytes at its front that are such
 abbrev pub past : (ℕ → Bool) → List ℕ → List ℕ
 past is [] = []
@@ -112,6 +117,36 @@ is_port t = false
 abbrev pub is_address_closed : List ℕ → Bool
 is_address_closed [] = false
 is_address_closed (c ∷ t) = is_name_byte c && is_port (past is_name_byte t)
+
+-- ---- apostrophes
+
+-- a byte of a character in UTF-8 after its first
+abbrev pub is_continuation : ℕ → Bool
+is_continuation c = is_within 128 191 c
+
+-- a byte that an escape may have after its first: a letter, a digit or a brace
+abbrev pub is_escape_byte : ℕ → Bool
+is_escape_byte c = is_within zero_digit nine_digit c || is_within upper_a upper_z c || is_within lower_a lower_z c || c == opening_brace || c == closing_brace
+
+-- what a backslash takes, and then an apostrophe
+abbrev pub is_escape_closed : List ℕ → Bool
+is_escape_closed [] = false
+is_escape_closed (c ∷ t) = not (is_control c || nat_le 128 c) && begins_with apostrophe (past is_escape_byte t)
+
+-- one character or one escape, and then an apostrophe
+abbrev pub is_character_closed : List ℕ → Bool
+is_character_closed [] = false
+is_character_closed (c ∷ t) = if c == backslash then is_escape_closed t else not (is_control c || c == apostrophe) && begins_with apostrophe (past is_continuation t)
+
+-- whether a byte outside of quotes opens some, before this rest of the text
+abbrev pub opens_quotes : ℕ → List ℕ → Bool
+opens_quotes c t = c == quotation_mark || c == apostrophe && is_character_closed t
+
+-- an apostrophe that opens none, before a byte of a word: that of a lifetime
+abbrev pub is_lifetime : ℕ → List ℕ → Bool
+is_lifetime c t = c == apostrophe && begins_plain t
+
+-- ---- places
 
 -- a place in a leaf: before its first byte; outside of quotes; right after a closing quote; between the parentheses of `()`; in a word in parentheses, or an address in brackets, at the leaf's start, and right after these brackets; between two of these quotes, or there after a backslash
 pub data Place : Type 0 where
@@ -137,10 +172,10 @@ is_outside after_address = false
 is_outside (between quote) = false
 is_outside (after_backslash quote) = false
 
--- the place after a byte that is outside of quotes: in a word, in quotes, or in `()`
+-- the place after a byte that is outside of quotes: in a word, in quotes, in a word again after a lifetime's apostrophe, or in `()`
 abbrev pub place_outside : ℕ → List ℕ → Option Place
 place_outside c t =
-    if is_in_word c t then Some outside else if is_quote c then Some (between c) else if c == opening_parenthesis && begins_with closing_parenthesis t then Some in_parentheses else None
+    if is_in_word c t then Some outside else if opens_quotes c t then Some (between c) else if is_lifetime c t then Some outside else if c == opening_parenthesis && begins_with closing_parenthesis t then Some in_parentheses else None
 
 -- the place after a byte of a leaf; None if the byte, with the rest of the text after it, doesn't belong to the leaf. No colon belongs to it right after a closing quote
 abbrev pub place_after : Place → ℕ → List ℕ → Option Place
@@ -160,7 +195,7 @@ abbrev pub EndsLeaf : Place → List ℕ → Type 0
 EndsLeaf place [] = is_outside place ≡ true
 EndsLeaf place (c ∷ t) = (next : Place) × (place_after place c t ≡ Some next) × EndsLeaf next t
 
--- a debug leaf, which can be read again: words, texts in quotes and `()` in a row, in UTF-8; before them there may be a word in parentheses, or an address in brackets and a colon
+-- a debug leaf, which can be read again: words, lifetimes, texts in quotes and `()` in a row, in UTF-8; before them there may be a word in parentheses, or an address in brackets and a colon
 pub record IsDebugLeaf (text : List ℕ) : Type 0 where
   pub some : text ≢ []
   pub pieces : EndsLeaf beginning text

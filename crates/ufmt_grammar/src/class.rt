@@ -8,8 +8,9 @@ pub enum Class {
     /// and characters in quotes, each as `uDebug` prints it.
     Token,
     /// What `{:?}` of most types prints. Words have any bytes but spaces, quotes, brackets, commas and
-    /// controls; a colon before a space and a value ends a key. Leaves are words, texts in quotes and
-    /// `()` in a row, with a word in parentheses before them or an address in brackets and a colon, as
-    /// `(Weak)` and `[::1]:80`. Names are words that don't end in a colon. A struct may end in `..`.
+    /// controls; a colon before a space and a value ends a key. Leaves are words, lifetimes as `'a`,
+    /// texts in quotes and `()` in a row, with a word in parentheses before them or an address in
+    /// brackets and a colon, as `(Weak)` and `[::1]:80`. Names are words that don't end in a colon. A
+    /// struct may end in `..`.
     Debug,
 }

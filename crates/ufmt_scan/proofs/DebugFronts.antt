@@ -1,6 +1,6 @@
 -- Leaves of debug documents, byte by byte: what the scanner passes belongs to the leaf at the front.
 use Rattle.std.proofs.Common.{◌≡◌, inl, inr, refl, ap, sym, subst, ◌∙◌, ℕ, suc, ◌<◌, ◌≤◌, ◌==◌, ◌&&◌, ◌||◌, not, nat_le, nat_lt, Bool, true, false, cond, List, [], ◌∷◌, ◌++◌, append_assoc, append-nil, length, length-append, length-drop, take, drop, codes, Option, Some, None, eqb-true, arith}
-use Rattle.std.specs.Prelude.{◌≢◌, ◌-◌, slice_index_or}
+use Rattle.std.specs.Prelude.{◌≢◌, ◌⊎◌, ◌-◌, slice_index_or, ⊤}
 use Rattle.std.specs.Str.{IsAscii, IsUtf8, encode_utf8_all, is_utf8}
 use Rattle.std.proofs.lemmas.Bool.Decides.{nat_tests}
 use Rattle.std.proofs.lemmas.Str.{IsUtf8-from_ascii, IsUtf8-from_is_utf8, is_utf8-from_IsUtf8}
@@ -8,13 +8,13 @@ use Rattle.std.proofs.lemmas.Str.Ascii.{IsAscii-cons, IsAscii-nil}
 use Rattle.std.proofs.Math.Seq.{take-append_seam}
 use borrow.Author.Tests.{ltb-true}
 use Rattle.ufmt_core.specs.Bytes.{closing_parenthesis}
-use Rattle.ufmt_grammar.specs.Leaves.{Place, beginning, outside, after_quotes, in_parentheses, in_word, in_address, after_address, is_plain_byte, is_name_byte, is_word_closed, is_address_closed, is_port, past, between, after_backslash, is_outside, place_outside, place_after, begins_quote, begins_with, is_in_word, is_spaced, is_control, is_quote, is_debug_byte, has_name_bytes, ends_in_colon, IsDebugLeaf}
+use Rattle.ufmt_grammar.specs.Leaves.{Place, beginning, outside, after_quotes, in_parentheses, in_word, in_address, after_address, is_plain_byte, is_name_byte, is_word_closed, is_address_closed, is_port, past, begins_plain, is_continuation, is_escape_byte, is_character_closed, opens_quotes, between, after_backslash, is_outside, place_outside, place_after, begins_quote, begins_with, is_in_word, is_spaced, is_control, is_quote, is_debug_byte, has_name_bytes, ends_in_colon, IsDebugLeaf}
 use Rattle.ufmt_grammar.specs.Reading.{choose, leaf_from, after_leaf, last_place, strip}
 use Rattle.ufmt_core.specs.Document.{leaf}
 use Rattle.ufmt_core.specs.Quoted.{IsQuote, IsQuoted, escaped_bytes, quoted}
 use Rattle.ufmt_grammar.specs.ReadingQuoted.{read_quoted}
 use Rattle.ufmt_grammar.proofs.ClassTokens.{tokens_are_debug}
-use Rattle.ufmt_grammar.proofs.DebugLeaves.{StopsLeaf, after_leaf-append, at_beginning, each_quote, kept_alone, some_begun, last_is_outside, leaf_from-append, plain_in_word, stopped}
+use Rattle.ufmt_grammar.proofs.DebugLeaves.{StopsLeaf, after_leaf-append, at_beginning, each_quote, kept_alone, opens_by, opening_is_quote, some_begun, last_is_outside, leaf_from-append, plain_in_word, stopped}
 use Rattle.ufmt_grammar.proofs.NoStarts.{address_by_port, word_by_end}
 use Rattle.ufmt_grammar.proofs.Parsing.{strip_found}
 use Rattle.ufmt_grammar.proofs.QuotedComplete.{quoted-bytes}
@@ -24,7 +24,7 @@ use Rattle.ufmt_grammar.specs.Reading.{is_whole}
 use Rattle.ufmt_scan.specs.declared.front.Front.{Front}
 use Rattle.ufmt_scan.specs.Private.Fronts.{EndsAt, EndsLeaf, IsSplit, Passes, StaysBetween, StopsWord, begins_name, is_ending, is_started}
 use Rattle.ufmt_scan.specs.Private.MarkedBytes.{is_marked, marked_len}
-use Rattle.ufmt_scan.specs.declared.debug_leaf.TheConstants.{DEBUG_BYTES, LEAF_BYTES, NAME_BYTES, QUOTED_BYTES, RUN_BYTES, WORD_BYTES}
+use Rattle.ufmt_scan.specs.declared.debug_leaf.TheConstants.{CONTINUATION_BYTES, DEBUG_BYTES, ESCAPE_BYTES, LEAF_BYTES, NAME_BYTES, QUOTED_BYTES, RUN_BYTES, WORD_BYTES}
 use Rattle.ufmt_scan.proofs.WordBytes.{marks, marks_with}
 
 has_name_bytes-append : (a b : List ℕ) → has_name_bytes (a ++ b) ≡ has_name_bytes a && has_name_bytes b
@@ -243,9 +243,30 @@ pub unit_passes : (c : ℕ) (t u : List ℕ) → c ≡ 40 → t ≡ closing_pare
 unit_passes c t u is closes = rw (is, closes)
     (passes_then (pass_byte outside 40 (41 ∷ u) in_parentheses refl) (pass_byte in_parentheses 41 u outside refl))
 
--- what is no byte of a word, no quote and no `()` stops the leaf
+-- what is no byte of a word, no quote, no lifetime's apostrophe and no `()` stops the leaf
 pub other_stops : (c : ℕ) (t : List ℕ) → is_in_word c t ≡ false → is_quote c ≡ false → (c == 40) && begins_with closing_parenthesis t ≡ false → place_outside c t ≡ None
-other_stops c t no_word no_quote no_unit = rw (no_word, no_quote, no_unit) refl
+other_stops c t no_word no_quote no_unit = go (c == 34) (c == 39) refl refl no_quote
+  where
+    go : (mark apostrophes : Bool) → (c == 34) ≡ mark → (c == 39) ≡ apostrophes → mark || apostrophes ≡ false → place_outside c t ≡ None
+    go true apostrophes e f h = absurd (cc)
+    go false true e f h = absurd (cc)
+    go false false e f h = rw (no_word, e, f, no_unit) refl
+
+-- a byte that is none of these but perhaps a quote doesn't
+pub stops_at : (c : ℕ) (t : List ℕ) → is_in_word c t ≡ false → opens_quotes c t ≡ false → (c == 39) ≡ false → (c == 40) ≡ false → place_outside c t ≡ None
+stops_at c t no_word no_quote no_apostrophe no_parenthesis = rw (no_word, no_quote, no_apostrophe, no_parenthesis) refl
+
+-- the apostrophe of a lifetime is passed
+pub apostrophe_passes : (t : List ℕ) → is_character_closed t ≡ false → begins_plain t ≡ true → Passes outside (39 ∷ t) outside t false
+apostrophe_passes t no_character plain = pass_byte outside 39 t outside (rw (no_character, plain) refl)
+
+-- and any other isn't
+pub apostrophe_stops : (t : List ℕ) → is_character_closed t ≡ false → begins_plain t ≡ false → place_outside 39 t ≡ None
+apostrophe_stops t no_character no_plain = rw (no_character, no_plain) refl
+
+-- an apostrophe that opens no quotes comes before no character
+pub no_character : (c : ℕ) (t : List ℕ) → c ≡ 39 → opens_quotes c t ≡ false → is_character_closed t ≡ false
+no_character c t is none = sym (ap (λ b. opens_quotes b t) is) ∙ none
 
 -- ---- quotes
 
@@ -317,10 +338,14 @@ module _ (q byte : ℕ) (other : (byte == q) ≡ false) where
 -- ---- the whole leaf
 
 -- a text in quotes is opened, continued and closed
-module _ (q : ℕ) (quote : is_quote q ≡ true) where
-  pub opened : (t : List ℕ) → Passes outside (q ∷ t) (between q) t false
-  opened t = each_quote (λ c. Passes outside (c ∷ t) (between c) t false) (pass_byte outside 34 t (between 34) refl) (pass_byte outside 39 t (between 39) refl) q quote
+pub opened : (q : ℕ) (t : List ℕ) → opens_quotes q t ≡ true → Passes outside (q ∷ t) (between q) t false
+opened q t opens = go (opens_by q t opens)
+  where
+    go : (q ≡ 34) ⊎ ((q ≡ 39) × (is_character_closed t ≡ true)) → Passes outside (q ∷ t) (between q) t false
+    go (inl mark) = rw mark (pass_byte outside 34 t (between 34) refl)
+    go (inr character) = rw character.0 (pass_byte outside 39 t (between 39) (rw character.1 refl))
 
+module _ (q : ℕ) (quote : is_quote q ≡ true) where
   pub closed : (t : List ℕ) → Passes (between q) (q ∷ t) after_quotes t false
   closed t = each_quote (λ c. Passes (between c) (c ∷ t) after_quotes t false) (pass_byte (between 34) 34 t after_quotes refl) (pass_byte (between 39) 39 t after_quotes refl) q quote
 
@@ -332,15 +357,24 @@ differ a b apart = go (a == b) refl
     go false e = e
     go true e = absurd (apart (eqb-true a b e))
 
+-- no byte of a leaf is at the front
+abbrev pub NoneNext : List ℕ → Type 0
+NoneNext [] = ⊤
+NoneNext (c ∷ t) = place_outside c t ≡ None
+
+none_left : (t : List ℕ) → NoneNext t → (leaf_from outside t ≡ []) × (after_leaf outside t ≡ t)
+none_left [] h = (refl, refl)
+none_left (c ∷ t) h = rw h (refl, refl)
+
 -- the leaf ends where no byte of a leaf follows its last word
-pub ends_leaf : (t r e : List ℕ) (named : Bool) → Passes beginning t outside r named → Passes outside r outside e true → StopsLeaf e → EndsLeaf t e named
+pub ends_leaf : (t r e : List ℕ) (named : Bool) → Passes beginning t outside r named → Passes outside r outside e true → NoneNext e → EndsLeaf t e named
 ends_leaf t r e named first word stops =
-    let none = stopped outside e tt refl stops in
+    let none = none_left e stops in
     record { place = outside; passes = subst (Passes beginning t outside e) (and-true named) (passes_then first word); closed = refl; none = none.0; all = none.1 }
 
--- after a word, what is no byte of a word, no quote and no `()` ends the leaf
-pub stops_leaf : (e : List ℕ) (c : ℕ) (u : List ℕ) → e ≡ c ∷ u → is_quote c ≡ false → place_outside c u ≡ None → StopsLeaf e
-stops_leaf e c u first no_quote none = subst StopsLeaf (sym first) (none, no_quote)
+-- so it does before a byte of none
+pub stops_leaf : (e : List ℕ) (c : ℕ) (u : List ℕ) → e ≡ c ∷ u → place_outside c u ≡ None → NoneNext e
+stops_leaf e c u first none = subst NoneNext (sym first) none
 
 -- after a word, a text in quotes is passed
 pub quotes_next : {t r e u : List ℕ} {named : Bool} {place : Place} → Passes beginning t outside r named → Passes outside r outside e true → Passes outside e place u false
@@ -479,6 +513,19 @@ no_word_without_name (c ∷ t) h = go (is_debug_byte c) (c == 58) h
 pub no_address_without_name : (t : List ℕ) → begins_name t ≡ false → is_address_closed t ≡ false
 no_address_without_name [] h = refl
 no_address_without_name (c ∷ t) h = ap (λ b. b && is_port (past is_name_byte t)) h
+
+-- what is looked at after an apostrophe
+continuations_are_marked : (c : ℕ) → is_marked CONTINUATION_BYTES c ≡ is_continuation c
+continuations_are_marked c = marks CONTINUATION_BYTES is_continuation refl refl (λ c past. grind (arith, nat_tests)) c
+
+pub continuations_are_past : (t rest : List ℕ) (n : ℕ) → n ≡ marked_len CONTINUATION_BYTES t → rest ≡ drop n t → rest ≡ past is_continuation t
+continuations_are_past t rest n len is = is ∙ ap (λ k. drop k t) len ∙ past_marked CONTINUATION_BYTES is_continuation continuations_are_marked t
+
+escape_bytes_are_marked : (c : ℕ) → is_marked ESCAPE_BYTES c ≡ is_escape_byte c
+escape_bytes_are_marked c = marks ESCAPE_BYTES is_escape_byte refl refl (λ c past. grind (arith, nat_tests)) c
+
+pub escape_is_past : (t rest : List ℕ) (n : ℕ) → n ≡ marked_len ESCAPE_BYTES t → rest ≡ drop n t → rest ≡ past is_escape_byte t
+escape_is_past t rest n len is = is ∙ ap (λ k. drop k t) len ∙ past_marked ESCAPE_BYTES is_escape_byte escape_bytes_are_marked t
 
 debug_bytes_are_marked : (c : ℕ) → is_marked DEBUG_BYTES c ≡ is_debug_byte c
 debug_bytes_are_marked c = marks DEBUG_BYTES is_debug_byte refl refl (λ c past. grind (arith, nat_tests)) c
@@ -704,6 +751,10 @@ ascii_run (c ∷ t) = go (is_marked LEAF_BYTES c) refl (ascii_run t)
         }
     go false is more = record { passes = passes_none outside (c ∷ t); ascii = IsAscii-nil; no_colon = refl }
 
+none_at : (t : List ℕ) → EndsAt t → NoneNext t
+none_at [] h = tt
+none_at (c ∷ t) h = h.0
+
 module _ (t word : List ℕ) (n : ℕ) (len : n ≡ marked_len LEAF_BYTES t) (front : word ≡ take n t) where
   pub word_is_ascii : IsAscii word
   word_is_ascii = rw (front, len) (ascii_run t).ascii
@@ -715,7 +766,7 @@ module _ (t word : List ℕ) (n : ℕ) (len : n ≡ marked_len LEAF_BYTES t) (fr
       let count : length t - length rest ≡ n = omega (arith, within, ap length is, length-drop n t) in
       let passes : Passes outside t outside rest true = rw (is, len) (ascii_run t).passes in
       let no_colon : ends_in_colon word ≡ false = rw (front, len) (ascii_run t).no_colon in
-      leaf_splits t rest word true (ends_leaf t t rest true (not_started t bare) passes ends) (front ∙ sym (ap (λ k. take k t) count)) found text after
+      leaf_splits t rest word true (ends_leaf t t rest true (not_started t bare) passes (none_at rest ends)) (front ∙ sym (ap (λ k. take k t) count)) found text after
       (named ∙ sym (ap not no_colon)) (IsUtf8-from_ascii word word_is_ascii)
 
 -- a leaf with a start begins with no word
@@ -787,7 +838,7 @@ module _ (t text rest : List ℕ) (reads : read_quoted t ≡ Some (text, rest)) 
 
 -- ---- where a leaf ends
 
-pub nothing_stops : (t : List ℕ) → length t ≡ 0 → StopsLeaf t
+pub nothing_stops : (t : List ℕ) → length t ≡ 0 → NoneNext t
 nothing_stops [] h = tt
 nothing_stops (c ∷ t) h = absurd (omega (arith, h))
 
@@ -810,7 +861,8 @@ ending_is c t h = go (nat_le c 255) (is_debug_byte c) (is_quote c) (c == 58) (c 
         (other_stops c t no_word f (rw k refl), f)
 
 pub ends_at_end : (t : List ℕ) → length t ≡ 0 → EndsAt t
-ends_at_end t h = nothing_stops t h
+ends_at_end [] h = tt
+ends_at_end (c ∷ t) h = absurd (omega (arith, h))
 
 pub ends_at_byte : (t : List ℕ) (c : ℕ) (u : List ℕ) → t ≡ c ∷ u → is_ending c ≡ true → EndsAt t
 ends_at_byte t c u first h = subst EndsAt (sym first) (ending_is c u h)

@@ -1,8 +1,8 @@
-//! Leaves of debug documents: words, texts in quotes and `()` in a row, with a word in parentheses or an
-//! address in brackets before them.
+//! Leaves of debug documents: words, lifetimes, texts in quotes and `()` in a row, with a word in
+//! parentheses or an address in brackets before them.
 ghost use Rattle.std.specs.Prelude.{◌≡◌, ◌<◌, ◌≤◌, ◌==◌, ◌&&◌, ◌||◌, ◌≢◌, ◌∷◌, [], ℕ, IfSome, IsTrue, MatchOption, None, false, length, nat_le, not, true};
 ghost use Rattle.ufmt_grammar.specs.declared.class.Class.TheVariants.{Debug};
-ghost use Rattle.ufmt_grammar.specs.Leaves.{after_quotes, beginning, begins_quote, begins_with, between, ends_in_colon, is_address_closed, is_control, is_in_word, is_name_byte, is_plain_byte, is_quote, is_spaced, is_word_closed, outside, place_outside};
+ghost use Rattle.ufmt_grammar.specs.Leaves.{after_quotes, beginning, begins_plain, begins_quote, begins_with, between, ends_in_colon, is_address_closed, is_character_closed, is_continuation, is_control, is_escape_byte, is_escape_closed, is_in_word, is_name_byte, is_plain_byte, is_quote, is_spaced, is_word_closed, opens_quotes, outside, past, place_outside};
 ghost use Rattle.ufmt_scan.specs.Private.Fronts.{EndsAt, EndsLeaf, IsSplit, NeverCloses, Passes, SplitsFront, StaysBetween, StopsWord, begins_name, is_ending, is_started};
 
 use crate::front::Front;
@@ -53,6 +53,20 @@ static QUOTED_BYTES: [u8; 256] = *b"\
     wwwwwwwwwwwwwwwwwwwwwwwwwwww.wwwwwwwwwwwwwwwwwwwwwwwwwwwwwwwwww.\
     wwwwwwwwwwwwwwwwwwwwwwwwwwwwwwwwwwwwwwwwwwwwwwwwwwwwwwwwwwwwwwww\
     wwwwwwwwwwwwwwwwwwwwwwwwwwwwwwwwwwwwwwwwwwwwwwwwwwwwwwwwwwwwwwww";
+
+// Marks each byte of a character in UTF-8 after its first.
+static CONTINUATION_BYTES: [u8; 256] = *b"\
+    ................................................................\
+    ................................................................\
+    wwwwwwwwwwwwwwwwwwwwwwwwwwwwwwwwwwwwwwwwwwwwwwwwwwwwwwwwwwwwwwww\
+    ................................................................";
+
+// Marks each byte that an escape may have after its first: letters, digits and braces.
+static ESCAPE_BYTES: [u8; 256] = *b"\
+    ................................................wwwwwwwwww......\
+    .wwwwwwwwwwwwwwwwwwwwwwwwww......wwwwwwwwwwwwwwwwwwwwwwwwwww.w..\
+    ................................................................\
+    ................................................................";
 
 /// The leaf, if it is a word in ASCII. It may be empty. Nothing of it is tested again.
 #[inline(always)]
@@ -146,7 +160,7 @@ fn after_leaf(input: &[u8]) -> Option<(&[u8], bool)>
         let Some((&byte, after)) = end.split_first() else {
             return Some((end, is_named));
         };
-        if is_quote(byte) {
+        if opens_quotes(byte, after) {
             rest = after_text(byte, after)?;
             is_named = false;
             if begins_with(b':', rest) {
@@ -154,8 +168,8 @@ fn after_leaf(input: &[u8]) -> Option<(&[u8], bool)>
             }
         } else if is_in_word(byte, after) {
             rest = after;
-        } else if let Some(unit) = after_unit(byte, after) {
-            rest = unit;
+        } else if let Some(other) = after_other(byte, after) {
+            rest = other;
             is_named = false;
         } else {
             return Some((end, is_named));
@@ -308,26 +322,109 @@ fn is_in_word(byte: u8, after: &[u8]) -> bool
     byte == b'\\' && !begins_quote(after)
 }
 
-// What follows `()`, if its first byte is here.
+// What follows `()`, or the apostrophe of a lifetime, if its first byte is here.
 #[inline(always)]
-fn after_unit(byte: u8, after: &[u8]) -> Option<&[u8]>
-    requires no_quote { is_quote byte ≡ false }
+fn after_other(byte: u8, after: &[u8]) -> Option<&[u8]>
+    requires no_quote { opens_quotes byte after.now ≡ false }
     requires no_word { is_in_word byte after.now ≡ false }
     ensures { MatchOption result (place_outside byte after.now ≡ None)
         (λ rest. Passes outside (byte ∷ after.now) outside rest.now false × (length rest.now ≤ length after.now)) }
 {
-    if byte != b'(' {
-        return None;
+    match byte {
+        b'\'' => after_apostrophe(after),
+        b'(' => after_parenthesis(after),
+        _ => None,
     }
+}
+
+// What follows an apostrophe that opens no quotes, if a lifetime does.
+#[inline(always)]
+fn after_apostrophe(after: &[u8]) -> Option<&[u8]>
+    requires { is_character_closed after.now ≡ false }
+    ensures { MatchOption result (place_outside 39 after.now ≡ None)
+        (λ rest. Passes outside (39 ∷ after.now) outside rest.now false × (length rest.now ≤ length after.now)) }
+{
+    if begins_plain(after) {
+        Some(after)
+    } else {
+        None
+    }
+}
+
+// What follows a closing parenthesis, if it comes next.
+#[inline(always)]
+fn after_parenthesis(after: &[u8]) -> Option<&[u8]>
+    ensures { MatchOption result (place_outside 40 after.now ≡ None)
+        (λ rest. Passes outside (40 ∷ after.now) outside rest.now false × (length rest.now ≤ length after.now)) }
+{
     match after.split_first() {
         Some((b')', rest)) => Some(rest),
         _ => None,
     }
 }
 
+// Whether a quote opens, before this rest of the text: a quotation mark does, and an apostrophe before a
+// character.
+#[inline(always)]
+fn opens_quotes(byte: u8, after: &[u8]) -> bool
+    ensures { result ≡ opens_quotes byte after.now }
+{
+    byte == b'"' || byte == b'\'' && is_character_closed(after)
+}
+
+// Whether one character or escape comes next, and then an apostrophe.
+fn is_character_closed(input: &[u8]) -> bool
+    ensures { result ≡ is_character_closed input.now }
+{
+    match input.split_first() {
+        Some((b'\\', after)) => is_escape_closed(after),
+        Some((&byte, after)) => {
+            !is_control(byte) && byte != b'\'' && begins_with(b'\'', after_continuations(after))
+        }
+        None => false,
+    }
+}
+
+// The same after a backslash.
+#[inline(always)]
+fn is_escape_closed(input: &[u8]) -> bool
+    ensures { result ≡ is_escape_closed input.now }
+{
+    match input.split_first() {
+        Some((&byte, after)) => is_escaped(byte) && begins_with(b'\'', after_escape(after)),
+        None => false,
+    }
+}
+
+#[inline(always)]
+#[tactic(auto, using(crate::proofs::DebugFronts::continuations_are_past))]
+fn after_continuations(input: &[u8]) -> &[u8]
+    ensures { result.now ≡ past is_continuation input.now }
+{
+    input.split_at(marked_len(&CONTINUATION_BYTES, input)).1
+}
+
+#[inline(always)]
+#[tactic(auto, using(crate::proofs::DebugFronts::escape_is_past))]
+fn after_escape(input: &[u8]) -> &[u8]
+    ensures { result.now ≡ past is_escape_byte input.now }
+{
+    input.split_at(marked_len(&ESCAPE_BYTES, input)).1
+}
+
+#[inline(always)]
+fn begins_plain(input: &[u8]) -> bool
+    ensures { result ≡ begins_plain input.now }
+{
+    match input.split_first() {
+        Some((&byte, _)) => is_plain_byte(byte),
+        None => false,
+    }
+}
+
 // What follows a text in quotes, after its first quote.
 fn after_text(quote: u8, inside: &[u8]) -> Option<&[u8]>
-    requires { is_quote quote ≡ true }
+    requires { opens_quotes quote inside.now ≡ true }
     ensures { MatchOption result (NeverCloses outside (quote ∷ inside.now))
         (λ rest. Passes outside (quote ∷ inside.now) after_quotes rest.now false
         × (length rest.now ≤ length inside.now)) }

@@ -160,7 +160,7 @@ pub fn is_name_of(class: Class, text: &str) -> bool
     }
 }
 
-// Whether a text is words, texts in quotes and `()` in a row.
+// Whether a text is words, lifetimes, texts in quotes and `()` in a row.
 fn is_debug_leaf(text: &str) -> bool
     ensures { IsTrue result ↔ IsDebugLeaf text.now }
 {

@@ -2,17 +2,17 @@
 
 A shape has a letter for each piece of a leaf. A word is `w` if a token document may have it, `p` if it has other ASCII
 characters, as points, and `u` if it has characters past ASCII. A piece in quotes is `t` or `c` if it is a text or a character
-that a token document may have, and `o` if it is spelled otherwise. Colons are `C`, and `()` is `U`. At a leaf's start,
-`W` is a word in parentheses, and `A` an address in brackets and a colon.
+that a token document may have, and `o` if it is spelled otherwise. Colons are `C`, and `()` is `U`. `L` is the apostrophe of
+a lifetime, which a word follows. At a leaf's start, `W` is a word in parentheses, and `A` an address in brackets and a colon.
 """
 import itertools
 import re
 
 from lib.model import characters
-from lib.model.model import CONTROLS, IN_QUOTES, QUOTED_CHARACTER, QUOTED_TEXT, START, UNIT, WORD, WORD_BYTES, quoted
+from lib.model.model import CONTROLS, IN_QUOTES, LIFETIME, QUOTED_CHARACTER, QUOTED_TEXT, START, UNIT, WORD, WORD_BYTES, quoted
 
-WORDS, QUOTES, COLONS, UNITS, STARTS = "wpu", "tco", "C", "U", "WA"
-PIECE = re.compile("(%s)|(%s)|(:+)|%s" % (WORD_BYTES, "|".join(IN_QUOTES), UNIT))
+WORDS, QUOTES, COLONS, UNITS, LIFETIMES, STARTS = "wpu", "tco", "C", "U", "L", "WA"
+PIECE = re.compile("(%s)|(%s)|(:+)|%s|%s" % (WORD_BYTES, "|".join(IN_QUOTES), LIFETIME, UNIT))
 # Bytes that end a word, but for controls and colons.
 ENDS = " \"'(),[]{}"
 # The ASCII characters that only words of debug documents have, and what may follow a backslash.
@@ -24,15 +24,16 @@ PRINTED = (
     "1.5", "-0.0", "1e-7", "NaN", "1.5s", "150\u00b5s", "127.0.0.1:80", "::1", "::ffff:10.0.0.1", "0..5", "..=9", "..", "'a'..='z'",
     '"a".."b"', 'b"x\\x00"', "b'\\''", "'\\u{301}'", '"\\u{301}"', "<borrowed>", "PhantomData<alloc::vec::Vec<u8>>", "0x7f0012", "_",
     "a::B", "1..=\"b\"", "f()", "a::b().c()", "fe80::", "::", "(Weak)",
-    "[::1]:80",
+    "[::1]:80", "'static", "&'a", "&'static::str", "don't", "'a'b'c",
 )
 
 
-def letter_of(word, in_quotes, colons):
+def letter_of(found):
+    word, in_quotes, colons = found.groups()
     if colons:
         return "C"
     if not (word or in_quotes):
-        return "U"
+        return "L" if found[0] == "'" else "U"
     if in_quotes:
         if QUOTED_TEXT.fullmatch(in_quotes):
             return "t"
@@ -50,7 +51,7 @@ def pieces(leaf):
 
 def shape(leaf):
     letter = "" if START.match(leaf) is None else "W" if leaf[0] == "(" else "A"
-    return letter + "".join(letter_of(*found.groups()) for found in pieces(leaf))
+    return letter + "".join(letter_of(found) for found in pieces(leaf))
 
 
 def is_shape(letters):
@@ -59,12 +60,14 @@ def is_shape(letters):
         return False
     if letters[0] == "A" and (len(letters) == 1 or letters[1] not in WORDS):
         return False
-    pairs = zip(letters, letters[1:])
+    pairs = [*zip(letters, letters[1:] + " ")]
+    if any(a == LIFETIMES and b not in WORDS for a, b in pairs):
+        return False
     return not any((a in WORDS and b in WORDS) or (b == COLONS and a in QUOTES + COLONS) for a, b in pairs)
 
 
 # All shapes of up to three pieces.
-ROWS = ("".join(letters) for count in (1, 2, 3) for letters in itertools.product(STARTS + WORDS + QUOTES + COLONS + UNITS, repeat=count))
+ROWS = ("".join(letters) for count in (1, 2, 3) for letters in itertools.product(STARTS + WORDS + QUOTES + COLONS + UNITS + LIFETIMES, repeat=count))
 SHAPES = list(filter(is_shape, ROWS))
 
 
@@ -82,11 +85,16 @@ def word_form(text):
 
 
 def joined(pieces):
-    """The pieces in a row. A word that ends with a backslash before a quote ends with a point."""
+    """The pieces in a row. A word that ends with a backslash before a quote ends with a point. After a lifetime's apostrophe no
+    word has a backslash first, nor one character alone before another apostrophe."""
     found = ""
     for piece in pieces:
         if piece[0] in "\"'" and found.endswith("\\"):
             found = found[:-1] + "."
+        if piece[0] == "'" and found[-2:-1] == "'" and found[-1] not in "\"'":
+            found += "a"
+        if piece[0] == "\\" and found.endswith("'"):
+            piece = "." + piece[1:]
         if found.startswith("[") and found.endswith("]:") and piece[0] == "\\":
             piece = "." + piece[1:]
         found += piece
@@ -122,9 +130,9 @@ class LeafMaker:
             return quoted(self.random.choice("ab\n\"'\u20ac\x1b"), "'")
         if letter == "t":
             return quoted("".join(self.random.choices("ab ,:[]{}()\n\"'\u00e9\u20ac", k=length)))
-        quote = self.random.choice("\"'")
-        inside = "".join(self.inside(quote) for _ in range(length))
-        return quote + inside + "\\x" + quote
+        if self.random.random() < 0.5:
+            return "'\\x" + "".join(self.random.choices("ab09XY{}", k=length)) + "'"
+        return '"' + "".join(self.inside('"') for _ in range(length)) + '\\x"'
 
     def inside(self, quote):
         """A character between these quotes, or a backslash and a character."""
@@ -139,6 +147,8 @@ class LeafMaker:
             return self.word(letter, length)
         if letter == UNITS:
             return "()"
+        if letter == LIFETIMES:
+            return "'"
         if letter == "W":
             return "(" + self.word(self.random.choice(WORDS), length) + ")"
         if letter == "A":

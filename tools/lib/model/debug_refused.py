@@ -6,7 +6,12 @@ NO_UTF_8 = (b"\x80", b"\xff", b"\xc3", b"\xc0\x80", b"\xe2\x82", b"\xed\xa0\x80"
 PAST_ASCII = ("\u00e9", "\u0301", "\u20ac", "\U0001f980")
 COLONS = (1, 2, 3, 999, 1000, 1001, 100_000)
 PIECES = 33_000
-OPEN_QUOTES = ('"', "'", '"a', "b'a", 'a"', "a:'", '"a""', '"a".."b', '[1, "a]', "('a,)", "1.5'", "'a'..='z", 'S { a: b" }')
+OPEN_QUOTES = ('"', '"a', 'a"', '"a""', '"a".."b', '[1, "a]', 'S { a: b" }')
+# Apostrophes that open no character, where no byte of a word follows.
+APOSTROPHES = (
+    "'", "''", "'''", "a'", "a:'", "1.5'", "'a'..='z'..'", "[a']", "[', ']", "(')", "{': a}", "S { a: ' }", "'ab'", "'(a)'", "'[]'", "'\\",
+    "'\\n", "'\\x.'", "a' b", "':a", "''a", "'a''", "b'ab'", "'a' 'b'", "'\"a\"",
+)
 # Where dots come that don't end a struct as they should.
 COMMA_AFTER_DOTS = ("P {\n    a: 1,\n    ..,\n}", "P {\n    ..,\n}", "P { a: 1, .., }", "P { .., }", "P { a: 1, ..,}")
 FIELD_AFTER_DOTS = ("P { .., a: 1 }", "P { a: 1, .., b: 2 }", "P { .., .. }", "P {\n    a: 1,\n    ..\n    b: 2,\n}", "P {\n    ..\n    a: 1,\n}")
@@ -56,6 +61,7 @@ def rows():
         "a colon after a closing quote": encoded('"a":b', '"a"::b', "'a':", '["a":]', '{"a":"b"}', 'S { a: "b": }', '"a"b"c":'),
         "colons in a row before a space": encoded(*(form % row for row in many for form in ("%s b", "a%s b", "[%s b]", "[a%s b, b]"))),
         "a quote that nothing closes": encoded(*OPEN_QUOTES),
+        "an apostrophe before no byte of a word": encoded(*APOSTROPHES),
         "many quotes of which the last isn't closed": [b'"a"' * PIECES + b'"', b"'a'.." * PIECES + b"'", b'""' * PIECES + b"'"],
         "a control in a word": within(b"a", CONTROLS, b"b") + within(b"", CONTROLS, b"1.5") + within(b"[1.5, x", CONTROLS, b"]"),
         "a control between quotes": within(b'"a', CONTROLS, b'"') + within(b"b'", CONTROLS, b"'"),
@@ -68,6 +74,7 @@ def rows():
         "a backslash before a quote, outside of quotes": encoded('\\"', "a\\'b", "\\'", '\\"a"', "a\\'b'", '[\\"a"]', 'a:\\"b"', '()\\"b"'),
         "a backslash before a character past ASCII": encoded(*(form % past for past in PAST_ASCII for form in ('"\\%s"', "b'a\\%sb'"))),
         "a name with quotes": encoded('"S" { .. }', "b'x' { a: 1, .. }", 'S { "a": 1, .. }', 'S"a"(1)', 'b"x" { a: 1 }', 'S { "a": 1 }', "S { b'x': 1 }", "'a'(1)", "a::'b'(1)"),
+        "a name with a lifetime": encoded("'a(1)", "'a { b: 1 }", "&'a { .. }", "S { 'a: 1 }", "S { a'b: 1, .. }", "a'b(1,)", "don't(1)"),
         "a comma after the dots of a struct": encoded(*COMMA_AFTER_DOTS),
         "a field after the dots of a struct": encoded(*FIELD_AFTER_DOTS),
         "only dots, on a line of their own": encoded(*DOTS_ON_A_LINE),

@@ -178,32 +178,33 @@ def leaf_at(text, at):
 TOKEN = TextClass(leaf_at, WORD.fullmatch, has_open_structs=False)
 
 # A leaf of the class DEBUG may begin with a word in parentheses, or with an address in brackets, a colon and a byte of a word. A
-# piece of it is bytes of a word, a text in quotes, `()`, or colons. In quotes a backslash takes the next
-# character with it. In a word it is no byte before a quote. A colon is no piece right after a closing quote, nor before a space
-# that no closing brace follows.
+# piece of it is bytes of a word, a text in quotation marks, one character or escape in apostrophes, any other apostrophe before
+# a byte of a word, `()`, or colons. In quotes a backslash takes the next character with it. In a word it is no byte before a
+# quote. A colon is no piece right after a closing quote, nor before a space that no closing brace follows.
 CONTROLS = r"\x00-\x1f\x7f"
 WORD_BYTES = "(?:[^" + CONTROLS + r""" "'(),:\[\]{}\\]|\\(?!["']))+"""
-IN_QUOTES = [quote + r"(?:[^\\" + quote + CONTROLS + r"]|\\[ -~])*" + quote for quote in "\"'"]
+IN_QUOTES = [r'"(?:[^\\"' + CONTROLS + r']|\\[ -~])*"', r"'(?:[^\\'" + CONTROLS + r"]|\\[ -~][A-Za-z0-9{}]*)'"]
+PLAIN_BYTE = "[^" + CONTROLS + r""" "'(),:\[\]{}\\]"""
+LIFETIME = "'(?=" + PLAIN_BYTE + ")"
 UNIT = r"\(\)"
 COLONS = r"""(?:(?<!["']):(?! (?!\})))+"""
-PIECE = re.compile("|".join([WORD_BYTES, *IN_QUOTES, UNIT, COLONS]))
-# Any byte of a word, also a backslash before a quote; a byte that is in it whatever follows; and one that a name may have.
+PIECE = re.compile("|".join([WORD_BYTES, *IN_QUOTES, LIFETIME, UNIT, COLONS]))
+# Any byte of a word, also a backslash before a quote; and one that a name may have.
 ANY_BYTE = "[^" + CONTROLS + r""" "'(),:\[\]{}]"""
-PLAIN_BYTE = "[^" + CONTROLS + r""" "'(),:\[\]{}\\]"""
 NAME_BYTE = "[^" + CONTROLS + r""" "'(),\[\]{}]"""
 START = re.compile(r"\(" + ANY_BYTE + r"+\)|\[" + NAME_BYTE + r"+\]:(?=" + PLAIN_BYTE + ")")
 
 
 def debug_leaf_at(text, at):
-    """The start, and all pieces that come in a row. Quotes that nothing closes are no leaf, nor is what comes before them. False
-    says so, and that no block begins here either."""
+    """The start, and all pieces that come in a row. A quotation mark that nothing closes is no leaf, nor is what comes before it.
+    False says so, and that no block begins here either."""
     started = START.match(text, at)
     end = started.end() if started else at
     found = PIECE.match(text, end)
     while found:
         end = found.end()
         found = PIECE.match(text, end)
-    if text.startswith(('"', "'"), end) or NO_UTF8.search(text, at, end):
+    if text.startswith('"', end) or NO_UTF8.search(text, at, end):
         return False
     return (text[at:end], end) if end > at else None
 

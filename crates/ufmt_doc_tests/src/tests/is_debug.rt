@@ -51,7 +51,7 @@ fn leaves_of_std_are_debug_documents(rt: HostRuntime) {
 }
 
 // Other documents, and whether they are debug documents. None is a token document.
-const DOCUMENTS: [(&str, Shape<'static>, bool); 48] = [
+const DOCUMENTS: [(&str, Shape<'static>, bool); 51] = [
     ("a path as a leaf", Leaf("a::B"), true),
     ("a backslash outside of quotes", Leaf("a\\b"), true),
     ("texts in quotes in a row", Leaf("\"a\"'b'c"), true),
@@ -123,7 +123,10 @@ const DOCUMENTS: [(&str, Shape<'static>, bool); 48] = [
     ("a name that ends in a colon", StructOf("a:", &[]), false),
     ("a name with parentheses", StructOf("f()", &[]), false),
     ("an open quotation mark", Leaf("\"a"), false),
-    ("an open apostrophe", Leaf("it's"), false),
+    ("an apostrophe in a word", Leaf("it's"), true),
+    ("a lifetime", Leaf("&'a"), true),
+    ("an open apostrophe", Leaf("its'"), false),
+    ("a lifetime as a name", TupleOf("'a", &[Leaf("x")]), false),
     ("a quotation mark after a backslash", Leaf("\"a\\\""), false),
     ("a control byte", Leaf("a\tb"), false),
     ("a control byte in quotes", Leaf("\"\n\""), false),

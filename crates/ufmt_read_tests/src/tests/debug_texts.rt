@@ -154,6 +154,14 @@ fn texts_that_rustc_printed_are_read_and_converted(rt: HostRuntime) {
         ("S { a: :: }", "S {\n    a: ::,\n}"),
         ("a { a: : }", "a {\n    a: :,\n}"),
         ("{fe80::: a:, b:: c}", "{\n    fe80::: a:,\n    b:: c,\n}"),
+        ("'static", "'static"),
+        ("\u{e9}'\u{e9}", "\u{e9}'\u{e9}"),
+        ("{'a: &'b, 'c': 'd}", "{\n    'a: &'b,\n    'c': 'd,\n}"),
+        (
+            "S { a: don't, b: ['x'y'z, '\\''a] }",
+            "S {\n    a: don't,\n    b: [\n        'x'y'z,\n        '\\''a,\n    ],\n}",
+        ),
+        ("('a,)", "(\n    'a,\n)"),
     ];
     for (plain, pretty) in rows {
         for (mode, text, other) in [(Mode::Plain, plain, pretty), (Mode::Pretty, pretty, plain)] {
@@ -181,7 +189,7 @@ fn debug_texts_are_converted_without_memory(rt: HostRuntime) {
 
 #[test]
 fn other_texts_are_no_debug_texts(rt: HostRuntime) {
-    let rows: [&[u8]; 45] = [
+    let rows: [&[u8]; 51] = [
         b"",
         b"a b",
         b"a: b",
@@ -202,8 +210,14 @@ fn other_texts_are_no_debug_texts(rt: HostRuntime) {
         b"\"S\"(1)",
         b"a\"b\"(1)",
         b"\"a",
-        b"'a",
-        b"a'b",
+        b"'",
+        b"a'",
+        b"'ab'",
+        b"''a",
+        b"'\\",
+        b"a'\\b",
+        b"'a(1)",
+        b"S { 'a: 1 }",
         b"\"a\\\"",
         b"\"\\\xc2\xb5\"",
         b"a\tb",

@@ -25,7 +25,7 @@ const PLAIN: [&str; 34] = [
     "[1, 2]|, 3",
     "word| ",
     "[|\"a]",
-    "[\"a\", |'b]",
+    "[\"a\", |']",
     "{1: 2, 3|}",
     "{1: 2, 3|, 4: 5}",
     "{1, 2|: 3}",
@@ -76,11 +76,12 @@ const PRETTY: [&str; 28] = [
 ];
 
 // Texts that only one class has, or that the two read to different places.
-const PLAIN_TOKENS: [&str; 12] = [
+const PLAIN_TOKENS: [&str; 13] = [
     "|é]",
     "x|é",
     "[|\"a\\q\"]",
     "[|'ab']",
+    "[\"a\", |'b]",
     "[1|.5]",
     "S { |.. }",
     "S { a: 1, |.. }",
@@ -91,12 +92,14 @@ const PLAIN_TOKENS: [&str; 12] = [
     "(1|)",
 ];
 
-const PLAIN_DEBUG: [&str; 14] = [
+const PLAIN_DEBUG: [&str; 16] = [
     "é|]",
     "[1.5, |]",
     "[a::b:|}",
     "[\"a\\q\"b, |\"c",
-    "[0..5, 'ab'| ]",
+    "[0..5, 'ab'b| ]",
+    "[0..5, 'ab|']",
+    "'a|(1)",
     "S { .. }| ",
     "S { a: 1, |..}",
     "S { a: 1, .. }|, ",

@@ -28,10 +28,9 @@ pieces-preserved-then-is_in_word c = word_next c.pieces.invariant c.after_word-e
 
 pub pieces-preserved : goal.pieces-preserved
 pieces-preserved c = quotes_next c.pieces.invariant c.after_word-end.ensures.passes
-    (subst (λ t. Passes outside t outside c.in-Some-after_unit.unit.now false) (sym c.in-Some.ensures.cases.0) c.in-Some-after_unit.ensures.0)
+    (subst (λ t. Passes outside t outside c.in-Some-after_other.other.now false) (sym c.in-Some.ensures.cases.0) c.in-Some-after_other.ensures.0)
 
-pub returns-in_default-after_unit : goal.returns-in_default-after_unit
-returns-in_default-after_unit c =
+pub returns-in_default-after_other : goal.returns-in_default-after_other
+returns-in_default-after_other c =
     ends_leaf c.args.input.now c.pieces.rest.now c.after_word-end.result.now c.pieces.is_named c.pieces.invariant c.after_word-end.ensures.passes
-    (stops_leaf c.after_word-end.result.now c.in-Some.field-0-0.now c.in-Some.after.now c.in-Some.ensures.cases.0
-    (sym c.is_quote.ensures ∙ c.if-is_quote.false) c.in_default-after_unit.ensures)
+    (stops_leaf c.after_word-end.result.now c.in-Some.field-0-0.now c.in-Some.after.now c.in-Some.ensures.cases.0 c.in_default-after_other.ensures)
