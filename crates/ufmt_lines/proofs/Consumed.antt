@@ -2,11 +2,11 @@
 use Rattle.std.proofs.Common.{◌≡◌, ◌∙◌, refl, ap, sym, subst, ℕ, List, [], ◌++◌, append-nil, Option, Some, None, IfSome}
 use Rattle.std.proofs.KnownBytes.{Consumes-kept, Consumes-nil, Consumes-trans, Consumes-whole, Appends-trans}
 use Rattle.std.specs.Io.KnownBytes.{Appends, Consumes, IsAtEnd, Keeps}
-use Rattle.ufmt_core.specs.declared.layout.Mode.{Mode}
+use Rattle.ufmt_lines.specs.declared.run.conversion.Conversion.{Conversion}
 use Rattle.ufmt_io.specs.Whole.{AppendsPrefix}
 use Rattle.ufmt_lines.specs.Output.{WritesOutput, WritesOutputPrefix, WritesFront, ReadsAndWrites, outputs_of}
 use Rattle.ufmt_lines.specs.Groups.{IsInGroup}
-use Rattle.ufmt_lines.specs.Readable.{output_of}
+use Rattle.ufmt_lines.specs.Values.{output_of}
 use Rattle.ufmt_lines.proofs.Cuts.{outputs_one}
 use Rattle.ufmt_lines.proofs.Fronts.{front_before, front_in_part, front_then, outputs_after, nothing_written}
 
@@ -16,25 +16,25 @@ consumed_front None new bytes P read holds = tt
 consumed_front (Some x) None bytes P read holds = absurd read
 consumed_front (Some x) (Some y) bytes P read holds = subst P (sym read) (holds y)
 
-module _ (mode : Mode) where
+module _ (conversion : Conversion) where
   -- what was read is whole groups, whose outputs were written, and this group so far
   abbrev pub WritesUpTo : List ℕ → Option (List ℕ) → Option (List ℕ) → Option (List ℕ) → Option (List ℕ) → Type 0
-  WritesUpTo group input input' old new = ReadsAndWrites mode (λ rest. rest ≡ group) input input' old new
+  WritesUpTo group input input' old new = ReadsAndWrites conversion (λ rest. rest ≡ group) input input' old new
 
   pub nothing_read : (input known : Option (List ℕ)) → WritesUpTo [] input input known known
-  nothing_read input known = record { text = []; read = Consumes-nil input; rest = []; is_rest = refl; written = nothing_written mode [] known }
+  nothing_read input known = record { text = []; read = Consumes-nil input; rest = []; is_rest = refl; written = nothing_written conversion [] known }
 
   module _ (group : List ℕ) (first second known old : Option (List ℕ)) (so_far : WritesUpTo group first second known old) where
-    group_left : WritesFront mode so_far.text group known old
-    group_left = subst (λ t. WritesFront mode so_far.text t known old) so_far.is_rest so_far.written
+    group_left : WritesFront conversion so_far.text group known old
+    group_left = subst (λ t. WritesFront conversion so_far.text t known old) so_far.is_rest so_far.written
 
     -- the rest may be described in another way
-    pub read_as : (P : List ℕ → Type 0) → P group → ReadsAndWrites mode P first second known old
+    pub read_as : (P : List ℕ → Type 0) → P group → ReadsAndWrites conversion P first second known old
     read_as P holds = record { text = so_far.text; read = so_far.read; rest = group; is_rest = holds; written = group_left }
 
     module _ (third : Option (List ℕ)) where
       -- a read that failed changes nothing
-      pub read_kept : (P : List ℕ → Type 0) → P group → Keeps second third → ReadsAndWrites mode P first third known old
+      pub read_kept : (P : List ℕ → Type 0) → P group → Keeps second third → ReadsAndWrites conversion P first third known old
       read_kept P holds kept =
           record { text = so_far.text; read = Consumes-kept first second third _ so_far.read kept; rest = group; is_rest = holds; written = group_left }
 
@@ -42,41 +42,41 @@ module _ (mode : Mode) where
       all_read consumed = subst (Consumes first third) (append-nil so_far.text) (Consumes-trans first second third _ _ so_far.read consumed)
 
       -- nor does a read of nothing
-      pub read_nothing : (P : List ℕ → Type 0) → P group → Consumes second third [] → ReadsAndWrites mode P first third known old
+      pub read_nothing : (P : List ℕ → Type 0) → P group → Consumes second third [] → ReadsAndWrites conversion P first third known old
       read_nothing P holds consumed = record { text = so_far.text; read = all_read consumed; rest = group; is_rest = holds; written = group_left }
 
       module _ (new : Option (List ℕ)) (bytes : List ℕ) (consumed : Consumes second third bytes) where
-        front_with : WritesFront mode (so_far.text ++ bytes) (group ++ bytes) known old
-        front_with = front_before mode so_far.text group bytes known old group_left
+        front_with : WritesFront conversion (so_far.text ++ bytes) (group ++ bytes) known old
+        front_with = front_before conversion so_far.text group bytes known old group_left
 
         -- more bytes were read, and the outputs for groups of them written
-        pub read_more : (P : List ℕ → Type 0) (rest : List ℕ) → P rest → WritesFront mode (group ++ bytes) rest old new → ReadsAndWrites mode P first third known new
+        pub read_more : (P : List ℕ → Type 0) (rest : List ℕ) → P rest → WritesFront conversion (group ++ bytes) rest old new → ReadsAndWrites conversion P first third known new
         read_more P rest holds more = record {
           text = so_far.text ++ bytes;
           read = Consumes-trans first second third _ _ so_far.read consumed;
           rest = rest;
           is_rest = holds;
-          written = front_then mode _ _ rest known old new front_with more;
+          written = front_then conversion _ _ rest known old new front_with more;
         }
 
         -- the output failed in between
-        pub read_in_part : ((more : List ℕ) → AppendsPrefix old new (outputs_of mode ((group ++ bytes) ++ more))) → WritesOutputPrefix mode first known new
+        pub read_in_part : ((more : List ℕ) → AppendsPrefix old new (outputs_of conversion ((group ++ bytes) ++ more))) → WritesOutputPrefix conversion first known new
         read_in_part part =
             consumed_front first third (so_far.text ++ bytes) _ (Consumes-trans first second third _ _ so_far.read consumed)
-            (λ more. front_in_part mode _ _ known old new (front_before mode _ _ more known old front_with) (part more))
+            (λ more. front_in_part conversion _ _ known old new (front_before conversion _ _ more known old front_with) (part more))
 
       -- nothing more comes
-      module _ (new : Option (List ℕ)) (consumed : Consumes second third []) (end : IsAtEnd third) (within : IsInGroup mode group) where
-        pub last_written : Appends old new (output_of mode group ++ []) → WritesOutput mode first known new
+      module _ (new : Option (List ℕ)) (consumed : Consumes second third []) (end : IsAtEnd third) (within : IsInGroup conversion.to group) where
+        pub last_written : Appends old new (output_of conversion group ++ []) → WritesOutput conversion first known new
         last_written written =
             let front = group_left in
-            let all : outputs_of mode so_far.text ≡ outputs_of mode front.front ++ (output_of mode group ++ []) =
-            ap (outputs_of mode) front.cut ∙ outputs_after mode front.front group front.groups
-            ∙ ap (λ t. outputs_of mode front.front ++ t) (outputs_one mode group within ∙ sym (append-nil (output_of mode group))) in
+            let all : outputs_of conversion so_far.text ≡ outputs_of conversion front.front ++ (output_of conversion group ++ []) =
+            ap (outputs_of conversion) front.cut ∙ outputs_after conversion front.front group front.groups
+            ∙ ap (λ t. outputs_of conversion front.front ++ t) (outputs_one conversion group within ∙ sym (append-nil (output_of conversion group))) in
             Consumes-whole first third so_far.text _ (all_read consumed) end (subst (Appends known new) (sym all) (Appends-trans known old new _ _ front.written written))
 
-        pub last_in_part : AppendsPrefix old new (output_of mode group ++ []) → WritesOutputPrefix mode first known new
+        pub last_in_part : AppendsPrefix old new (output_of conversion group ++ []) → WritesOutputPrefix conversion first known new
         last_in_part written =
-            let group_outputs : output_of mode group ++ [] ≡ outputs_of mode group = append-nil (output_of mode group) ∙ sym (outputs_one mode group within) in
+            let group_outputs : output_of conversion group ++ [] ≡ outputs_of conversion group = append-nil (output_of conversion group) ∙ sym (outputs_one conversion group within) in
             Consumes-whole first third so_far.text _ (all_read consumed) end
-            (front_in_part mode so_far.text group known old new group_left (subst (AppendsPrefix old new) group_outputs written))
+            (front_in_part conversion so_far.text group known old new group_left (subst (AppendsPrefix old new) group_outputs written))

@@ -1,13 +1,10 @@
 pub mod LineLengths
-pub mod ClosedBlocks
-pub mod LastOpenings
-pub mod OpenBlocks
-pub mod Searches
-pub mod FirstStarts
+pub mod NameBytes
+pub mod FirstBytes
 pub mod Groups
 pub mod Cuts
 pub mod Fronts
-pub mod Tails
+pub mod FoundValues
 pub mod Consumed
-pub mod LongestTexts
+pub mod Conversions
 pub mod WorkedGroups

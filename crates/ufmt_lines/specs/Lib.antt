@@ -4,4 +4,4 @@ pub mod Arguments
 pub mod Fault
 pub mod Groups
 pub mod Private
-pub mod Readable
+pub mod Values

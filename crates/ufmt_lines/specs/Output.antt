@@ -6,35 +6,36 @@ use Rattle.ufmt.specs.Bytes.{line_feed}
 use Rattle.ufmt_core.specs.declared.layout.Mode.{Mode}
 use Rattle.ufmt_io.specs.Whole.{AppendsPrefix}
 use Rattle.ufmt_lines.specs.Groups.{continues_after, groups_of}
-use Rattle.ufmt_lines.specs.Readable.{output_of}
+use Rattle.ufmt_lines.specs.Values.{output_of}
+use Rattle.ufmt_lines.specs.declared.run.conversion.Conversion.{Conversion}
 
 -- the output for each group of lines, with the line feeds between them
-unfoldable pub outputs_of : Mode → List ℕ → List ℕ
-outputs_of mode text = join_with_byte line_feed (map (output_of mode) (groups_of mode text))
+unfoldable pub outputs_of : Conversion → List ℕ → List ℕ
+outputs_of conversion text = join_with_byte line_feed (map (output_of conversion) (groups_of conversion.to text))
 
 -- the text is empty, or ends with a line feed at which a group ends
 abbrev pub AreWholeGroups : Mode → List ℕ → Type 0
 AreWholeGroups mode text = (text ≡ []) ⊎ ((front : List ℕ) × (text ≡ front ++ line_feed ∷ []) × (continues_after mode front ≡ false))
 
 -- if the bytes of input and output are known: the outputs for all groups were written
-abbrev pub WritesOutput : Mode → Option (List ℕ) → Option (List ℕ) → Option (List ℕ) → Type 0
-WritesOutput mode input old new = IfSome input (λ bytes. Appends old new (outputs_of mode bytes))
+abbrev pub WritesOutput : Conversion → Option (List ℕ) → Option (List ℕ) → Option (List ℕ) → Type 0
+WritesOutput conversion input old new = IfSome input (λ bytes. Appends old new (outputs_of conversion bytes))
 
 -- if the bytes of input and output are known: a prefix of the outputs was written
-abbrev pub WritesOutputPrefix : Mode → Option (List ℕ) → Option (List ℕ) → Option (List ℕ) → Type 0
-WritesOutputPrefix mode input old new = IfSome input (λ bytes. AppendsPrefix old new (outputs_of mode bytes))
+abbrev pub WritesOutputPrefix : Conversion → Option (List ℕ) → Option (List ℕ) → Option (List ℕ) → Type 0
+WritesOutputPrefix conversion input old new = IfSome input (λ bytes. AppendsPrefix old new (outputs_of conversion bytes))
 
 -- the outputs for whole groups at the front of a text were written, and nothing of the rest
-pub record WritesFront (mode : Mode) (text rest : List ℕ) (old new : Option (List ℕ)) : Type 0 where
+pub record WritesFront (conversion : Conversion) (text rest : List ℕ) (old new : Option (List ℕ)) : Type 0 where
   pub front : List ℕ
   pub cut : text ≡ front ++ rest
-  pub groups : AreWholeGroups mode front
-  pub written : Appends old new (outputs_of mode front)
+  pub groups : AreWholeGroups conversion.to front
+  pub written : Appends old new (outputs_of conversion front)
 
 -- what was read is whole groups, whose outputs were written, and a rest
-pub record ReadsAndWrites (mode : Mode) (IsRest : List ℕ → Type 0) (input input' old new : Option (List ℕ)) : Type 0 where
+pub record ReadsAndWrites (conversion : Conversion) (IsRest : List ℕ → Type 0) (input input' old new : Option (List ℕ)) : Type 0 where
   pub text : List ℕ
   pub read : Consumes input input' text
   pub rest : List ℕ
   pub is_rest : IsRest rest
-  pub written : WritesFront mode text rest old new
+  pub written : WritesFront conversion text rest old new

@@ -1,5 +1,5 @@
-pub mod Brackets
-pub mod Blocks
+pub mod Converted
+pub mod FoundValues
 pub mod GroupOutput
 pub mod Group
 pub mod LineLen

@@ -7,21 +7,21 @@ ghost use Rattle.ufmt_lines.specs.Groups.{IsInGroup};
 ghost use Rattle.ufmt_io.specs.Watched.{device_of, has_failed};
 
 mod arguments;
-mod blocks;
-mod brackets;
+mod conversion;
 mod fault;
 mod groups;
 pub mod laws;
 mod output;
 #[cfg(test)]
 mod tests;
+mod values;
 
 pub use arguments::{Request, asked, help, usage, version};
+pub use conversion::Conversion;
 pub use fault::fault_line;
 use groups::Group;
 use std::alloc::{AllocError, Global};
 use std::io::{Read, Write};
-use ufmt::layout::Mode;
 use ufmt_io::write_whole;
 pub use ufmt_io::{Failed, IoFault, Watched};
 
@@ -29,13 +29,13 @@ pub use ufmt_io::{Failed, IoFault, Watched};
 const CHUNK: usize = 64 * 1024;
 
 /// Reads the input to its end, and writes the output for each group of lines before it reads further,
-/// with texts in this mode. Memory is kept for the longest group and its output only.
+/// with its values converted. Memory is kept for the longest group and its output only.
 ///
 /// On `CannotWrite` a prefix of the outputs was written. On any other fault the outputs for whole
 /// groups were written: to all groups that were read whole, if the fault is `CannotRead`.
 pub fn run<R: Read, W: Write>(
     alloc: Global,
-    mode: Mode,
+    conversion: Conversion,
     input: &mut Watched<R>,
     output: &mut Watched<W>,
 ) -> Result<(), IoFault>
@@ -43,18 +43,18 @@ pub fn run<R: Read, W: Write>(
     requires output_works { has_failed output.old ≡ false }
 
     // What is read and written, if the bytes of reader and writer are known.
-    ensures ok { OnOk result (WritesOutput mode (R.remaining (device_of input.old))
+    ensures ok { OnOk result (WritesOutput conversion (R.remaining (device_of input.old))
         (W.contents (device_of output.old)) (W.contents (device_of output.new))) }
     ensures read_whole { OnOk result (IsAtEnd (R.remaining (device_of input.new))) }
     ensures cannot_write { IsErrOf result IoFault.CannotWrite
-        → WritesOutputPrefix mode (R.remaining (device_of input.old))
+        → WritesOutputPrefix conversion (R.remaining (device_of input.old))
         (W.contents (device_of output.old)) (W.contents (device_of output.new)) }
     ensures cannot_read { IsErrOf result IoFault.CannotRead
-        → ReadsAndWrites mode (IsInGroup mode) (R.remaining (device_of input.old))
+        → ReadsAndWrites conversion (IsInGroup conversion.to) (R.remaining (device_of input.old))
         (R.remaining (device_of input.new)) (W.contents (device_of output.old))
         (W.contents (device_of output.new)) }
     ensures out_of_memory { IsErrOf result IoFault.OutOfMemory
-        → ReadsAndWrites mode (λ _. ⊤) (R.remaining (device_of input.old))
+        → ReadsAndWrites conversion (λ _. ⊤) (R.remaining (device_of input.old))
         (R.remaining (device_of input.new)) (W.contents (device_of output.old))
         (W.contents (device_of output.new)) }
 
@@ -67,9 +67,9 @@ pub fn run<R: Read, W: Write>(
     'reads: for _ in 0..u64::MAX {
         let count = read_chunk(input, &mut chunk)?;
         if count == 0 {
-            return group.write(mode, b"", output);
+            return group.write(conversion, b"", output);
         }
-        group.write_ended(mode, front(&chunk, count), output)?;
+        group.write_ended(conversion, front(&chunk, count), output)?;
     }
     // An input with no end, after 2^64 - 1 reads.
     input.give_up();

@@ -17,6 +17,8 @@ pub mod EventTexts
 pub mod WorkedEvents
 pub mod Conversions
 pub mod DebugFronts
+pub mod FrontScans
+pub mod Shapes
 pub mod Growing
 pub mod OpenSteps
 pub mod Places

@@ -1,4 +1,5 @@
 pub mod Depth
+pub mod Fronts
 pub mod Places
 pub mod Private
 pub mod Rest

@@ -17,4 +17,4 @@ pub mod strip;
 mod text;
 
 pub use place::valid_up_to;
-pub use text::is_text;
+pub use text::{FrontText, begins_with_field, front_text, is_text};

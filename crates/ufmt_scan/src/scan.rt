@@ -3,6 +3,7 @@ ghost use Rattle.std.specs.Prelude.{◌≡◌, ◌<◌, ◌≤◌, [], IfOk, Lis
 ghost use Rattle.ufmt_core.specs.Layout.{layout, setting};
 ghost use Rattle.ufmt_grammar.specs.Reading.{parse_map, read};
 ghost use Rattle.ufmt_scan.specs.Private.Scanning.{ScansOn, kind_of, scan_next, scan_ends, scan_begun, scan_left, open_stages, Stage};
+ghost use Rattle.ufmt_scan.specs.Private.FrontScan.{ScansFront};
 ghost use Rattle.ufmt_scan.specs.Scan.{Scans, events_of};
 
 mod event;
@@ -40,6 +41,45 @@ pub fn scan<S: Sink>(
             scan_in::<S, true, true>(Class::Debug, Mode::Pretty, input, sink)
         }
     }
+}
+
+/// Emits the events of the document at the front of the input, as `scan` does of a whole text, and
+/// returns how long the document's text is.
+#[inline(always)]
+pub(crate) fn scan_front<S: Sink>(
+    class: Class,
+    mode: Mode,
+    input: &[u8],
+    sink: &mut S,
+) -> Result<usize, ScanError<S::Error>>
+    ensures { ScansFront S.took S.stopped class mode input.now sink.old result sink.new }
+{
+    match (class, mode) {
+        (Class::Token, Mode::Plain) => {
+            scan_front_in::<S, false, false>(Class::Token, Mode::Plain, input, sink)
+        }
+        (Class::Token, Mode::Pretty) => {
+            scan_front_in::<S, true, false>(Class::Token, Mode::Pretty, input, sink)
+        }
+        (Class::Debug, Mode::Plain) => {
+            scan_front_in::<S, false, true>(Class::Debug, Mode::Plain, input, sink)
+        }
+        (Class::Debug, Mode::Pretty) => {
+            scan_front_in::<S, true, true>(Class::Debug, Mode::Pretty, input, sink)
+        }
+    }
+}
+
+fn scan_front_in<S: Sink, const PRETTY: bool, const DEBUG: bool>(
+    class: Class,
+    mode: Mode,
+    input: &[u8],
+    sink: &mut S,
+) -> Result<usize, ScanError<S::Error>>
+    ensures { ScansFront S.took S.stopped class mode input.now sink.old result sink.new }
+{
+    let rest = scan_document::<S, PRETTY, DEBUG>(class, mode, input, sink)?;
+    Ok(input.len() - rest.len())
 }
 
 // `PRETTY` and `DEBUG` are never read, here and below. They make one copy per sink, mode and class,

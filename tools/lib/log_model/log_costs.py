@@ -31,8 +31,9 @@ INDENTED = Block("list", "", [(None, "x")] * 60)
 for _ in range(60):
     INDENTED = Block("list", "", [(None, INDENTED)])
 READING = Block("struct", "Reading", [("channel", "3"), ("text", quoted("a [b]"))])
-ESCAPED = Block("struct", "Reading", [("channel", "3"), ("text", quoted('a "b" [c]'))])
-LOCK = Block("open struct", "Mutex", [("data", "7"), ("poisoned", "false")])
+REQUEST = Block("struct", "Request", [("from", "10.0.0.7:80"), ("path", quoted("/items/[7]")), ("took", "1.5ms"), ("state", READING)])
+ESCAPED = Block("struct", "Reading", [("channel", "3"), ("text", quoted('a "b" [c]')), ("took", "1.5ms")])
+LOCK = Block("open struct", "Mutex", [("data", "7"), ("poisoned", "false"), ("owner", quoted("a worker"))])
 ONLY_DOTS = Block("open struct", "Once", [])
 
 
@@ -59,49 +60,52 @@ def group(name, steps, first, piece):
 
 
 LONG_LINES = (
-    line("a long word", "pretty", 6, b"a"),
-    line("a line of words", "pretty", 6, b"a "),
-    line("a line of spaces", "pretty", 6, b" "),
-    line("a line of brackets", "pretty", 6, b"[ "),
-    line("brackets in brackets", "pretty", 6, b"["),
-    line("a line of lists", "pretty", 6, b"[1] "),
-    line("a line of quotes", "pretty", 6, b'"a '),
-    line("a line of bytes that aren't UTF-8", "pretty", 6, b"\xff "),
-    listed("a long list", "pretty", 43, plain),
-    line("a line of only dots", "pretty", 6, b"S { .. } "),
-    Shape("a line of open tuples", "pretty", 4, lambda size: b"(a, " * (size // 32)),
-    listed("a pretty list", "plain", 42, pretty),
-    group("a group without an end", 16, b"got [\n", b"    12345,\n"),
-    group("a group of brackets", 44, b"", b"[\n"),
-    group("a group of spaces", 11, b"[\n", b" " * 63 + b"\n"),
+    line("a long word", "pretty", 3, b"a"),
+    line("a line of words", "pretty", 3, b"a "),
+    line("a line of spaces", "pretty", 3, b" "),
+    line("a line of brackets", "pretty", 156, b"[ "),
+    line("brackets in brackets", "pretty", 22954, b"["),
+    line("a line of lists", "pretty", 103, b"[1] "),
+    line("a line of quotes", "pretty", 3, b'"a '),
+    line("a line of bytes that aren't UTF-8", "pretty", 3, b"\xff "),
+    listed("a long list", "pretty", 41, plain),
+    line("a line of only dots", "pretty", 33, b"S { .. } "),
+    Shape("a line of open tuples", "pretty", 11546, lambda size: b"(a, " * (size // 32)),
+    listed("a pretty list", "plain", 41, pretty),
+    group("a group without an end", 27, b"got [\n", b"    12345,\n"),
+    group("a group of brackets", 185, b"", b"[\n"),
+    group("a group of spaces", 9, b"[\n", b" " * 63 + b"\n"),
 )
-# Blocks that are open at the end of the line, and closed too early. What the last byte closes is looked for from the end on, so
-# a byte is read few times. After a backslash more than one bracket may be the one. If each may be, a byte is scanned for each before it.
+# Blocks that are open at the end of the line, and closed too early. Each bracket is tried, and read up to the piece that doesn't fit:
+# a byte is read once for each block that is open there, and no text has more than 255.
 OPEN_LINES = (
-    line("lines of open tuples", "pretty", 4, b"(a, " * 250 + b"\n"),
-    line("lines of open structs", "pretty", 4, b"S { a: " * 250 + b"\n"),
-    line("lines of open tuples, and a bracket", "pretty", 5, b"(a, " * 250 + b")\n"),
-    line("lines of open tuples of quotes", "pretty", 5, b'("a", ' * 250 + b")\n"),
-    line("lines of tuples, and a bracket", "pretty", 18, b"(a, " * 120 + b"a" + b")" * 120 + b" )\n"),
-    line("lines of open tuples of escapes", "pretty", 44, b'("\\"", ' * 250 + b")\n"),
-    line("lines of brackets of which each may be it", "pretty", 1400, b"(\\' " * 250 + b"', )\n"),
+    line("lines of open tuples", "pretty", 5699, b"(a, " * 250 + b"\n"),
+    line("lines of open structs", "pretty", 2348, b"S { a: " * 250 + b"\n"),
+    line("lines of open tuples, and a bracket", "pretty", 5698, b"(a, " * 250 + b")\n"),
+    line("lines of open tuples of quotes", "pretty", 3718, b'("a", ' * 250 + b")\n"),
+    line("lines of tuples, and a bracket", "pretty", 147, b"(a, " * 120 + b"a" + b")" * 120 + b" )\n"),
+    line("lines of open tuples of escapes", "pretty", 7539, b'("\\"", ' * 250 + b")\n"),
+    line("lines of brackets of which each may be it", "pretty", 118, b"(\\' " * 250 + b"', )\n"),
 )
 MANY_LINES = (
-    line("empty lines", "pretty", 217, b"\n"),
-    line("lines without a value", "pretty", 7, b"2026-11-27T12:00:00Z INFO server: accepted connection 17 from 10.0.0.7, 3 are open\n"),
-    line("lines that end with a bracket", "pretty", 18, b"12:00 INFO took 3 ms (cached, see the second table)\n"),
-    line("short lines", "pretty", 35, b"a word\n"),
-    line("lines of texts", "pretty", 35, b"12:00 INFO got " + plain(READING).encode() + b"\n"),
-    line("lines of texts with escapes", "pretty", 57, b"12:00 INFO got " + plain(ESCAPED).encode() + b"\n"),
-    line("lines of words with escapes", "pretty", 39, b'12:00 INFO said "a \\"b\\" c" (cached "x\\n")\n'),
-    line("lines of locks", "pretty", 34, b"12:00 INFO got " + plain(LOCK).encode() + b"\n"),
-    line("lines of only dots", "pretty", 25, b"12:00 INFO got " + plain(ONLY_DOTS).encode() + b"\n"),
-    line("lines of deep texts", "pretty", 231, plain(DEEP).encode() + b"\n"),
-    line("short lines, made plain", "plain", 43, b"a word\n"),
-    line("groups", "plain", 41, b"12:00 INFO got " + pretty(READING).encode() + b"\n"),
-    line("groups of locks", "plain", 39, b"12:00 INFO got " + pretty(LOCK).encode() + b"\n"),
-    line("groups of a bracket", "plain", 130, b"[\n]\n"),
-    line("groups of indented lines", "plain", 17, pretty(INDENTED).encode() + b"\n"),
+    line("empty lines", "pretty", 246, b"\n"),
+    line("lines without a value", "pretty", 5, b"2026-11-27T12:00:00Z INFO server: accepted connection 17 from 10.0.0.7, 3 are open\n"),
+    line("lines that end with a bracket", "pretty", 20, b"12:00 INFO took 3 ms (cached, see the second table)\n"),
+    line("short lines", "pretty", 46, b"a word\n"),
+    line("lines of short texts", "pretty", 20, b"12:00 INFO got " + plain(READING).encode() + b"\n"),
+    line("lines of texts", "pretty", 39, b"12:00 INFO got " + plain(REQUEST).encode() + b"\n"),
+    line("lines with a text in the middle", "pretty", 37, b"12:00 INFO request=" + plain(REQUEST).encode() + b", 3 are open\n"),
+    line("lines of texts with escapes", "pretty", 45, b"12:00 INFO got " + plain(ESCAPED).encode() + b"\n"),
+    line("lines of words with escapes", "pretty", 18, b'12:00 INFO said "a \\"b\\" c" (cached "x\\n")\n'),
+    line("lines of locks", "pretty", 37, b"12:00 INFO got " + plain(LOCK).encode() + b"\n"),
+    line("lines of only dots", "pretty", 30, b"12:00 INFO got " + plain(ONLY_DOTS).encode() + b"\n"),
+    line("lines of deep texts", "pretty", 59, plain(DEEP).encode() + b"\n"),
+    line("short lines, made plain", "plain", 54, b"a word\n"),
+    line("groups", "plain", 43, b"12:00 INFO got " + pretty(READING).encode() + b"\n"),
+    line("groups of requests", "plain", 38, b"12:00 INFO got " + pretty(REQUEST).encode() + b", 3 are open\n"),
+    line("groups of locks", "plain", 40, b"12:00 INFO got " + pretty(LOCK).encode() + b"\n"),
+    line("groups of a bracket", "plain", 157, b"[\n]\n"),
+    line("groups of indented lines", "plain", 11, pretty(INDENTED).encode() + b"\n"),
 )
 SHAPES = LONG_LINES + OPEN_LINES + MANY_LINES
 

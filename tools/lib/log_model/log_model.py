@@ -7,26 +7,125 @@ import re
 from lib.model.model import DEBUG, STRUCTS, Block, PlainReader, PrettyReader, plain, pretty, quoted  # noqa: E402, F401
 
 MODES = ("pretty", "plain")
-# The reader of the texts that are converted to a mode, and what prints them in that mode.
-CONVERSIONS = {"pretty": (PlainReader(DEBUG), pretty), "plain": (PrettyReader(DEBUG), plain)}
+# The readers of texts, and what prints their documents in the other mode.
+READERS = {"pretty": PlainReader(DEBUG), "plain": PrettyReader(DEBUG)}
+PRINTERS = {"pretty": pretty, "plain": plain}
+# How long a plain text is at most that stays, if nothing else is said.
+LONGER_THAN = 40
 OPENING = (b"(", b"[", b"{")
-# A text may begin at a line's start, and after a space. No text begins with a space or a line feed.
-TEXT_START = re.compile(r"(?:^|(?<=[ \n]))(?=[^ \n])")
-# A byte that isn't UTF-8, as it is decoded here.
-BAD = re.compile("[\udc80-\udcff]")
+BRACKET = re.compile(r"[(\[{]")
+# A byte that a name may have: a byte of a word, or a colon.
+NAME_BYTE = re.compile(r"""[^\x00-\x1f\x7f "'(),\[\]{}]""")
+# The line of the first entry of a pretty block begins so.
+FIRST_LINE = "\n    "
 
 
-def output(mode, group):
-    """The group with the longest text at its end in the other mode."""
-    reader, printed = CONVERSIONS[mode]
-    text = group.decode("utf-8", "surrogateescape")
-    after_bad = max((found.end() for found in BAD.finditer(text)), default=0)
-    for found in TEXT_START.finditer(text, after_bad):
-        at = found.start()
-        read = reader.document_at(text, at, 0)
-        if read is not None and read[1] == len(text):
-            return text[:at].encode("utf-8", "surrogateescape") + printed(read[0]).encode()
-    return group
+def decoded(log):
+    return log.decode("utf-8", "surrogateescape")
+
+
+def encoded(text):
+    return text.encode("utf-8", "surrogateescape")
+
+
+def name_start(text, at, end):
+    """Where the longest run of bytes of a name begins that ends at `end`, from `at` on."""
+    while end > at and NAME_BYTE.match(text[end - 1]):
+        end -= 1
+    return end
+
+
+def is_name(word):
+    return word != "" and not word.endswith(":")
+
+
+def begins_with_field(text, at):
+    """Whether a field's name, a colon and a space are here."""
+    found = READERS["pretty"].name_at(text, at)
+    return found is not None and text.startswith(": ", found[1])
+
+
+def brace_of(mode, text, at, opening):
+    """The start of a value with this brace, and whether it is a map or a set after a name."""
+    if opening == at or text[opening - 1] != " ":
+        return opening, False
+    start = name_start(text, at, opening - 1)
+    if not is_name(text[start : opening - 1]):
+        return opening, False
+    if mode == "pretty":
+        is_struct = text.startswith(" ", opening + 1)
+    else:
+        is_struct = text.startswith(FIRST_LINE, opening + 1) and begins_with_field(text, opening + 1 + len(FIRST_LINE))
+    return (start, False) if is_struct else (opening, True)
+
+
+def start_of(mode, text, at, opening):
+    """Where a value with this bracket begins, and whether it is a map or a set after a name."""
+    if text[opening] == "{":
+        return brace_of(mode, text, at, opening)
+    if text[opening] == "(":
+        start = name_start(text, at, opening)
+        return (start if is_name(text[start:opening]) else opening), False
+    return opening, False
+
+
+def read_from(mode, text, start):
+    """The document that begins here and where it ends. The reader looks back for a quote: what is before the start doesn't count."""
+    if not text.startswith(":", start):
+        return READERS[mode].document_at(text, start, 0)
+    read = READERS[mode].document_at(text[start:], 0, 0)
+    return read and (read[0], start + read[1])
+
+
+def leaves(document):
+    """How many leaves a document has. A block without entries is one."""
+    if isinstance(document, str) or not document.entries:
+        return 1
+    count = 0
+    for before, value in document.entries:
+        if before is not None and document.kind not in STRUCTS:
+            count += leaves(before)
+        count += leaves(value)
+    return count
+
+
+def stays(text, opening, after_name, longer_than, document, end, start):
+    """Whether a plain value stays as it is."""
+    if len(encoded(text[start:end])) <= longer_than or leaves(document) == 1:
+        return True
+    return after_name and document.kind == "map" and begins_with_field(text, opening + 1)
+
+
+def values(mode, text, longer_than=LONGER_THAN):
+    """The values of a text from the left on: where each begins and ends, and its output, or None if it stays."""
+    at = 0
+    while True:
+        found = BRACKET.search(text, at)
+        if found is None:
+            return
+        opening = found.start()
+        start, after_name = start_of(mode, text, at, opening)
+        read = read_from(mode, text, start)
+        if read is None or isinstance(read[0], str) or not read[0].entries:
+            at = opening + 1
+            continue
+        document, end = read
+        if mode == "pretty" and stays(text, opening, after_name, longer_than, document, end, start):
+            yield start, end, None
+        else:
+            yield start, end, PRINTERS[mode](document)
+        at = end
+
+
+def output(mode, group, longer_than=LONGER_THAN):
+    """The group with its values in this mode."""
+    text = decoded(group)
+    out, done = [], 0
+    for start, end, other in values(mode, text, longer_than):
+        if other is not None:
+            out += [text[done:start], other]
+            done = end
+    return encoded("".join([*out, text[done:]]))
 
 
 def groups(mode, log):
@@ -44,22 +143,22 @@ def groups(mode, log):
     return found
 
 
-def outputs(mode, log):
+def outputs(mode, log, longer_than=LONGER_THAN):
     """The output for each group, and how many bytes of the log there are up to the group's end."""
     found, end = [], 0
     for group in groups(mode, log):
         end += len(group)
         is_ended = group.endswith(b"\n")
-        found.append((end, output(mode, group[:-1] if is_ended else group) + b"\n" * is_ended))
+        found.append((end, output(mode, group[:-1] if is_ended else group, longer_than) + b"\n" * is_ended))
     return found
 
 
-def writes(mode, log, chunks):
+def writes(mode, log, chunks, longer_than=LONGER_THAN):
     """What is written after each chunk is read, and last after the end: a list for each, with a piece for each write.
 
     The output for a group is one write, as soon as the group's last line was read. An empty output is not written.
     """
-    whole = outputs(mode, log)
+    whole = outputs(mode, log, longer_than)
     _end, last = whole.pop()
     rounds, read, at = [], 0, 0
     for chunk in chunks:

@@ -118,6 +118,7 @@ IN_BODIES = [
     (NO_MEMORY, "ufmt_scan/src/debug_leaf.rt", "split_leaf", "match str::from_utf8(leaf): Err(_)=>None"),
     (NO_MEMORY, "ufmt_scan/src/place.rt", "valid_up_to", "let _outcome=scan_once(class, mode, text, &mut counter)"),
     (NO_MEMORY, "ufmt_scan/src/text.rt", "is_text", "scan(class, mode, text, &mut Ignores).is_ok()"),
+    (NO_MEMORY, "ufmt_scan/src/text.rt", "front_text", "match scan_front(class, mode, text, &mut shape): Err(_)=>None"),
     (RESULT, "ufmt_core/src/core_impls/enums.rt", "uDebug for Result<T, E>::fmt", "match self: Err(error)=>f.tuple_1(\"\", error)"),
     (RESULT, "ufmt_parse/src/core_impls/options.rt", "uParse<A>for Result<T, E>::prove_value", "match self: Err(error)=>error.prove_value()"),
     (DEVICE, "ufmt_conv/src/run.rt", "run", "write_whole(output, line.as_bytes()).map_err(|_|Fault::CannotWrite)"),

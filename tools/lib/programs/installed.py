@@ -16,15 +16,15 @@ PROGRAMS = {
 
 
 def words_of_usage(text):
-    """The words between which the usage line lets choose."""
+    """The words between which the usage line lets choose, without names of values, which are in capitals."""
     found = re.search(r"usage: \w+ (.*)", text).group(1)
-    return sorted(re.findall(r"[\w-]+", found))
+    return sorted(word for word in re.findall(r"[\w-]+", found) if not word.isupper())
 
 
 def words_of_page(page, section):
     """The words that a section of the page has, each in bold after a line of `.TP`."""
     part = page.split(".SH %s\n" % section)[1].split(".SH ")[0]
-    return sorted(word.replace("\\-", "-") for word in re.findall(r"^\.TP\n\.B (\S+)$", part, re.MULTILINE))
+    return sorted(word.replace("\\-", "-") for word in re.findall(r"^\.TP\n\.BI? (\S+)(?: \" \w+\")?$", part, re.MULTILINE))
 
 
 def faults_of(prefix, name):

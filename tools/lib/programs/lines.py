@@ -5,34 +5,42 @@ import subprocess
 
 from lib.programs.cases import CLOSED, FOLDER, Cases, texts
 
-USAGE = "usage: ufmt_lines [--plain | --help | --version]"
+LOGS_FOLDER = pathlib.Path(__file__).resolve().parents[2] / "data" / "logs"
+USAGE = "usage: ufmt_lines [--longer-than N | --plain | --help | --version]"
 VERSION = b"ufmt_lines 0.3.0\n"
-HELP = b"""usage: ufmt_lines [--plain | --help | --version]
+HELP = b"""usage: ufmt_lines [--longer-than N | --plain | --help | --version]
 
-Writes each line of standard input, with the debug text at its end made pretty.
+Writes each line of standard input, with its long debug texts made pretty.
 
-  --plain    writes pretty texts of several lines as plain ones
-  --help     prints this text
-  --version  prints the version
+  --longer-than N  makes texts of more than N bytes pretty, not of more than 40
+  --plain          writes pretty texts of several lines as plain ones
+  --help           prints this text
+  --version        prints the version
 """
 CANNOT_READ = "ufmt_lines: cannot read"
 CANNOT_WRITE = "ufmt_lines: cannot write"
 OUT_OF_MEMORY = "ufmt_lines: out of memory"
 PLAIN, PRETTY = texts("node")
 MIB = 1024 * 1024
+# A line with a value of more than forty bytes, and the same made pretty.
+LONG = b"got [1, 12345678901234567890, 23456789012345678901]\n"
+LONG_PRETTY = b"got [\n    1,\n    12345678901234567890,\n    23456789012345678901,\n]\n"
 
 # Each pretty log, and the log whose values are plain.
 LOGS = [
     ("a line", PLAIN, PRETTY),
     ("nothing", b"", b""),
-    ("four lines, the last without a line feed", b"12:00 INFO got Reading { channel: 3 }\n\nno text\nend [1]",
-     b"12:00 INFO got Reading {\n    channel: 3,\n}\n\nno text\nend [\n    1,\n]"),
-    ("structs that end in dots", b"state Mutex { data: 0, poisoned: false, .. }\nOnce { .. }\n",
-     b"state Mutex {\n    data: 0,\n    poisoned: false,\n    ..\n}\nOnce { .. }\n"),
+    ("four lines, the last without a line feed", b"12:00 INFO got=Reading { channel: 3, text: \"not a short one\" }; ok\n\nno text\nend [1234567890123456789, 2345678901234567890]",
+     b"12:00 INFO got=Reading {\n    channel: 3,\n    text: \"not a short one\",\n}; ok\n\nno text\nend [\n    1234567890123456789,\n    2345678901234567890,\n]"),
+    ("structs that end in dots", b"state Mutex { data: 0, poisoned: false, owner: 7, .. }\nOnce { .. }\n",
+     b"state Mutex {\n    data: 0,\n    poisoned: false,\n    owner: 7,\n    ..\n}\nOnce { .. }\n"),
+    ("a carriage return, colours and a tab", b"\x1b[3mpoint\x1b[0m=Point { x: 1.5, y: 2.5, label: \"a long label\" }\x1b[0m\tend\r\n",
+     b"\x1b[3mpoint\x1b[0m=Point {\n    x: 1.5,\n    y: 2.5,\n    label: \"a long label\",\n}\x1b[0m\tend\r\n"),
 ]
 # Logs that stay, in each mode.
 STAY = {
-    (): [("a pretty text", PRETTY), ("a carriage return", b"got [1]\r\n"), ("no dots after a comma", b"S { a: 1, ..}\n"),
+    (): [("a pretty text", PRETTY), ("a short text", b"got [1, 2]\n"), ("one leaf", b"got Some(\"%s\")\n" % (b"a" * 50)),
+         ("a map after a word", b"counts {a: 1234567890123456789, b: 2345678901234567890}\n"), ("no dots after a comma", b"S { a: 1, ..}\n"),
          ("quotes that stay open", b"it's (a, 'b)\n"), ("brackets that don't match", b"[1, (2, 3]\n"),
          ("an opening bracket in quotes", b'say "[1]\n')],
     ("--plain",): [("a plain text", PLAIN), ("lines", b"got [\r\n    1,\r\n]\r\n{\n    1,\n\n  word\n]\n"), ("dots and a comma", b"S {\n    a: 1,\n    ..,\n}\n"),
@@ -44,17 +52,31 @@ def conversions(cases):
     for name, plain, pretty in LOGS:
         cases.judge(name, cases.run(text=plain), 0, pretty)
         cases.judge("--plain: " + name, cases.run("--plain", text=pretty), 0, plain)
+    example, readable = ((LOGS_FOLDER / name).read_bytes() for name in ("example.log", "example.pretty"))
+    cases.judge("the example", cases.run(text=example), 0, readable)
+    cases.judge("--plain: the example", cases.run("--plain", text=readable), 0, example)
     for row, logs in STAY.items():
         for name, log in logs:
             cases.judge("%s: %s stays" % (" ".join(row), name), cases.run(*row, text=log), 0, log)
-    cases.judge("a byte that isn't UTF-8", cases.run(text=b"\xff [1]\n"), 0, b"\xff [\n    1,\n]\n")
-    cases.judge("quotes before a text", cases.run(text=b'it\'s "x [a]\n'), 0, b'it\'s "x [\n    a,\n]\n')
-    cases.judge("an escape in a text", cases.run(text=b'a ["b\\" [c"]\n'), 0, b'a [\n    "b\\" [c",\n]\n')
+    long = b"b" * 40
+    cases.judge("a byte that isn't UTF-8", cases.run(text=b"\xff [1, %s]\n" % long), 0, b"\xff [\n    1,\n    %s,\n]\n" % long)
+    cases.judge("quotes before a text", cases.run(text=b'it\'s "x [a, %s]\n' % long), 0, b'it\'s "x [\n    a,\n    %s,\n]\n' % long)
+    cases.judge("an escape in a text", cases.run(text=b'a ["b\\" [c", %s]\n' % long), 0, b'a [\n    "b\\" [c",\n    %s,\n]\n' % long)
+
+
+def limits(cases):
+    """A plain text stays if it has no more bytes than the limit: 40, or what `--longer-than` says."""
+    forty, more = b"[%s, b]\n" % (b"a" * 35), b"[%s, b]\n" % (b"a" * 36)
+    pretty = [b"[\n    %s,\n    b,\n]\n" % (b"a" * size) for size in (35, 36)]
+    for row, output in (((), forty + pretty[1]), (("--longer-than", "40"), forty + pretty[1]), (("--longer-than", "39"), pretty[0] + pretty[1]),
+                        (("--longer-than", "41"), forty + more), (("--longer-than", "0"), pretty[0] + pretty[1]),
+                        (("--longer-than", "18446744073709551615"), forty + more)):
+        cases.judge("the limit %s" % (row,), cases.run(*row, text=forty + more), 0, output)
 
 
 def slow_producer(cases):
     """The output for each line or group comes before the producer writes the next."""
-    steps = [(b"a [1]\n", b"a [\n    1,\n]\n"), (b"b\n", b"b\n"), (b"c S { d: e }\n", b"c S {\n    d: e,\n}\n")]
+    steps = [(LONG, LONG_PRETTY), (b"b\n", b"b\n"), (b"c " + LONG, b"c " + LONG_PRETTY)]
     cases.judge("a slow producer", cases.slow([], steps), 0, b"".join(output for _, output in steps))
     turned = [(pretty, plain) for plain, pretty in steps]
     cases.judge("--plain: a slow producer", cases.slow(["--plain"], turned), 0, b"".join(output for _, output in turned))
@@ -74,7 +96,8 @@ def arguments(cases):
     long = "a" * 2000
     rows = [(word,) for word in ("", "--pretty", "--Plain", "--PLAIN", "--plai", "--plain1", " --plain", "--plain ", "--plain\n", "--plain=1", "-p",
                                  "plain", "pretty", "-h", "help", "-V", "--help ", "--versio", "version", "-", "--", long, "--plain" + long)]
-    rows += [("--plain", "--plain"), ("--plain", ""), ("", "--plain"), ("--", "--plain"), ("--plain", "--help"), ("--help", "--help"), ("a", "b", "c")]
+    rows += [("--plain", "--plain"), ("--plain", ""), ("", "--plain"), ("--", "--plain"), ("--plain", "--help"), ("--help", "--help"), ("a", "b", "c"),
+             ("--longer-than",), ("--longer-than", "x"), ("--longer-than", "1", "--plain"), ("--longer-than=1",), ("--longer-than", "18446744073709551616")]
     for row in rows:
         cases.judge("the arguments %s" % [word[:20] for word in row], cases.run(*row, text=PLAIN), 2, b"", USAGE)
     for row in ((b"\xff",), ("--plain", b"\xff")):
@@ -108,9 +131,8 @@ def errors(cases):
 
 def readers_go_away(cases):
     """A reader takes the first output and goes away. The input has no end."""
-    pretty = b"got [\n    1,\n]\n"
-    cases.judge("a reader that goes away", cases.leaves([], b"got [1]\n" * 1000, len(pretty), endless=True), 4, pretty, CANNOT_WRITE)
-    cases.judge("--plain: a reader that goes away", cases.leaves(["--plain"], pretty * 1000, 8, endless=True), 4, b"got [1]\n", CANNOT_WRITE)
+    cases.judge("a reader that goes away", cases.leaves([], LONG * 1000, len(LONG_PRETTY), endless=True), 4, LONG_PRETTY, CANNOT_WRITE)
+    cases.judge("--plain: a reader that goes away", cases.leaves(["--plain"], LONG_PRETTY * 1000, len(LONG), endless=True), 4, LONG, CANNOT_WRITE)
 
 
 def slow_reader_goes_away(cases):
@@ -133,20 +155,20 @@ def slow_reader_goes_away(cases):
 def too_long_a_line(cases):
     """With 6 MiB the program starts, and can't keep a line of 8 MiB. The lines before it are written."""
     line = b"a" * (8 * MIB)
-    cases.judge("a line of 8 MiB in 6 MiB", cases.run(text=b"a [1]\nb\n" + line, limit=6 * 1024), 5, b"a [\n    1,\n]\nb\n", OUT_OF_MEMORY)
-    cases.judge("a line of 8 MiB", cases.run(text=b"a [1]\nb\n" + line), 0, b"a [\n    1,\n]\nb\n" + line)
+    cases.judge("a line of 8 MiB in 6 MiB", cases.run(text=LONG + b"b\n" + line, limit=6 * 1024), 5, LONG_PRETTY + b"b\n", OUT_OF_MEMORY)
+    cases.judge("a line of 8 MiB", cases.run(text=LONG + b"b\n" + line), 0, LONG_PRETTY + b"b\n" + line)
 
 
 def many_lines(cases):
     """Memory is kept for one line or group only: 100,000 pass in 6 MiB, there and back."""
-    plain, pretty = b"got [1]\n" * 100_000, b"got [\n    1,\n]\n" * 100_000
+    plain, pretty = LONG * 100_000, LONG_PRETTY * 100_000
     cases.judge("100,000 lines in 6 MiB", cases.run(text=plain, limit=6 * 1024), 0, pretty)
     cases.judge("--plain: 100,000 groups in 6 MiB", cases.run("--plain", text=pretty, limit=6 * 1024), 0, plain)
 
 
 def main(program):
     cases = Cases(program)
-    for part in (conversions, slow_producer, helps, arguments, inputs, outputs, errors, readers_go_away, slow_reader_goes_away, too_long_a_line,
+    for part in (conversions, limits, slow_producer, helps, arguments, inputs, outputs, errors, readers_go_away, slow_reader_goes_away, too_long_a_line,
                  many_lines):
         part(cases)
     return cases.end()

@@ -6,11 +6,13 @@ ghost use Rattle.ufmt_io.specs.Watched.{device_of, has_failed};
 ghost use Rattle.ufmt_io.specs.Whole.{AppendsPrefix};
 ghost use Rattle.ufmt_lines.specs.Output.{WritesFront, outputs_of};
 ghost use Rattle.ufmt_lines.specs.Groups.{IsInGroup, IsInLine, continues_after, is_indented, opens};
-ghost use Rattle.ufmt_lines.specs.Private.LineLen.{is_line_feed, line_len};
-ghost use Rattle.ufmt_lines.specs.Readable.{output_of};
+ghost use Rattle.ufmt_lines.specs.Private.LineLen.{line_len};
+ghost use Rattle.ufmt_lines.specs.Values.{output_of};
 
-use super::brackets::is_opening;
+use super::conversion::Conversion;
 use super::output::GroupOutput;
+use super::values::is_opening;
+use memchr::memchr;
 use std::alloc::Global;
 use std::io::Write;
 use ufmt::layout::Mode;
@@ -39,22 +41,22 @@ impl Group {
     /// What follows the last group is the group that is being read then.
     pub(super) fn write_ended<W: Write>(
         &mut self,
-        mode: Mode,
+        conversion: Conversion,
         bytes: &[u8],
         output: &mut Watched<W>,
     ) -> Result<(), IoFault>
         requires works { has_failed output.old ≡ false }
-        requires in_group { IsInGroup mode (group_bytes self.old) }
-        ensures ok { OnOk result (WritesFront mode (group_bytes self.old ++ bytes.now)
+        requires in_group { IsInGroup conversion.to (group_bytes self.old) }
+        ensures ok { OnOk result (WritesFront conversion (group_bytes self.old ++ bytes.now)
             (group_bytes self.new) (W.contents (device_of output.old))
             (W.contents (device_of output.new))) }
-        ensures in_group { OnOk result (IsInGroup mode (group_bytes self.new)) }
+        ensures in_group { OnOk result (IsInGroup conversion.to (group_bytes self.new)) }
         ensures cannot_write { IsErrOf result IoFault.CannotWrite → (more : List ℕ)
             → AppendsPrefix (W.contents (device_of output.old))
             (W.contents (device_of output.new))
-            (outputs_of mode ((group_bytes self.old ++ bytes.now) ++ more)) }
+            (outputs_of conversion ((group_bytes self.old ++ bytes.now) ++ more)) }
         ensures out_of_memory { IsErrOf result IoFault.OutOfMemory → (rest : List ℕ)
-            × WritesFront mode (group_bytes self.old ++ bytes.now) rest
+            × WritesFront conversion (group_bytes self.old ++ bytes.now) rest
             (W.contents (device_of output.old)) (W.contents (device_of output.new)) }
         ensures failed { IsErrOf result IoFault.CannotWrite ↔ IsTrue (has_failed output.new) }
         ensures no_reader { IfErr result (λ fault. fault ≢ IoFault.CannotRead) }
@@ -62,7 +64,7 @@ impl Group {
         let mut rest = bytes;
         while let Some((first, after)) = split_line(rest) {
             self.bytes.extend_from_slice(first)?;
-            self.end_line(mode, output)?;
+            self.end_line(conversion, output)?;
             rest = after;
         }
         self.bytes.extend_from_slice(rest)?;
@@ -70,50 +72,54 @@ impl Group {
     }
 
     // Ends a line: writes the output for the group if it ends there. Else the group continues.
-    fn end_line<W: Write>(&mut self, mode: Mode, output: &mut Watched<W>) -> Result<(), IoFault>
+    fn end_line<W: Write>(
+        &mut self,
+        conversion: Conversion,
+        output: &mut Watched<W>,
+    ) -> Result<(), IoFault>
         requires works { has_failed output.old ≡ false }
-        requires in_group { IsInGroup mode (group_bytes self.old) }
-        ensures ok { OnOk result (WritesFront mode (group_bytes self.old ++ line_feed ∷ [])
+        requires in_group { IsInGroup conversion.to (group_bytes self.old) }
+        ensures ok { OnOk result (WritesFront conversion (group_bytes self.old ++ line_feed ∷ [])
             (group_bytes self.new) (W.contents (device_of output.old))
             (W.contents (device_of output.new))) }
-        ensures in_group { OnOk result (IsInGroup mode (group_bytes self.new)) }
+        ensures in_group { OnOk result (IsInGroup conversion.to (group_bytes self.new)) }
         ensures cannot_write { IsErrOf result IoFault.CannotWrite → (more : List ℕ)
             → AppendsPrefix (W.contents (device_of output.old))
             (W.contents (device_of output.new))
-            (outputs_of mode ((group_bytes self.old ++ line_feed ∷ []) ++ more)) }
+            (outputs_of conversion ((group_bytes self.old ++ line_feed ∷ []) ++ more)) }
         ensures out_of_memory { IsErrOf result IoFault.OutOfMemory → output.new ≡ output.old }
         ensures failed { IsErrOf result IoFault.CannotWrite ↔ IsTrue (has_failed output.new) }
         ensures no_reader { IfErr result (λ fault. fault ≢ IoFault.CannotRead) }
     {
-        if continues(mode, &self.bytes) {
+        if continues(conversion.to, &self.bytes) {
             self.bytes.extend_from_slice(b"\n")?;
             return Ok(());
         }
-        self.write(mode, b"\n", output)
+        self.write(conversion, b"\n", output)
     }
 
     /// Writes the output for the group and this end of it. On `Ok` a new group begins.
     pub(super) fn write<W: Write>(
         &mut self,
-        mode: Mode,
+        conversion: Conversion,
         end: &[u8],
         output: &mut Watched<W>,
     ) -> Result<(), IoFault>
         requires { has_failed output.old ≡ false }
         ensures ok { OnOk result (Appends (W.contents (device_of output.old))
             (W.contents (device_of output.new))
-            (output_of mode (group_bytes self.old) ++ end.now)) }
+            (output_of conversion (group_bytes self.old) ++ end.now)) }
         ensures next { OnOk result (group_bytes self.new ≡ []) }
         ensures cannot_write { IsErrOf result IoFault.CannotWrite
             → AppendsPrefix (W.contents (device_of output.old))
             (W.contents (device_of output.new))
-            (output_of mode (group_bytes self.old) ++ end.now) }
+            (output_of conversion (group_bytes self.old) ++ end.now) }
         ensures out_of_memory { IsErrOf result IoFault.OutOfMemory → output.new ≡ output.old }
         ensures failed { IsErrOf result IoFault.CannotWrite ↔ IsTrue (has_failed output.new) }
         ensures no_reader { IfErr result (λ fault. fault ≢ IoFault.CannotRead) }
     {
         self.prepared.clear();
-        self.prepared.push_group(mode, &self.bytes)?;
+        self.prepared.push_group(conversion, &self.bytes)?;
         self.prepared.push(end)?;
         write_whole(output, self.prepared.as_bytes()).map_err(|_| IoFault::CannotWrite)?;
         self.bytes.clear();
@@ -188,58 +194,8 @@ fn line_len(text: &[u8]) -> usize
     ensures len { result ≡ line_len text.now }
     ensures within { result ≤ length text.now }
 {
-    // Eight bytes a turn, so that the length is compared once for eight bytes.
-    let mut end = 0;
-    'eights: while text.len() - end >= 8 {
-        if is_line_feed(text[end]) {
-            return end;
-        }
-        if is_line_feed(text[end + 1]) {
-            return end + 1;
-        }
-        if is_line_feed(text[end + 2]) {
-            return end + 2;
-        }
-        if is_line_feed(text[end + 3]) {
-            return end + 3;
-        }
-        if is_line_feed(text[end + 4]) {
-            return end + 4;
-        }
-        if is_line_feed(text[end + 5]) {
-            return end + 5;
-        }
-        if is_line_feed(text[end + 6]) {
-            return end + 6;
-        }
-        if is_line_feed(text[end + 7]) {
-            return end + 7;
-        }
-        end += 8;
+    match memchr(b'\n', text) {
+        Some(end) => end,
+        None => text.len(),
     }
-    line_len_from(text, end)
-}
-
-// The same, if no line feed is before `start`.
-fn line_len_from(text: &[u8], start: usize) -> usize
-    requires within { start ≤ length text.now }
-    requires in_line { line_len text.now ≡ start + line_len (drop start text.now) }
-    ensures len { result ≡ line_len text.now }
-    ensures within { result ≤ length text.now }
-{
-    let mut end = start;
-    'bytes: while end < text.len() {
-        if is_line_feed(text[end]) {
-            return end;
-        }
-        end += 1;
-    }
-    end
-}
-
-#[inline(always)]
-fn is_line_feed(byte: u8) -> bool
-    ensures { result ≡ is_line_feed byte }
-{
-    byte == b'\n'
 }

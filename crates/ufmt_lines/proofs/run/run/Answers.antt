@@ -9,16 +9,16 @@ use Rattle.ufmt_lines.proofs.Groups.{nothing_in_group}
 use Rattle.ufmt_lines.proofs.run.run.Goals as goal
 
 pub returns-in_err-chunk-clause-out_of_memory : goal.returns-in_err-chunk-clause-out_of_memory
-returns-in_err-chunk-clause-out_of_memory g c = λ failed. read_as c.args.mode [] _ _ _ _ (nothing_read c.args.mode _ _) (λ rest. ⊤) tt
+returns-in_err-chunk-clause-out_of_memory g c = λ failed. read_as c.args.conversion [] _ _ _ _ (nothing_read c.args.conversion _ _) (λ rest. ⊤) tt
 
 pub reads-init : goal.reads-init
 reads-init g c = record {
   input_works = c.requires.input_works;
   output_works = c.requires.output_works;
-  in_group = subst (IsInGroup c.args.mode) (sym c.new-group.ensures) (nothing_in_group c.args.mode);
+  in_group = subst (IsInGroup c.args.conversion.to) (sym c.new-group.ensures) (nothing_in_group c.args.conversion.to);
   room = c.in_ok-chunk.ensures;
-  so_far = subst (λ group. WritesUpTo c.args.mode group (g.R.Read.remaining (device_of c.args.input.now)) (g.R.Read.remaining (device_of c.args.input.now))
-      (g.W.Write.contents (device_of c.args.output.now)) (g.W.Write.contents (device_of c.args.output.now))) (sym c.new-group.ensures) (nothing_read c.args.mode _ _);
+  so_far = subst (λ group. WritesUpTo c.args.conversion group (g.R.Read.remaining (device_of c.args.input.now)) (g.R.Read.remaining (device_of c.args.input.now))
+      (g.W.Write.contents (device_of c.args.output.now)) (g.W.Write.contents (device_of c.args.output.now))) (sym c.new-group.ensures) (nothing_read c.args.conversion _ _);
 }
 
 pub reads-preserved : goal.reads-preserved
@@ -27,16 +27,16 @@ reads-preserved g c = record {
   output_works = search rules;
   in_group = c.in_ok-write_ended.ensures.in_group;
   room = c.in_ok-count.ensures.room;
-  so_far = read_more c.args.mode _ _ _ _ _ c.reads.invariant.so_far _ _ _ c.in_ok-count.ensures.ok
+  so_far = read_more c.args.conversion _ _ _ _ _ c.reads.invariant.so_far _ _ _ c.in_ok-count.ensures.ok
       (λ rest. rest ≡ group_bytes c.write_ended.new.self) _ refl (rw c.front.ensures at c.in_ok-write_ended.ensures.ok);
 }
 
 pub returns-in_err-count-clause-cannot_read : goal.returns-in_err-count-clause-cannot_read
-returns-in_err-count-clause-cannot_read g c = λ failed. read_kept c.args.mode _ _ _ _ _ c.reads.invariant.so_far _ (IsInGroup c.args.mode) c.reads.invariant.in_group c.in_err-count.ensures.kept
+returns-in_err-count-clause-cannot_read g c = λ failed. read_kept c.args.conversion _ _ _ _ _ c.reads.invariant.so_far _ (IsInGroup c.args.conversion.to) c.reads.invariant.in_group c.in_err-count.ensures.kept
 
 pub returns-then-count-eq0-clause-ok : goal.returns-then-count-eq0-clause-ok
 returns-then-count-eq0-clause-ok g c = on_ok_weaker c.write.result (λ written.
-    last_written c.args.mode _ _ _ _ _ c.reads.invariant.so_far _ _ (rw c.if-count-eq0.true at c.in_ok-count.ensures.ok)
+    last_written c.args.conversion _ _ _ _ _ c.reads.invariant.so_far _ _ (rw c.if-count-eq0.true at c.in_ok-count.ensures.ok)
     (c.in_ok-count.ensures.end c.if-count-eq0.true) c.reads.invariant.in_group written) c.write.ensures.ok
 
 pub returns-then-count-eq0-clause-read_whole : goal.returns-then-count-eq0-clause-read_whole
@@ -44,23 +44,23 @@ returns-then-count-eq0-clause-read_whole g c = on_ok_weaker c.write.result (λ w
 
 pub returns-then-count-eq0-clause-cannot_write : goal.returns-then-count-eq0-clause-cannot_write
 returns-then-count-eq0-clause-cannot_write g c = λ failed.
-    last_in_part c.args.mode _ _ _ _ _ c.reads.invariant.so_far _ _ (rw c.if-count-eq0.true at c.in_ok-count.ensures.ok)
+    last_in_part c.args.conversion _ _ _ _ _ c.reads.invariant.so_far _ _ (rw c.if-count-eq0.true at c.in_ok-count.ensures.ok)
     (c.in_ok-count.ensures.end c.if-count-eq0.true) c.reads.invariant.in_group (c.write.ensures.cannot_write failed)
 
 pub returns-then-count-eq0-clause-out_of_memory : goal.returns-then-count-eq0-clause-out_of_memory
 returns-then-count-eq0-clause-out_of_memory g c = λ failed.
     rw (c.write.ensures.out_of_memory failed)
-    (read_nothing c.args.mode _ _ _ _ _ c.reads.invariant.so_far _ (λ rest. ⊤) tt (rw c.if-count-eq0.true at c.in_ok-count.ensures.ok))
+    (read_nothing c.args.conversion _ _ _ _ _ c.reads.invariant.so_far _ (λ rest. ⊤) tt (rw c.if-count-eq0.true at c.in_ok-count.ensures.ok))
 
 pub returns-in_err-write_ended-clause-cannot_write : goal.returns-in_err-write_ended-clause-cannot_write
 returns-in_err-write_ended-clause-cannot_write g c = λ failed.
-    read_in_part c.args.mode _ _ _ _ _ c.reads.invariant.so_far _ _ _ c.in_ok-count.ensures.ok
+    read_in_part c.args.conversion _ _ _ _ _ c.reads.invariant.so_far _ _ _ c.in_ok-count.ensures.ok
     (rw c.front.ensures at (c.in_err-write_ended.ensures.cannot_write (search rules)))
 
 pub returns-in_err-write_ended-clause-out_of_memory : goal.returns-in_err-write_ended-clause-out_of_memory
 returns-in_err-write_ended-clause-out_of_memory g c = λ failed.
     let part = c.in_err-write_ended.ensures.out_of_memory (search rules) in
-    read_more c.args.mode _ _ _ _ _ c.reads.invariant.so_far _ _ _ c.in_ok-count.ensures.ok (λ rest. ⊤) part.0 tt (rw c.front.ensures at part.1)
+    read_more c.args.conversion _ _ _ _ _ c.reads.invariant.so_far _ _ _ c.in_ok-count.ensures.ok (λ rest. ⊤) part.0 tt (rw c.front.ensures at part.1)
 
 pub returns-clause-cannot_read : goal.returns-clause-cannot_read
-returns-clause-cannot_read g c = λ failed. rw c.give_up.ensures.device (read_as c.args.mode _ _ _ _ _ c.reads.invariant.so_far (IsInGroup c.args.mode) c.reads.invariant.in_group)
+returns-clause-cannot_read g c = λ failed. rw c.give_up.ensures.device (read_as c.args.conversion _ _ _ _ _ c.reads.invariant.so_far (IsInGroup c.args.conversion.to) c.reads.invariant.in_group)

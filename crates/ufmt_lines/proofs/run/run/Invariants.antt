@@ -10,8 +10,8 @@ abbrev pub invariant-reads : goal.invariant-reads
 invariant-reads g l = record {
   input_works : has_failed l.input ≡ false;
   output_works : has_failed l.output ≡ false;
-  in_group : IsInGroup l.mode (group_bytes l.group);
+  in_group : IsInGroup l.conversion.to (group_bytes l.group);
   room : 0 < vec_len l.chunk;
-  so_far : ReadsAndWrites l.mode (λ rest. rest ≡ group_bytes l.group) (g.R.Read.remaining (device_of l.initial.input)) (g.R.Read.remaining (device_of l.input))
+  so_far : ReadsAndWrites l.conversion (λ rest. rest ≡ group_bytes l.group) (g.R.Read.remaining (device_of l.initial.input)) (g.R.Read.remaining (device_of l.input))
       (g.W.Write.contents (device_of l.initial.output)) (g.W.Write.contents (device_of l.output));
 }

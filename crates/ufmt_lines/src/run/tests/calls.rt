@@ -18,28 +18,34 @@ fn row_of(alloc: Global, (mode, text, read, written): Run<'_>, fails_at: usize) 
         sink: Sink::new(alloc, written, NEVER, false),
         calls: &calls,
     });
-    let _outcome = run(alloc, mode, &mut input, &mut output);
+    let _outcome = run(alloc, every_value(mode), &mut input, &mut output);
     drop(input);
     drop(output);
     calls.into_inner().row
 }
 
-// An output of 13 bytes, one of two, one of one, and one of ten after the end.
-const LINES: &[u8] = b"a [1]\nb\n\n[2]";
+// An output of 20 bytes, one of two, one of one, and one of 17 after the end.
+const LINES: &[u8] = b"a [1, 2]\nb\n\n[2, 3]";
 
 // Groups that end after 13 bytes, after 15 and at the end of 30, with outputs of 6, 2 and 10 bytes.
 const GROUPS: &[u8] = b"a [\n    1,\n]\nb\nS {\n    c: d,\n}";
 
 const ROWS: [(Run<'static>, &str); 17] = [
     ((Mode::Pretty, LINES, WHOLE, WHOLE), "rwfwfwf0wf"),
-    ((Mode::Pretty, LINES, 4, WHOLE), "rrwfwfrwf0wf"),
-    ((Mode::Pretty, LINES, 1, WHOLE), "rrrrrrwfrrwfrwfrrr0wf"),
-    ((Mode::Pretty, LINES, WHOLE, 5), "rwwwfwfwf0wwf"),
-    ((Mode::Pretty, LINES, WHOLE, 2), "rwwwwwwwfwfwf0wwwwwf"),
-    ((Mode::Pretty, LINES, WHOLE, 12), "rwwfwfwf0wf"),
+    ((Mode::Pretty, LINES, 4, WHOLE), "rrrwfwfwfrr0wf"),
+    (
+        (Mode::Pretty, LINES, 1, WHOLE),
+        "rrrrrrrrrwfrrwfrwfrrrrrr0wf",
+    ),
+    ((Mode::Pretty, LINES, WHOLE, 5), "rwwwwfwfwf0wwwwf"),
+    (
+        (Mode::Pretty, LINES, WHOLE, 2),
+        "rwwwwwwwwwwfwfwf0wwwwwwwwwf",
+    ),
+    ((Mode::Pretty, LINES, WHOLE, 20), "rwfwfwf0wf"),
     ((Mode::Pretty, b"", WHOLE, WHOLE), "0f"),
     ((Mode::Pretty, b"a", WHOLE, WHOLE), "r0wf"),
-    ((Mode::Pretty, b"[a]\n", WHOLE, WHOLE), "rwf0f"),
+    ((Mode::Pretty, b"[a, b]\n", WHOLE, WHOLE), "rwf0f"),
     ((Mode::Pretty, b"\n\n\n", WHOLE, 1), "rwfwfwf0f"),
     ((Mode::Plain, GROUPS, WHOLE, WHOLE), "rwfwf0wf"),
     ((Mode::Plain, GROUPS, 7, WHOLE), "rrwfrwfrr0wf"),

@@ -6,12 +6,13 @@ use std::io::ErrorKind;
 
 const MODES: [Mode; 2] = [Mode::Pretty, Mode::Plain];
 
-const PLAIN: &[u8] = b"got [1]\n\nx\nS { a: b }\nend {c}";
+const PLAIN: &[u8] = b"got [1, 2]\n\nx\nS { a: b, c: d }\nend {c, d}";
 
-const PRETTY: &[u8] = b"got [\n    1,\n]\n\nx\nS {\n    a: b,\n}\nend {\n    c,\n}";
+const PRETTY: &[u8] =
+    b"got [\n    1,\n    2,\n]\n\nx\nS {\n    a: b,\n    c: d,\n}\nend {\n    c,\n    d,\n}";
 
 // How many bytes there are of each up to the end of a line of the first, and of its output.
-const ENDS: [(usize, usize); 4] = [(8, 15), (9, 16), (11, 18), (22, 34)];
+const ENDS: [(usize, usize); 4] = [(11, 22), (12, 23), (14, 25), (31, 51)];
 
 // The input of a run, and its output.
 fn texts(mode: Mode) -> (&'static [u8], &'static [u8]) {
@@ -47,7 +48,7 @@ fn one_byte_a_call_changes_no_output(rt: HostRuntime) {
         for (read, written) in [(1, 1), (1, WHOLE), (WHOLE, 1), (3, 5)] {
             let source = Source::new(input, read, NEVER);
             let sink = Sink::new(rt.alloc(), written, NEVER, false);
-            let given = ran(rt.alloc(), mode, source, sink, output);
+            let given = ran(rt.alloc(), every_value(mode), source, sink, output);
             same(&rt, given, wanted(Ok(())), "bytes");
         }
     }
@@ -59,7 +60,7 @@ fn is_written_before(alloc: Global, mode: Mode, read: usize) -> bool {
     let source = Source::new(input, 1, read.saturating_add(1));
     let sink = Sink::new(alloc, WHOLE, NEVER, false);
     let taken = &output[..written_for(mode, read).min(output.len())];
-    ran(alloc, mode, source, sink, taken) == wanted(Err(IoFault::CannotRead))
+    ran(alloc, every_value(mode), source, sink, taken) == wanted(Err(IoFault::CannotRead))
 }
 
 #[test]
@@ -84,7 +85,13 @@ fn a_writer_that_fails_has_a_prefix(rt: HostRuntime) {
             calls = calls.saturating_add(1 + usize::from(is_flushed));
             let source = Source::new(input, WHOLE, NEVER);
             let sink = Sink::new(rt.alloc(), 1, calls, false);
-            let given = ran(rt.alloc(), mode, source, sink, &output[..taken]);
+            let given = ran(
+                rt.alloc(),
+                every_value(mode),
+                source,
+                sink,
+                &output[..taken],
+            );
             same(&rt, given, wanted(Err(IoFault::CannotWrite)), "a write");
         }
     }
@@ -103,7 +110,7 @@ fn a_writer_that_takes_nothing_or_fails_at_the_flush_ends_the_run(rt: HostRuntim
         for (most, fails_flush, taken) in rows {
             let source = Source::new(input, WHOLE, NEVER);
             let sink = Sink::new(rt.alloc(), most, NEVER, fails_flush);
-            let given = ran(rt.alloc(), mode, source, sink, taken);
+            let given = ran(rt.alloc(), every_value(mode), source, sink, taken);
             same(&rt, given, wanted(Err(IoFault::CannotWrite)), "a writer");
         }
     }
@@ -150,7 +157,7 @@ fn written_at_reads(alloc: Global, mode: Mode, text: &[u8]) -> io::Result<Vec<us
         seen: Vec::new(alloc),
     });
     let mut output = Watched::new(Counter { taken: &taken });
-    if run(alloc, mode, &mut input, &mut output).is_err() {
+    if run(alloc, every_value(mode), &mut input, &mut output).is_err() {
         return Err(io::Error::from(ErrorKind::BrokenPipe));
     }
     let counts = Vec::from_slice(alloc, input.device().seen.as_slice())?;

@@ -9,8 +9,8 @@ use Rattle.ufmt_lines.proofs.run.groups.Group.write_ended.Given as goal
 abbrev pub invariant-loop-first : goal.invariant-loop-first
 invariant-loop-first g l = record {
   works : has_failed l.output ≡ false;
-  in_group : IsInGroup l.mode (group_bytes l.self);
-  so_far : WritesFront l.mode (group_bytes l.initial.self ++ l.bytes) (group_bytes l.self ++ l.rest)
+  in_group : IsInGroup l.conversion.to (group_bytes l.self);
+  so_far : WritesFront l.conversion (group_bytes l.initial.self ++ l.bytes) (group_bytes l.self ++ l.rest)
       (g.W.Write.contents (device_of l.initial.output)) (g.W.Write.contents (device_of l.output));
 }
 

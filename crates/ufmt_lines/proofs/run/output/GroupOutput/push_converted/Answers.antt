@@ -1,4 +1,4 @@
-use Rattle.ufmt_lines.proofs.Tails.{output_grows, always_text}
+use Rattle.ufmt_lines.proofs.FoundValues.{output_grows, always_text}
 use Rattle.ufmt_lines.proofs.run.output.GroupOutput.push_converted.Goals as goal
 
 pub unreachable-requires : goal.unreachable-requires

@@ -1,0 +1,134 @@
+-- A value that is found, and its text in the other mode.
+use Rattle.std.proofs.Common.{◌≡◌, ◌∙◌, refl, ap, sym, subst, ℕ, List, [], ◌∷◌, ◌++◌, Bool, true, false, Option, Some, None, option_and_then, option_map, Ok, Err, is_some, ◌+◌, ◌-◌, ◌<◌, ◌≤◌, length, length-append, length-drop, cond, take, drop, arith}
+use Rattle.std.proofs.lemmas.Bool.{false≢true}
+use Rattle.std.proofs.Math.Seq.{drop-append_seam, take-append_seam}
+use Rattle.std.specs.Prelude.{⊤}
+use Rattle.ufmt_grammar.proofs.NormalForms.{layout-normal}
+use Rattle.ufmt_grammar.proofs.ReadingSound.{read_sound, Found}
+use Rattle.ufmt_grammar.proofs.ReadingTurns.{read_takes}
+use Rattle.ufmt_grammar.proofs.ReadingWhole.{reads_each_text, reads_only_texts}
+use Rattle.ufmt.specs.Document.{Document}
+use Rattle.ufmt.specs.Layout.{layout, setting}
+use Rattle.ufmt_grammar.specs.declared.class.Class.TheVariants.{Debug}
+use Rattle.ufmt.specs.Reading.{read_text}
+use Rattle.ufmt.specs.Token.{IsDebugDocument, normal}
+use Rattle.ufmt_core.specs.declared.layout.Mode.{Mode}
+use Rattle.ufmt_lines.specs.Private.Converted.{converted}
+use Rattle.ufmt_lines.specs.Private.FoundValues.{IsFoundValue, IsValue}
+use Rattle.ufmt_lines.specs.Private.GroupOutput.{output_bytes, output_seen}
+use Rattle.ufmt_lines.specs.Values.{if_entries, value_from}
+use Rattle.ufmt_lines.specs.declared.run.output.GroupOutput.{GroupOutput}
+use Rattle.ufmt_scan.specs.Fronts.{IsFront, has_entries, read_front}
+use Rattle.ufmt_scan.specs.Texts.{ConvertsTo, IsConverted, IsNormalForm, NoDocumentPrints, other_mode}
+use Rattle.ufmt_scan.specs.declared.scan.event.ScanError.TheVariants.{NotText}
+use Rattle.ufmt_scan.specs.declared.text.FrontText.{FrontText}
+
+-- the normal form is read from the text
+form_is_read : (mode : Mode) (text : List ℕ) (d : Document) → IsDebugDocument d → layout (setting mode 0) d ≡ text → read_text Debug mode text ≡ Some (normal d)
+form_is_read mode text d token is = ap (read_text Debug mode) (sym is) ∙ reads_each_text Debug mode d token
+
+converted_from : (mode : Mode) (text : List ℕ) (o : Option Document) (other : List ℕ) → read_text Debug (other_mode mode) text ≡ o → option_map (layout (setting mode 0)) o ≡ Some other
+    → IsConverted Debug (layout (setting (other_mode mode) 0)) (layout (setting mode 0)) text other
+converted_from mode text None other is h = absurd (cc)
+converted_from mode text (Some d) other is h =
+    let form = reads_only_texts Debug (other_mode mode) text d is in
+    let same : layout (setting mode 0) d ≡ other = cc in
+    record {
+      some = (d, form.0, form.2);
+      each = λ e token is_text.
+          let read = form_is_read (other_mode mode) text e token is_text in
+          let one : normal e ≡ d = cc in
+          sym (layout-normal (setting mode 0) e) ∙ ap (layout (setting mode 0)) one ∙ same;
+    }
+
+-- what `converted` is, by conversions
+pub is_converted : (mode : Mode) (text other : List ℕ) → converted mode text ≡ Some other
+    → IsConverted Debug (layout (setting (other_mode mode) 0)) (layout (setting mode 0)) text other
+unfolding converted
+is_converted mode text other h = converted_from mode text _ other refl h
+
+some_from : {A : Type 0} (o : Option A) → is_some o ≡ true → (x : A) × (o ≡ Some x)
+some_from None h = absurd (false≢true h)
+some_from (Some x) h = (x, refl)
+
+-- a text that can be converted
+pub is_some_converted : (mode : Mode) (text : List ℕ) → is_some (converted mode text) ≡ true → (other : List ℕ) × (converted mode text ≡ Some other)
+is_some_converted mode text h = some_from (converted mode text) h
+
+-- what a conversion did with an output, if there is a text to convert
+module _ (mode : Mode) (text : List ℕ) (is_text : is_some (converted mode text) ≡ true) (old new : GroupOutput) where
+  pub output_grows : {E : Type 0} {done : ⊤} → ConvertsTo {E = E} output_seen Debug (layout (setting (other_mode mode) 0)) (layout (setting mode 0)) text old (Ok done) new
+      → (other : List ℕ) × (converted mode text ≡ Some other) × (output_bytes new ≡ output_bytes old ++ other)
+  output_grows h =
+      let found = is_some_converted mode text is_text in
+      (found.0, found.1, (h.writes found.0 (is_converted mode text found.0 found.1)).appended tt)
+
+  pub always_text : {E : Type 0} → ConvertsTo {E = E} output_seen Debug (layout (setting (other_mode mode) 0)) (layout (setting mode 0)) text old (Err NotText) new → ⊥
+  always_text h =
+      let found = is_some_converted mode text is_text in
+      let is = is_converted mode text found.0 found.1 in
+      h.not_text refl is.some.0 is.some.1 is.some.2
+
+-- a document that is read from a front has the bytes before what is left as its text
+module _ (to : Mode) (text : List ℕ) (d : Document) (size : ℕ) (within : size ≤ length text) (is : read_front Debug (other_mode to) text ≡ Some (d, drop size text)) where
+  found : Found Debug (setting (other_mode to) 0) 255 text d (drop size text)
+  found = read_sound Debug 255 (setting (other_mode to) 0) text d (drop size text) is
+
+  front_is : take size text ≡ layout (setting (other_mode to) 0) d
+  front_is =
+      let laid = layout (setting (other_mode to) 0) d in
+      let parts = length-append laid (drop size text) in
+      let left = length-drop size text in
+      let whole = ap length found.whole in
+      let same : size ≡ length laid = omega (arith, parts, left, whole, within) in
+      ap (λ n. take n text) same ∙ ap (take (length laid)) found.whole ∙ take-append_seam laid (drop size text)
+
+  -- and its other text is what these bytes are converted to
+  pub front_converted : converted to (take size text) ≡ Some (layout (setting to 0) d)
+  unfolding converted
+  front_converted =
+      ap (λ t. option_map (layout (setting to 0)) (read_text Debug (other_mode to) t)) front_is
+      ∙ ap (option_map (layout (setting to 0))) (reads_each_text Debug (other_mode to) d (found.tokens, found.nests) ∙ ap Some found.is_normal)
+
+-- it has a byte
+takes_some : (to : Mode) (text : List ℕ) (d : Document) (size : ℕ) → size ≤ length text → read_front Debug (other_mode to) text ≡ Some (d, drop size text) → 0 < size
+takes_some to text d size within is =
+    let fewer = (read_takes Debug (setting (other_mode to) 0) 255).takes text d (drop size text) is in
+    let left = length-drop size text in
+    omega (arith, fewer, left, within)
+
+-- a value is what was read, if that is a block with entries
+module _ (to : Mode) (text : List ℕ) where
+  pub no_front : read_front Debug (other_mode to) text ≡ None → value_from to text ≡ None
+  no_front none = ap (option_and_then if_entries) none
+
+  module _ (front : FrontText) (is : IsFront Debug (other_mode to) text front) where
+    read_as : value_from to text ≡ if_entries (is.document, drop front.len text)
+    read_as = ap (option_and_then if_entries) is.is_read
+
+    pub value_found : front.has_entries ≡ true → IsFoundValue to text front
+    value_found some = record {
+      document = is.document;
+      some = takes_some to text is.document front.len is.within is.is_read;
+      within = is.within;
+      is = read_as ∙ ap (λ b. cond b (Some (is.document, drop front.len text)) None) (sym is.entries ∙ some);
+      leaf = is.leaf;
+    }
+
+    pub no_entries : front.has_entries ≡ false → value_from to text ≡ None
+    no_entries none = read_as ∙ ap (λ b. cond b (Some (is.document, drop front.len text)) None) (sym is.entries ∙ none)
+
+  -- and it was read from the front
+  if_entries_from : (o : Option (Document × List ℕ)) (d : Document) (rest : List ℕ) → option_and_then if_entries o ≡ Some (d, rest) → o ≡ Some (d, rest)
+  if_entries_from None d rest h = absurd (cc)
+  if_entries_from (Some x) d rest h = go (has_entries x.0) h
+    where
+      go : (b : Bool) → cond b (Some x) None ≡ Some (d, rest) → Some x ≡ Some (d, rest)
+      go true k = k
+      go false k = absurd (cc)
+
+  pub value_read : (d : Document) (rest : List ℕ) → value_from to text ≡ Some (d, rest) → read_front Debug (other_mode to) text ≡ Some (d, rest)
+  value_read d rest h = if_entries_from _ d rest h
+
+pub same_text : (a b : List ℕ) → Some a ≡ Some b → a ≡ b
+same_text a b h = cc

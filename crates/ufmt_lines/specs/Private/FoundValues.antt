@@ -1,0 +1,24 @@
+-- A value that was found at the front of a text.
+use Rattle.std.specs.Prelude.{◌≡◌, ◌<◌, ◌≤◌, ℕ, Bool, List, length, drop, Option, Some, None, MatchOption}
+use Rattle.ufmt.specs.Document.{Document}
+use Rattle.ufmt_core.specs.declared.layout.Mode.{Mode}
+use Rattle.ufmt_lines.specs.declared.run.conversion.Conversion.{Conversion}
+use Rattle.ufmt_lines.specs.Values.{stays, value_from}
+use Rattle.ufmt_scan.specs.Fronts.{has_one_leaf}
+use Rattle.ufmt_scan.specs.declared.text.FrontText.{FrontText}
+
+-- it has this document, and ends there
+pub record IsFoundValue (to : Mode) (text : List ℕ) (value : FrontText) : Type 0 where
+  pub document : Document
+  pub some : 0 < value.len
+  pub within : value.len ≤ length text
+  pub is : value_from to text ≡ Some (document, drop value.len text)
+  pub leaf : value.has_one_leaf ≡ has_one_leaf document
+
+-- it was found, or there is none
+abbrev pub IsValue : Mode → List ℕ → Option FrontText → Type 0
+IsValue to text outcome = MatchOption outcome (value_from to text ≡ None) (IsFoundValue to text)
+
+-- whether a document that has as many leaves, in a text of this size, stays
+abbrev pub StaysAsFound : Conversion → List ℕ → ℕ → ℕ → FrontText → Bool → Type 0
+StaysAsFound conversion text low bracket value outcome = (d : Document) → value.has_one_leaf ≡ has_one_leaf d → outcome ≡ stays conversion text low bracket d value.len

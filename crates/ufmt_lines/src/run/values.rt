@@ -1,0 +1,210 @@
+//! The values of a text: where the next one begins, and whether it stays as it is.
+ghost use Rattle.std.specs.Prelude.{◌≡◌, ◌<◌, ◌≤◌, ◌+◌, ◌-◌, ◌&&◌, MatchOption, drop, length, None, Some, IsNone, IfSome, true};
+ghost use Rattle.ufmt.specs.Leaves.{begins_with, is_name_byte, is_opening};
+ghost use Rattle.ufmt_lines.specs.Values.{before_bracket, brace_start, could_be_struct, is_after_name, is_in_struct, is_named, run_start, tuple_start, value_from, value_start};
+ghost use Rattle.ufmt_lines.specs.Private.FoundValues.{IsValue, StaysAsFound};
+
+use super::conversion::Conversion;
+use memchr::memchr3;
+use ufmt::class::Class;
+use ufmt::layout::Mode;
+use ufmt_scan::convert::other_mode;
+use ufmt_scan::{FrontText, begins_with_field, front_text};
+
+/// Where the first opening bracket is from `at` on.
+pub(super) fn next_bracket(text: &[u8], at: usize) -> Option<usize>
+    requires { at ≤ length text.now }
+    ensures { MatchOption result (length text.now ≤ at + before_bracket (drop at text.now))
+        (λ bracket. (bracket ≡ at + before_bracket (drop at text.now))
+        × (bracket < length text.now) × (at ≤ bracket)) }
+{
+    let bracket = at + before_bracket(&text[at..]);
+    if bracket < text.len() {
+        Some(bracket)
+    } else {
+        None
+    }
+}
+
+// How many bytes come before the first opening bracket, or in all.
+fn before_bracket(text: &[u8]) -> usize
+    ensures len { result ≡ before_bracket text.now }
+    ensures within { result ≤ length text.now }
+{
+    match memchr3(b'(', b'[', b'{', text) {
+        Some(bracket) => bracket,
+        None => text.len(),
+    }
+}
+
+/// Where a value with this bracket begins, if one does: at the bracket, or at a name before it that
+/// begins at `low` or after it.
+pub(super) fn value_start(to: Mode, text: &[u8], low: usize, bracket: usize) -> usize
+    requires low { low ≤ bracket }
+    requires within { bracket < length text.now }
+    ensures start { result ≡ value_start to text.now low bracket }
+    ensures low { low ≤ result }
+    ensures before { result ≤ bracket }
+{
+    match text[bracket] {
+        b'{' => brace_start(to, text, low, bracket),
+        b'(' => tuple_start(text, low, bracket),
+        _ => bracket,
+    }
+}
+
+// Where a struct, a map or a set with this brace begins.
+fn brace_start(to: Mode, text: &[u8], low: usize, bracket: usize) -> usize
+    requires low { low ≤ bracket }
+    requires within { bracket < length text.now }
+    ensures start { result ≡ brace_start to text.now low bracket }
+    ensures low { low ≤ result }
+    ensures before { result ≤ bracket }
+{
+    if is_after_name(text, low, bracket) && is_in_struct(to, &text[bracket + 1..]) {
+        run_start(text, low, bracket - 1)
+    } else {
+        bracket
+    }
+}
+
+// Where a tuple with this bracket begins.
+fn tuple_start(text: &[u8], low: usize, bracket: usize) -> usize
+    requires low { low ≤ bracket }
+    requires within { bracket < length text.now }
+    ensures start { result ≡ tuple_start text.now low bracket }
+    ensures low { low ≤ result }
+    ensures before { result ≤ bracket }
+{
+    let start = run_start(text, low, bracket);
+    if is_named(text, start, bracket) {
+        start
+    } else {
+        bracket
+    }
+}
+
+// Whether a name and a space come before this bracket.
+fn is_after_name(text: &[u8], low: usize, bracket: usize) -> bool
+    requires low { low ≤ bracket }
+    requires within { bracket < length text.now }
+    ensures is { result ≡ is_after_name text.now low bracket }
+    ensures some { result ≡ true → low < bracket }
+{
+    if low == bracket || text[bracket - 1] != b' ' {
+        return false;
+    }
+    let start = run_start(text, low, bracket - 1);
+    is_named(text, start, bracket - 1)
+}
+
+// Whether a struct goes on so after its brace.
+fn is_in_struct(to: Mode, after: &[u8]) -> bool
+    ensures { result ≡ is_in_struct to after.now }
+{
+    match to {
+        Mode::Pretty => begins_with_space(after),
+        Mode::Plain => match after.strip_prefix(b"\n    ") {
+            Some(line) => begins_with_field(Class::Debug, line),
+            None => false,
+        },
+    }
+}
+
+fn begins_with_space(text: &[u8]) -> bool
+    ensures { result ≡ begins_with 32 text.now }
+{
+    match text.first() {
+        Some(byte) => *byte == b' ',
+        None => false,
+    }
+}
+
+// Where the longest run of bytes of a name begins that ends here.
+fn run_start(text: &[u8], low: usize, end: usize) -> usize
+    requires low { low ≤ end }
+    requires within { end ≤ length text.now }
+    ensures start { result ≡ run_start text.now low end }
+    ensures low { low ≤ result }
+    ensures before { result ≤ end }
+{
+    let mut start = end;
+    'bytes: while start > low {
+        if !is_name_byte(text[start - 1]) {
+            return start;
+        }
+        start -= 1;
+    }
+    start
+}
+
+// Whether a run of bytes of a name is a name.
+fn is_named(text: &[u8], start: usize, end: usize) -> bool
+    requires { end ≤ length text.now }
+    ensures { result ≡ is_named text.now start end }
+{
+    start < end && text[end - 1] != b':'
+}
+
+/// The value that begins here, if a block with entries does, in the mode that isn't written.
+pub(super) fn value_from(to: Mode, text: &[u8]) -> Option<FrontText>
+    ensures { IsValue to text.now result }
+{
+    let front = front_text(Class::Debug, other_mode(to), text)?;
+    if front.has_entries { Some(front) } else { None }
+}
+
+/// Whether this value, whose bracket is there, stays as it is.
+pub(super) fn stays(
+    conversion: Conversion,
+    text: &[u8],
+    low: usize,
+    bracket: usize,
+    value: FrontText,
+) -> bool
+    requires low { low ≤ bracket }
+    requires within { bracket < length text.now }
+    ensures { StaysAsFound conversion text.now low bracket value result }
+{
+    match conversion.to {
+        Mode::Pretty => {
+            value.len <= conversion.longer_than
+                || value.has_one_leaf
+                || could_be_struct(text, low, bracket)
+        }
+        Mode::Plain => false,
+    }
+}
+
+// Whether a map would read as a struct, if it were pretty.
+fn could_be_struct(text: &[u8], low: usize, bracket: usize) -> bool
+    requires low { low ≤ bracket }
+    requires within { bracket < length text.now }
+    ensures { result ≡ could_be_struct text.now low bracket }
+{
+    text[bracket] == b'{'
+        && is_after_name(text, low, bracket)
+        && begins_with_field(Class::Debug, &text[bracket + 1..])
+}
+
+#[inline(always)]
+pub(super) fn is_opening(byte: u8) -> bool
+    ensures { result ≡ is_opening byte }
+{
+    byte == b'(' || byte == b'[' || byte == b'{'
+}
+
+// Marks each byte that a name may have: that of a word, and a colon.
+static NAME_BYTES: [u8; 256] = *b"\
+    .................................w.wwww...ww.wwwwwwwwwwwwwwwwwww\
+    wwwwwwwwwwwwwwwwwwwwwwwwwww.w.wwwwwwwwwwwwwwwwwwwwwwwwwwwww.w.w.\
+    wwwwwwwwwwwwwwwwwwwwwwwwwwwwwwwwwwwwwwwwwwwwwwwwwwwwwwwwwwwwwwww\
+    wwwwwwwwwwwwwwwwwwwwwwwwwwwwwwwwwwwwwwwwwwwwwwwwwwwwwwwwwwwwwwww";
+
+#[inline(always)]
+#[tactic(auto, using(crate::proofs::NameBytes::marks_names))]
+fn is_name_byte(byte: u8) -> bool
+    ensures { result ≡ is_name_byte byte }
+{
+    NAME_BYTES[byte as usize] == b'w'
+}
