@@ -84,7 +84,7 @@ macro_rules! variants {
         $($variant:ident $(( $($item:ident),* $(,)? ))? $({ $($field:ident),* $(,)? })?),+ $(,)?
     } $(,)?) => {{
         let formatter: &mut $crate::Formatter<_> = $formatter;
-        match $value {
+        match &$value {
             $($name::$variant $(($($item),*))? $({ $($field),* })? => {
                 $crate::fields!(formatter, $variant $(($(*$item),*))? $({ $($field: *$field),* })?)
             })+
