@@ -44,8 +44,10 @@ LEAVES = (
     # Parentheses with nothing between them.
     "f()", "()a", "()()", "a::b().c()", "a:()", "():", '()""', '"a"()',
     # Quotes: empty ones, in a row, with the other quote in them, and a backslash with what it takes.
-    '""', "''", '"a""b"', "'ab'", 'b"x"', "'a'..='z'", '"a b".."c"', "\"'\"", "'\"'", r'"\""', r"'\''", r'"\\"',
+    '""', '"a""b"', 'b"x"', "'a'..='z'", '"a b".."c"', "\"'\"", "'\"'", r'"\""', r"'\''", r'"\\"',
     r'"\q\ \{"', '"[]{}(),: .."',
+    # An apostrophe that opens no quote, before a byte of a word: a lifetime.
+    "'a", "&'a", "'static", "a'b", "'é", "'a'é", "(Weak)'a", "&'a()",
     # A word in parentheses, or an address in brackets and a colon, at the start.
     "(Weak)", "(a)b", "(a)()", "(a):", "(a)\"b\"", "[::1]:80", "[a]:b", "[::]:0\"a\"", "[a%b]:1::", "(..)",
     # A backslash without quotes is a byte of a word. So is each other sign, and what is past ASCII.
@@ -64,9 +66,9 @@ NO_LEAVES = (
     # A colon before a bracket or a comma.
     "a:[]", "a:,",
     # Quotes that nothing closes, and a backslash that takes what it mustn't, or is at the end.
-    '"', "'", '"a', "'a", "\"a'", 'b"', 'a"b', '"a"b"', '["a]', ':"', '\\"', '\\"a"', "a\\'b'", '"\\', '"\\"', '"a\\', "'\\'",
+    '"', "'", "''", "''a", "'ab'", "'a'b'", "a'", "'\"a\"", "'()", '"a', "\"a'", 'b"', 'a"b', '"a"b"', '["a]', ':"', '\\"', '\\"a"', "a\\'b'", '"\\', '"\\"', '"a\\', "'\\'",
     '"\\é"', "'\\\u0085'", '"a"\'',
-    "['a, 'b']", '{"a: 1}', "1..'", 'Some("a)',
+    '{"a: 1}', "1..'", 'Some("a)',
 )
 
 
@@ -93,6 +95,8 @@ def bad_bytes():
 
 BLOCKS = (
     ("[1.5, 'a'..'b']", "[\n    1.5,\n    'a'..'b',\n]"),
+    ("['a, 'b']", "[\n    'a,\n    'b',\n]"),
+    ("S { a: &'a, b: 'b' }", "S {\n    a: &'a,\n    b: 'b',\n}"),
     ("{127.0.0.1:80: 1.5s}", "{\n    127.0.0.1:80: 1.5s,\n}"),
     ("{::1: ::2}", "{\n    ::1: ::2,\n}"),
     ("{::: :}", "{\n    ::: :,\n}"),
