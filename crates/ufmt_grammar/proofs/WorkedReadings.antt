@@ -163,9 +163,21 @@ debug_no_names : map (read_text Debug Plain) (codes "a: { b: 1 }" ∷ codes "a:(
 unfolding read read_rest read_quoted is_utf8 chars lib.Utf8.encode
 debug_no_names = refl
 
+-- an apostrophe that opens no quote, before a byte of a word; one that opens one
+debug_apostrophes : map (read_text Debug Plain) (codes "'a" ∷ codes "&'a" ∷ codes "a'b" ∷ codes "'a'..='z'" ∷ codes "'\\u{301}'" ∷ [])
+    ≡ map (λ text. Some (leaf text)) (codes "'a" ∷ codes "&'a" ∷ codes "a'b" ∷ codes "'a'..='z'" ∷ codes "'\\u{301}'" ∷ [])
+unfolding read read_rest read_quoted is_utf8 chars lib.Utf8.encode
+debug_apostrophes = refl
+
+-- an apostrophe at the end, before another one or a backslash, and in a name
+debug_no_apostrophes : map (read_text Debug Plain) (codes "a'" ∷ codes "''" ∷ codes "'ab'" ∷ codes "'\\" ∷ codes "&'a(b)" ∷ [])
+    ≡ replicate 5 None
+unfolding read read_rest read_quoted is_utf8 chars lib.Utf8.encode
+debug_no_apostrophes = refl
+
 -- a colon before a space but no value; a quote that nothing closes; a quote in a name; a control, in quotes too; an escape at the end, or of
 -- a character past ASCII; bytes that are no UTF-8; a space in a leaf
-refused_by_debug : map (read_text Debug Plain) (codes "a:: b" ∷ codes "{a:1}, " ∷ codes "\"a" ∷ codes "a'b" ∷ codes "\"S\"(x)" ∷ codes "a\"b\"(x)"
+refused_by_debug : map (read_text Debug Plain) (codes "a:: b" ∷ codes "{a:1}, " ∷ codes "\"a" ∷ codes "a'" ∷ codes "\"S\"(x)" ∷ codes "a\"b\"(x)"
     ∷ codes "a\tb" ∷ codes "\"\t\"" ∷ codes "\"\\\"" ∷ (quotation_mark ∷ backslash ∷ 194 ∷ 181 ∷ quotation_mark ∷ []) ∷ (97 ∷ 255 ∷ []) ∷ (quotation_mark ∷ 255 ∷ quotation_mark ∷ []) ∷ codes "a b" ∷ codes "" ∷ [])
     ≡ replicate 14 None
 unfolding read read_rest read_quoted is_utf8 chars lib.Utf8.encode
