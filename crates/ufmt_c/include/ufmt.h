@@ -2,7 +2,7 @@
  *
  * Memory, threads and cost
  *   No call takes memory, keeps a pointer or has state, so any thread may make any call. From a library of C
- *   the archive needs `memmove` at most.
+ *   the archive needs `memmove`, and of the compiler's own library `__udivti3`, at most.
  *   The steps of each call are bounded by the sizes of its inputs and of its buffer, and a constant, whatever
  *   values the members of a struct have. Of a width or a row that is longer than what the buffer shows, the
  *   rest is only counted. So a width of SIZE_MAX returns UFMT_FULL at once, also with no buffer.
@@ -92,13 +92,18 @@ ptrdiff_t ufmt_unquote(char *buffer, size_t size, const char *input, size_t leng
 ptrdiff_t ufmt_unsigned(char *buffer, size_t size, uint64_t number, size_t *detail);
 ptrdiff_t ufmt_signed(char *buffer, size_t size, int64_t number, size_t *detail);
 
-/* Leaves in `*number` the number of which ufmt_unsigned or ufmt_signed writes this input, and returns 0:
- * `*detail` stays. Of any other input, also of one with a plus, a space, a zero too many or a number that its
- * type doesn't have, it returns UFMT_NO_TEXT: `*number` stays. Then, if a number is at the input's front, and
+/* Writes the shortest decimal that reads as the float, as Rust's {:?} does: 1.0, 0.1, 1e-7, 1.5e300, inf, NaN. 24 bytes are
+ * enough. No two floats have one text, and all NaN have one. */
+ptrdiff_t ufmt_float(char *buffer, size_t size, double number, size_t *detail);
+
+/* Leaves in `*number` the number of which ufmt_unsigned, ufmt_signed or ufmt_float writes this input, and returns 0:
+ * `*detail` stays. Of any other input, also of one with a plus, a space, a zero too many, a number that its type
+ * doesn't have, or a float that is written otherwise, as 1 or 1.50, it returns UFMT_NO_TEXT: `*number` stays. Then, if a number is at the input's front, and
  * after it a comma, a closing bracket or another byte that may come after a leaf in a text of a value,
  * `*detail` becomes how many bytes the number has, and else some number up to `length`. */
 ptrdiff_t ufmt_parse_unsigned(uint64_t *number, const char *input, size_t length, size_t *detail);
 ptrdiff_t ufmt_parse_signed(int64_t *number, const char *input, size_t length, size_t *detail);
+ptrdiff_t ufmt_parse_float(double *number, const char *input, size_t length, size_t *detail);
 
 typedef struct ufmt_hex_style {
     size_t struct_size; /* sizeof(ufmt_hex_style) */
@@ -182,6 +187,10 @@ static inline ptrdiff_t ufmt_signed_or_null(char *buffer, size_t size, int64_t n
     size_t unused = 0;
     return ufmt_signed(buffer, size, number, detail ? detail : &unused);
 }
+static inline ptrdiff_t ufmt_float_or_null(char *buffer, size_t size, double number, size_t *detail) {
+    size_t unused = 0;
+    return ufmt_float(buffer, size, number, detail ? detail : &unused);
+}
 static inline ptrdiff_t ufmt_parse_unsigned_or_null(uint64_t *number, const char *input, size_t length, size_t *detail) {
     size_t unused = 0;
     return ufmt_parse_unsigned(number, input, length, detail ? detail : &unused);
@@ -189,6 +198,10 @@ static inline ptrdiff_t ufmt_parse_unsigned_or_null(uint64_t *number, const char
 static inline ptrdiff_t ufmt_parse_signed_or_null(int64_t *number, const char *input, size_t length, size_t *detail) {
     size_t unused = 0;
     return ufmt_parse_signed(number, input, length, detail ? detail : &unused);
+}
+static inline ptrdiff_t ufmt_parse_float_or_null(double *number, const char *input, size_t length, size_t *detail) {
+    size_t unused = 0;
+    return ufmt_parse_float(number, input, length, detail ? detail : &unused);
 }
 static inline ptrdiff_t ufmt_hexadecimal_or_null(char *buffer, size_t size, uint64_t number, const ufmt_hex_style *style, size_t *detail) {
     size_t unused = 0;
@@ -220,8 +233,10 @@ static inline ptrdiff_t ufmt_difference_or_null(char *buffer, size_t size, const
 #define ufmt_unquote ufmt_unquote_or_null
 #define ufmt_unsigned ufmt_unsigned_or_null
 #define ufmt_signed ufmt_signed_or_null
+#define ufmt_float ufmt_float_or_null
 #define ufmt_parse_unsigned ufmt_parse_unsigned_or_null
 #define ufmt_parse_signed ufmt_parse_signed_or_null
+#define ufmt_parse_float ufmt_parse_float_or_null
 #define ufmt_hexadecimal ufmt_hexadecimal_or_null
 #define ufmt_binary ufmt_binary_or_null
 #define ufmt_dump ufmt_dump_or_null

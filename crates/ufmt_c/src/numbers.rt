@@ -1,6 +1,8 @@
 //! Numbers in decimal, hexadecimal and binary digits.
-ghost use Rattle.std.specs.Prelude.{◌≡◌, ◌+◌, ◌^◌, ◌<◌, ◌≤◌, min, pos};
+ghost use Rattle.std.specs.Prelude.{◌≡◌, ◌+◌, ◌^◌, ◌<◌, ◌≤◌, min, pos, true};
+ghost use lib.Ieee.{binary64};
 ghost use Rattle.ufmt_core.specs.Decimal.{decimal};
+ghost use Rattle.ufmt_core.specs.FloatText.{float_text};
 ghost use Rattle.ufmt.specs.Hex.{padded_hexadecimal};
 ghost use Rattle.ufmt.specs.Radix.{padded_in};
 ghost use Rattle.ufmt.specs.declared.radix.Radix.TheVariants.{Binary};
@@ -27,6 +29,14 @@ pub extern "C" fn ufmt_unsigned(buffer: &mut [u8], number: u64, detail: &mut usi
 #[unsafe(no_mangle)]
 pub extern "C" fn ufmt_signed(buffer: &mut [u8], number: i64, detail: &mut usize) -> isize
     ensures { PutsText buffer.old (decimal number) result buffer.new detail.new }
+{
+    print(buffer, &number, detail)
+}
+
+/// Writes the shortest decimal that reads as the float, as Rust's `{:?}` does.
+#[unsafe(no_mangle)]
+pub extern "C" fn ufmt_float(buffer: &mut [u8], number: f64, detail: &mut usize) -> isize
+    ensures { PutsText buffer.old (float_text binary64 true number) result buffer.new detail.new }
 {
     print(buffer, &number, detail)
 }

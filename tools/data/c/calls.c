@@ -2,7 +2,7 @@
  * `detail` and in the buffer. tools/try-c writes the lines and compares what is printed.
  *
  * A line is a call's name without `ufmt_`, and a word for each argument but `detail`: for a buffer its
- * size, for an input its bytes in hexadecimal digits, for a struct its members. `null` is a buffer or an
+ * size, for an input its bytes in hexadecimal digits, for a float its bits as a number, for a struct its members. `null` is a buffer or an
  * input of no bytes at NULL, and `-` one of no bytes elsewhere. Each array has exactly its size, so that
  * valgrind sees a byte that is read or written past it. A number that a call leaves is printed as a buffer of
  * eight bytes. With the argument `unset` no byte of a buffer has a value before the call, and only the
@@ -29,6 +29,13 @@ static const char *word(void) {
         exit(2);
     }
     return found;
+}
+
+/* A float by its bits. */
+static double float_of(uint64_t bits) {
+    double value;
+    memcpy(&value, &bits, sizeof value);
+    return value;
 }
 
 static uint64_t number(void) {
@@ -117,8 +124,13 @@ static void call_parse(const char *name) {
     bytes left = room(8), from = input();
     memset(left.at, FILL, left.size);
     void *at = left.at;
-    ptrdiff_t result = strcmp(name, "parse_signed") ? ufmt_parse_unsigned(at, from.at, from.size, place(&detail))
-                                                    : ufmt_parse_signed(at, from.at, from.size, place(&detail));
+    ptrdiff_t result;
+    if (!strcmp(name, "parse_float")) {
+        result = ufmt_parse_float(at, from.at, from.size, place(&detail));
+    } else {
+        result = strcmp(name, "parse_signed") ? ufmt_parse_unsigned(at, from.at, from.size, place(&detail))
+                                              : ufmt_parse_signed(at, from.at, from.size, place(&detail));
+    }
     print(result, detail, left);
     free(from.at);
 }
@@ -129,6 +141,8 @@ static void call_number(const char *name) {
     ptrdiff_t result;
     if (!strcmp(name, "unsigned")) {
         result = ufmt_unsigned(to.at, to.size, number(), place(&detail));
+    } else if (!strcmp(name, "float")) {
+        result = ufmt_float(to.at, to.size, float_of(number()), place(&detail));
     } else if (!strcmp(name, "signed")) {
         result = ufmt_signed(to.at, to.size, strtoll(word(), NULL, 10), place(&detail));
     } else {
@@ -190,9 +204,9 @@ static void call(const char *name) {
         call_is_text();
     } else if (!strcmp(name, "version")) {
         print(ufmt_version(), DETAIL, (bytes){NULL, 0});
-    } else if (!strcmp(name, "parse_unsigned") || !strcmp(name, "parse_signed")) {
+    } else if (!strcmp(name, "parse_unsigned") || !strcmp(name, "parse_signed") || !strcmp(name, "parse_float")) {
         call_parse(name);
-    } else if (!strcmp(name, "unsigned") || !strcmp(name, "signed") || !strcmp(name, "hexadecimal") ||
+    } else if (!strcmp(name, "unsigned") || !strcmp(name, "signed") || !strcmp(name, "float") || !strcmp(name, "hexadecimal") ||
                !strcmp(name, "binary")) {
         call_number(name);
     } else if (!strcmp(name, "dump") || !strcmp(name, "in_column")) {

@@ -46,6 +46,8 @@ unsafe extern "C" {
     fn ufmt_unquote(to: *mut u8, size: usize, input: *const u8, length: usize, detail: &mut usize) -> isize;
     fn ufmt_unsigned(to: *mut u8, size: usize, number: u64, detail: &mut usize) -> isize;
     fn ufmt_signed(to: *mut u8, size: usize, number: i64, detail: &mut usize) -> isize;
+    fn ufmt_float(to: *mut u8, size: usize, number: f64, detail: &mut usize) -> isize;
+    fn ufmt_parse_float(number: &mut f64, input: *const u8, length: usize, detail: &mut usize) -> isize;
     fn ufmt_hexadecimal(to: *mut u8, size: usize, number: u64, style: &HexStyle, detail: &mut usize) -> isize;
     fn ufmt_binary(to: *mut u8, size: usize, number: u64, style: &HexStyle, detail: &mut usize) -> isize;
     fn ufmt_dump(to: *mut u8, size: usize, bytes: *const u8, length: usize, style: &DumpStyle, detail: &mut usize) -> isize;
@@ -121,6 +123,12 @@ fn parse(name: &str, left: &mut [u8; 8], words: &mut Words, detail: &mut usize) 
         *left = number.to_le_bytes();
         return result;
     }
+    if name == "parse_float" {
+        let mut number = f64::from_le_bytes(*left);
+        let result = unsafe { ufmt_parse_float(&mut number, at, length, detail) };
+        *left = number.to_le_bytes();
+        return result;
+    }
     let mut number = u64::from_le_bytes(*left);
     let result = unsafe { ufmt_parse_unsigned(&mut number, at, length, detail) };
     *left = number.to_le_bytes();
@@ -176,6 +184,7 @@ fn written(name: &str, buffer: &mut Option<Vec<u8>>, words: &mut Words, detail: 
     match name {
         "unsigned" => unsafe { ufmt_unsigned(to, size, words.number(), detail) },
         "signed" => unsafe { ufmt_signed(to, size, words.number(), detail) },
+        "float" => unsafe { ufmt_float(to, size, f64::from_bits(words.number()), detail) },
         "hexadecimal" => on_number(ufmt_hexadecimal, to, size, words, detail),
         "binary" => on_number(ufmt_binary, to, size, words, detail),
         "convert" => convert(to, size, words, detail),
@@ -193,7 +202,7 @@ fn main() -> io::Result<()> {
         let result = match name.as_str() {
             "version" => (unsafe { ufmt_version() }) as isize,
             "is_text" => is_text(&mut words),
-            "parse_unsigned" | "parse_signed" => {
+            "parse_unsigned" | "parse_signed" | "parse_float" => {
                 let mut left = [FILL; 8];
                 let result = parse(&name, &mut left, &mut words, &mut detail);
                 buffer = Some(left.to_vec());

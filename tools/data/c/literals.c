@@ -14,13 +14,15 @@ static int numbers(void) {
     ufmt_hex_style style = UFMT_HEX_STYLE_INIT;
     uint64_t natural = 7;
     int64_t integer = 7;
+    double real = 7;
     int right = wrote(ufmt_hexadecimal(buffer, sizeof buffer, 255, &style, NULL), "ff");
     style.width = 6;
     style.prefix = true;
     right = right && wrote(ufmt_binary(buffer, sizeof buffer, 5, &style, NULL), " 0b101");
     right = right && wrote(ufmt_unsigned(buffer, sizeof buffer, 12, NULL), "12") && wrote(ufmt_signed(buffer, sizeof buffer, -12, NULL), "-12");
     right = right && !ufmt_parse_unsigned(&natural, "12", 2, NULL) && !ufmt_parse_signed(&integer, "-12", 3, NULL);
-    return right && natural == 12 && integer == -12 && ufmt_parse_unsigned(&natural, "x", 1, NULL) == UFMT_NO_TEXT && natural == 12;
+    right = right && wrote(ufmt_float(buffer, sizeof buffer, 1.5, NULL), "1.5") && !ufmt_parse_float(&real, "-0.25", 5, NULL);
+    return right && natural == 12 && integer == -12 && real < -0.2 && real > -0.3 && ufmt_parse_unsigned(&natural, "x", 1, NULL) == UFMT_NO_TEXT && natural == 12;
 }
 
 static int padded(void) {

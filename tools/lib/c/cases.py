@@ -14,11 +14,13 @@ TOP = pathlib.Path(__file__).resolve().parent.parent.parent.parent
 sys.setrecursionlimit(20_000)
 
 from lib.expected import rows as expected_rows  # noqa: E402
+from lib.floats import patterns  # noqa: E402
+from lib.model import floats  # noqa: E402
 from lib.model.model import DEBUG, TOKEN, PlainReader, PrettyReader, plain, pretty  # noqa: E402
 
 NO_TEXT, FULL, NOT_UTF8, BAD_OPTION = -1, -2, -3, -4
 # What each call takes after its buffer, if it has one, and before `detail`. A struct has its name and its members' types, and
-# a number that is left is `number`.
+# a number that is left is `number`. A float is its bits.
 STYLES = {
     "hex": ("size_t", "size_t", "uint8_t", "bool", "bool"),
     "dump": ("size_t", "size_t", "size_t", "uint32_t", "bool", "bool"),
@@ -35,10 +37,12 @@ CALLS = {
     "convert": ("buffer", "uint32_t", "uint32_t", "bytes"),
     "parse_unsigned": ("number", "bytes"),
     "parse_signed": ("number", "bytes"),
+    "parse_float": ("number", "bytes"),
     "quote": ("buffer", "bytes"),
     "unquote": ("buffer", "bytes"),
     "unsigned": ("buffer", "uint64_t"),
     "signed": ("buffer", "int64_t"),
+    "float": ("buffer", "double"),
     "hexadecimal": ("buffer", "uint64_t", "hex"),
     "binary": ("buffer", "uint64_t", "hex"),
     "dump": ("buffer", "bytes", "dump"),
@@ -221,7 +225,7 @@ NUMBERS = {"parse_unsigned": range(2**64), "parse_signed": range(-(2**63), 2**63
 
 
 def number_read(call, data):
-    """What a call that reads a number makes of these bytes."""
+    """What a call that reads a whole number makes of these bytes."""
     found = DIGITS.match(data)
     number = int(found.group()) if found and found.group() != b"-0" and int(found.group()) in NUMBERS[call] else None
     if number is not None and found.end() == len(data):
@@ -237,6 +241,35 @@ def misread():
     for data in inputs:
         for call in NUMBERS:
             yield number_read(call, data)
+
+
+# The bytes of which a float's text can be, as many as are at the front of an input.
+FLOAT_FRONT = re.compile(rb"[-0-9.eNainf]*")
+# The bits of floats: published hard cases for shortest digits, with both signs, zeros, infinities and NaN.
+SIGN, NAN = 1 << 63, 0x7FF8 << 48
+FLOATS = [bits ^ sign for bits in (*patterns.hard(64), 0, 1, 0x7FF0 << 48) for sign in (0, SIGN)] + [NAN, NAN | SIGN, NAN + 1]
+
+
+def float_read(data):
+    """What the call that reads a float makes of these bytes."""
+    front = FLOAT_FRONT.match(data).group()
+    bits = NAN if front == b"NaN" else floats.reads(front.decode(), 64)
+    if bits is None:
+        return Case("parse_float", (data,), result=NO_TEXT, detail=0)
+    if front == data:
+        return Case("parse_float", (data,), result=0, number=bits)
+    return Case("parse_float", (data,), result=NO_TEXT, detail=len(front))
+
+
+def floats_both_ways():
+    """The texts of floats, written and read, and texts that no float prints."""
+    for bits in FLOATS:
+        text = floats.debug(bits, 64).encode()
+        yield Case("float", (bits,), text=text)
+        for rest in (b"", b",", b" }", b"x", b"0", b"\xff"):
+            yield float_read(text + rest)
+    for data in REFUSED + [b"4", b"4.50", b"+4.5", b"1E5", b"1e5", b".5", b"5.", b"-NaN", b"Inf", b"infinity", b"nan", b"1e400", b"0x1p3", b"1_0.0"]:
+        yield float_read(data)
 
 
 def refusals():
@@ -356,5 +389,5 @@ def huge_options():
 
 def all_cases(calls):
     """Every case of these calls, but for those of `huge_options`."""
-    made = [*stored(), *conversions(), *as_rustc_printed(), *refusals(), *misquoted(), *misread()]
+    made = [*stored(), *conversions(), *as_rustc_printed(), *refusals(), *misquoted(), *misread(), *floats_both_ways()]
     return [case for case in made if case.call in calls]

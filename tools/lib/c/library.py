@@ -1,5 +1,6 @@
 """Calls of libufmt_c as a shared object, by ctypes."""
 import ctypes
+import struct as packing
 
 from lib.c.cases import CALLS, NUMBER_SIZE, STYLES
 
@@ -10,9 +11,15 @@ TYPES = {
     "uint64_t": ctypes.c_uint64,
     "int64_t": ctypes.c_int64,
     "bool": ctypes.c_bool,
+    "double": lambda bits: ctypes.c_double(float_of(bits)),
 }
 # What the calls return that take no detail.
 RESULTS = {"is_text": ctypes.c_bool, "version": ctypes.c_uint32}
+
+
+def float_of(bits):
+    """A float by its bits."""
+    return packing.unpack("<d", packing.pack("<Q", bits))[0]
 
 
 def struct(name):

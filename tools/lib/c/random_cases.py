@@ -3,6 +3,7 @@ import random
 
 from lib.c import cases
 from lib.c.cases import BAD_OPTION, NO_TEXT, NOT_UTF8, SIZE_MAX, Case, style
+from lib.model import floats
 from lib.model.characters import any_character
 from lib.model.documents import DebugMaker, Maker
 from lib.model.model import DEBUG, TOKEN, quoted, unquoted
@@ -23,7 +24,7 @@ class RandomCases:
     def made(self, count):
         """So many cases: a conversion and the test of the same bytes, and a case of each other call in turn."""
         kinds = (self.conversion, self.quoted, self.conversion, self.unquoted, self.conversion, self.number, self.conversion,
-                 self.based, self.dump, self.conversion, self.column, self.difference, self.number_read)
+                 self.based, self.dump, self.conversion, self.column, self.difference, self.number_read, self.float)
         found = []
         while len(found) < count:
             for kind in kinds:
@@ -147,6 +148,12 @@ class RandomCases:
                 return [Case(call, (given, stored), result=NOT_UTF8, detail=error.start) for call in ("difference", "first_difference")]
         line, message = first_difference(given.decode(), stored.decode())
         return Case("difference", (given, stored), text=message.encode()), Case("first_difference", (given, stored), result=line)
+
+    def float(self):
+        bits = self.random.choice((self.random.getrandbits(64), floats.reads("%d.5" % self.random.randrange(10**6), 64)))
+        text = floats.debug(bits, 64).encode()
+        read = text + self.random.choice((b"", b"", b",", b"0", b".", self.random.randbytes(1)))
+        return Case("float", (bits,), text=text), cases.float_read(read)
 
     def number_read(self):
         sign, digits = self.random.choice((b"", b"", b"-", b"+")), b"%d" % self.whole_number(SIZE_MAX)
