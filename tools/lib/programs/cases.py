@@ -54,7 +54,7 @@ class Cases:
         print("%d cases, %d faults" % (self.count, self.faults))
         return 1 if self.faults else 0
 
-    def run(self, *arguments, text=b"", source=None, sink=None, error=None, limit=None):
+    def run(self, *arguments, text=b"", source=None, sink=None, error=None, limit=None, seconds=SECONDS):
         """Runs the program to its end. Standard input has the text, or is `source`: CLOSED, FOLDER or an open file. What
         doesn't come through a pipe is empty: `sink` and `error` are CLOSED, the path of a device or an open file. `limit`
         is how many KiB of memory it has."""
@@ -72,7 +72,7 @@ class Cases:
         for file in files:
             os.close(file)
         try:
-            output, said = process.communicate(text if streams[0] == subprocess.PIPE else None, timeout=SECONDS)
+            output, said = process.communicate(text if streams[0] == subprocess.PIPE else None, timeout=seconds)
         except subprocess.TimeoutExpired:
             process.kill()
             process.communicate()
@@ -94,6 +94,15 @@ class Cases:
             given = os.dup(given)
         files.append(given)
         return given
+
+    def without_input(self, *arguments):
+        """Runs the program with an input that stays open and has nothing: what reads it doesn't end in time."""
+        reader, writer = os.pipe()
+        try:
+            return self.run(*arguments, source=reader, seconds=LATE)
+        finally:
+            os.close(reader)
+            os.close(writer)
 
     def unread_pipe(self):
         """The writing end of a pipe without a reader."""

@@ -39,6 +39,7 @@ def arguments(cases):
         cases.judge("arguments of which one isn't UTF-8: %s" % (row,), cases.run(*row, text=PLAIN), 5, b"", OUT_OF_MEMORY)
     # The arguments are judged before anything is read.
     cases.judge("no command, and standard input closed", cases.run("Pretty", source=CLOSED), 2, b"", USAGE)
+    cases.judge("no command, and an input that stays open", cases.without_input("Pretty"), 2, b"", USAGE)
 
 
 def inputs(cases):

@@ -87,6 +87,7 @@ def helps(cases):
     for word, wanted in (("--help", HELP), ("--version", VERSION)):
         cases.judge(word, cases.run(word, text=PLAIN), 0, wanted)
         cases.judge("%s, standard input closed" % word, cases.run(word, source=CLOSED), 0, wanted)
+        cases.judge("%s, an input that stays open" % word, cases.without_input(word), 0, wanted)
         cases.judge("%s, a full device" % word, cases.run(word, sink="/dev/full"), 4, b"", CANNOT_WRITE)
         cases.judge("%s, standard output closed" % word, cases.run(word, sink=CLOSED), 4, b"", CANNOT_WRITE)
         cases.judge("%s, standard error closed" % word, cases.run(word, error=CLOSED), 0, wanted)
@@ -104,6 +105,7 @@ def arguments(cases):
         cases.judge("arguments of which one isn't UTF-8: %s" % (row,), cases.run(*row), 5, b"", OUT_OF_MEMORY)
     # The arguments are judged before anything is read.
     cases.judge("an argument, and standard input closed", cases.run("x", source=CLOSED), 2, b"", USAGE)
+    cases.judge("an argument, and an input that stays open", cases.without_input("x"), 2, b"", USAGE)
 
 
 def inputs(cases):
