@@ -1,6 +1,7 @@
 """Compares what ufmt_conv and ufmt_lines take of steps, memory and calls of their devices with bounds."""
 from typing import NamedTuple
 
+from lib.log_model import log_model
 from lib.model import bounds, shapes
 from lib.model.costs import SECONDS, rough
 from lib.model.features import features, indentation
@@ -16,8 +17,8 @@ START_STEPS, START_BYTES, CHUNK = 1_200_000, 70_000, 64 * 1024
 # indentation costs fewer: when it is read, and when it is looked at for the end of its line too.
 BYTE_STEPS, LINE_STEPS = 40, 600
 READ_INDENTATION, SPLIT_INDENTATION = 1, 17
-# ufmt_lines may try each place after a space as the start of a text: it does if a backslash is near the line's end.
-PLACE_STEPS = 400
+# ufmt_lines tries each bracket at which no value begins: to read the bytes after it takes so many steps for each at most.
+TRY_STEPS, TRIED_STEPS = 400, 12
 # What is before the text of a line, as in a log.
 STAMP = "12:00: "
 FIRST = "the first line"
@@ -128,20 +129,28 @@ def lines(is_plain):
         document = make(4 * COUNTED_SIZE)
         texts = plain(document), pretty(document)
         text, other = texts[::-1] if is_plain else texts
-        yield LogGroup(name, STAMP + text, STAMP + other, bounds.case_of(features(document), text, other))
+        yield LogGroup(name, STAMP + text, output_of(STAMP + text, is_plain), bounds.case_of(features(document), text, other))
     for name, make in shapes.no_texts().items():
         text = STAMP + make(4 * COUNTED_SIZE)
         # A line that ends with a bracket isn't the last of its group. Only with `--plain` a group has several lines.
         if text[-1] not in "[\n" and (is_plain or "\n" not in text):
-            yield LogGroup(name, text, text, bounds.case_of(rough(text), text, text))
+            output = output_of(text, is_plain)
+            yield LogGroup(name, text, output, bounds.case_of(rough(text), text, output))
+
+
+def output_of(group, is_plain):
+    """The group with its values in the other mode, by the model of logs."""
+    return log_model.output("plain" if is_plain else "pretty", group.encode()).decode()
 
 
 def line_steps(line):
-    """A text is scanned, and then converted. Each byte is copied, and looked at for the end of its line."""
+    """A text is scanned, and then converted. Each byte is copied, and looked at for the end of its line. Where nothing is converted
+    each bracket may be tried."""
     scanned = bounds.steps("debug is_text", line.case) + bounds.steps("debug convert into", line.case)
-    places = PLACE_STEPS * line.group.count(" ") if line.group == line.output else 0
+    brackets = sum(map(line.group.count, "([{")) if line.group == line.output else 0
+    tried = brackets * (TRY_STEPS + TRIED_STEPS * len(line.group.encode()))
     copied = byte_steps(line.group, line.case, SPLIT_INDENTATION)
-    return scanned + places + copied + LINE_STEPS * (2 + line.group.count("\n"))
+    return scanned + tried + copied + LINE_STEPS * (2 + line.group.count("\n"))
 
 
 def line_faults(counter, program, is_plain):

@@ -119,7 +119,8 @@ def in_words():
 
 def not_in_words():
     for code in (*CONTROL_CODES, *map(ord, ENDS)):
-        yield from ((at, code) for at in ("only", "first", "last", "middle"))
+        # An apostrophe before a byte of a word is in a leaf.
+        yield from ((at, code) for at in (("only", "last") if code == ord("'") else ("only", "first", "last", "middle")))
 
 
 def open_structs():

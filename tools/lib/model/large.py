@@ -62,8 +62,8 @@ def document_runs(made):
 def line_runs():
     """Runs of the commands on a million lines."""
     yield "a million lines", "ufmt_conv", ["lengths"], "x\n" * LINES, "[%s]\n" % ", ".join(["1"] * LINES)
-    short, long = STAMP + "[1]\n", STAMP + "[\n    1,\n]\n"
-    yield "a million lines", "ufmt_lines", [], short * LINES, long * LINES
+    short, long = STAMP + "[1, 2]\n", STAMP + "[\n    1,\n    2,\n]\n"
+    yield "a million lines", "ufmt_lines", ["--longer-than", "0"], short * LINES, long * LINES
     yield "a million groups", "ufmt_lines", ["--plain"], long * LINES, short * LINES
 
 

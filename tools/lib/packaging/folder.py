@@ -60,7 +60,7 @@ def share(archive, folder):
     exports.write_text(EXPORTS)
     try:
         subprocess.run(["gcc", "-shared", "-nostdlib", "-Wl,-soname," + name, "-Wl,--version-script=%s" % exports, "-Wl,--whole-archive",
-                        archive, "-Wl,--no-whole-archive", "-Wl,-z,relro,-z,now", "-lc", "-o", made], check=True)
+                        archive, "-Wl,--no-whole-archive", "-Wl,-z,relro,-z,now", "-lc", "-lgcc", "-o", made], check=True)
     finally:
         exports.unlink()
     for link in (name, LIBRARY + ".so"):
