@@ -35,7 +35,7 @@ abbrev pub is_after_name : List ℕ → ℕ → ℕ → Bool
 is_after_name text low bracket =
     nat_lt low bracket && (slice_index_or text (bracket - 1) 0 == space) && is_named text (run_start text low (bracket - 1)) (bracket - 1)
 
--- whether a struct goes on so after its brace: a plain one with a space, a pretty one with the line of a field
+-- whether these bytes after a brace are those of a struct: a plain one goes on with a space, a pretty one with the line of a field
 abbrev pub is_in_struct : Mode → List ℕ → Bool
 is_in_struct Pretty after = begins_with space after
 is_in_struct Plain after = choose (strip (codes "\n    ") after) (begins_with_field Debug) false

@@ -1,4 +1,4 @@
-//! Lists around the text of a request.
+//! Lists that hold the text of a request, one in another.
 use std::alloc::AllocError;
 use ufmt_doc::doc::Doc;
 use ufmt_print_probe::digest::Digest;
@@ -8,7 +8,7 @@ use ufmt_print_probe::requests::Request;
 // Blocks are nested at most this deep. Indentation stops at 255.
 const DEEPEST: usize = 260;
 
-/// Prints lists around the text, as deep as the column is wide.
+/// Prints the text in as many lists as the column is wide.
 pub fn pieces(request: &Request<'_>, text: &str) -> Result<Digest, AllocError> {
     let mut doc = Doc::Leaf(String::from_str(request.alloc, text)?);
     for _list in 0..request.column.width.min(DEEPEST) {

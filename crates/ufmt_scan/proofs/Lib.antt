@@ -16,7 +16,9 @@ pub mod TextSinks
 pub mod EventTexts
 pub mod WorkedEvents
 pub mod Conversions
+pub mod AsciiFronts
 pub mod DebugFronts
+pub mod LeafEnds
 pub mod FrontScans
 pub mod Shapes
 pub mod Growing

@@ -106,7 +106,7 @@ pub(crate) fn split_debug_quotes(input: &[u8]) -> Option<Front<'_>>
 
 // Whether no byte of a leaf is at the front. It may miss an end before a backslash.
 #[inline(always)]
-#[tactic(auto, using(crate::proofs::DebugFronts::ends_at_end, crate::proofs::DebugFronts::ends_at_byte, crate::proofs::DebugFronts::ends_at_colon, crate::proofs::DebugFronts::ends_at_parenthesis))]
+#[tactic(auto, using(crate::proofs::LeafEnds::ends_at_end, crate::proofs::LeafEnds::ends_at_byte, crate::proofs::LeafEnds::ends_at_colon, crate::proofs::LeafEnds::ends_at_parenthesis))]
 fn ends_here(input: &[u8]) -> bool
     ensures { IsTrue result → EndsAt input.now }
 {
@@ -505,7 +505,7 @@ fn begins_with(byte: u8, input: &[u8]) -> bool
 }
 
 #[inline(always)]
-#[tactic(auto, using(crate::proofs::DebugFronts::last_is_colon, crate::proofs::DebugFronts::no_last_colon))]
+#[tactic(auto, using(crate::proofs::LeafEnds::last_is_colon, crate::proofs::LeafEnds::no_last_colon))]
 fn ends_in_colon(text: &[u8]) -> bool
     ensures { result ≡ ends_in_colon text.now }
 {
@@ -532,7 +532,7 @@ fn is_control(byte: u8) -> bool
 
 // Whether no leaf has the byte outside of quotes.
 #[inline(always)]
-#[tactic(auto, using(crate::proofs::DebugFronts::endings_are_marked))]
+#[tactic(auto, using(crate::proofs::LeafEnds::endings_are_marked))]
 fn is_ending(byte: u8) -> bool
     ensures { result ≡ is_ending byte }
 {

@@ -98,7 +98,7 @@ fn is_after_name(text: &[u8], low: usize, bracket: usize) -> bool
     is_named(text, start, bracket - 1)
 }
 
-// Whether a struct goes on so after its brace.
+// Whether these bytes after a brace are those of a struct in this mode.
 fn is_in_struct(to: Mode, after: &[u8]) -> bool
     ensures { result ≡ is_in_struct to after.now }
 {

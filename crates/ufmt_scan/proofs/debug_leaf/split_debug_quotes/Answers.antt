@@ -1,5 +1,5 @@
 use Rattle.std.proofs.Common.{refl}
-use Rattle.ufmt_scan.proofs.DebugFronts.{quotes_some, quotes_split}
+use Rattle.ufmt_scan.proofs.AsciiFronts.{quotes_some, quotes_split}
 use Rattle.ufmt_scan.proofs.debug_leaf.split_debug_quotes.Goals as goal
 
 pub returns-then-ends_here-clause-front : goal.returns-then-ends_here-clause-front

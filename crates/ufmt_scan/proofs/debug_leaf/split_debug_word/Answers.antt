@@ -1,6 +1,6 @@
 use Rattle.std.proofs.Common.{◌≡◌, ◌==◌, refl, sym, ap, drop, length, eqb-true, ◌∙◌, not, Bool, false, true}
 use Rattle.ufmt_scan.specs.Private.Fronts.{is_started}
-use Rattle.ufmt_scan.proofs.DebugFronts.{started_by_bracket, word_is_ascii, word_splits}
+use Rattle.ufmt_scan.proofs.AsciiFronts.{started_by_bracket, word_is_ascii, word_splits}
 use Rattle.ufmt_scan.proofs.debug_leaf.split_debug_word.Goals as goal
 use Rattle.ufmt_scan.proofs.debug_leaf.split_debug_word.Goals.{then-not-is_empty, else-not-is_empty}
 
