@@ -85,6 +85,9 @@ ptrdiff_t ufmt_quote(char *buffer, size_t size, const char *input, size_t length
  * output of ufmt_quote begins with, in whole characters: the mark, characters in UTF-8 as ufmt_quote writes
  * them, and the last mark. A character or an escape that is cut doesn't count. */
 ptrdiff_t ufmt_unquote(char *buffer, size_t size, const char *input, size_t length, size_t *detail);
+/* The same of what Rust's `{:?}` prints of a text: it takes each character as `\u{..}` too, with the lower-case
+ * hexadecimal digits of its number and no zero before them, as Rust writes those that can't be seen: "\u{200b}". */
+ptrdiff_t ufmt_unquote_debug(char *buffer, size_t size, const char *input, size_t length, size_t *detail);
 
 /* Numbers. */
 
@@ -179,6 +182,10 @@ static inline ptrdiff_t ufmt_unquote_or_null(char *buffer, size_t size, const ch
     size_t unused = 0;
     return ufmt_unquote(buffer, size, input, length, detail ? detail : &unused);
 }
+static inline ptrdiff_t ufmt_unquote_debug_or_null(char *buffer, size_t size, const char *input, size_t length, size_t *detail) {
+    size_t unused = 0;
+    return ufmt_unquote_debug(buffer, size, input, length, detail ? detail : &unused);
+}
 static inline ptrdiff_t ufmt_unsigned_or_null(char *buffer, size_t size, uint64_t number, size_t *detail) {
     size_t unused = 0;
     return ufmt_unsigned(buffer, size, number, detail ? detail : &unused);
@@ -231,6 +238,7 @@ static inline ptrdiff_t ufmt_difference_or_null(char *buffer, size_t size, const
 #define ufmt_convert ufmt_convert_or_null
 #define ufmt_quote ufmt_quote_or_null
 #define ufmt_unquote ufmt_unquote_or_null
+#define ufmt_unquote_debug ufmt_unquote_debug_or_null
 #define ufmt_unsigned ufmt_unsigned_or_null
 #define ufmt_signed ufmt_signed_or_null
 #define ufmt_float ufmt_float_or_null

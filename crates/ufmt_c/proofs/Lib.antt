@@ -1,7 +1,11 @@
+pub mod CharacterNumbers
 pub mod Fronts
 pub mod NarrowColumns
 pub mod NarrowDumps
 pub mod NarrowNumbers
 pub mod Puts
 pub mod ReadNumbers
+pub mod Spellings
+pub mod TextFronts
 pub mod Unquoting
+pub mod UnquotingDebug

@@ -16,6 +16,7 @@ use Rattle.ufmt_grammar.proofs.QuotedUtf8.{quoted-utf8}
 use Rattle.ufmt_scan.proofs.Spelled.{escaped_bytes-append, quote_ends, same_bytes, spelled_once}
 use Rattle.ufmt_c.specs.Quotes.{IsFront, StopsAt}
 use Rattle.ufmt_c.specs.Private.Front.{IsTextAtFront}
+use Rattle.ufmt_c.proofs.TextFronts.{length_front, parts, same_front}
 
 -- one byte more is decoded
 pub decoded_more : (b : ℕ) (bytes t rest after : List ℕ) → t ≡ escaped_bytes 34 bytes ++ rest → rest ≡ escaped_byte 34 b ++ after
@@ -90,26 +91,6 @@ ends_ascii (b ∷ t) ends xs utf8 = elim (cases_lt b 128) [
 -- ---- an input, whose front is a text
 
 module _ (input front : List ℕ) (h : IsTextAtFront input front) where
-  -- a front of a text in quotation marks is within that text
-  within_text : (n : ℕ) → n ≤ length input → IsFront (take n input) → n ≤ length front
-  within_text n within is = elim (cases_lt (length front) n) [
-    | inl more ↦ absurd (h.longest n more within (front_utf8 (take n input) is))
-    | inr few ↦ few
-  ]
-
-  -- the text is that front, and more
-  parts : (n : ℕ) → n ≤ length input → IsFront (take n input) → front ≡ take n input ++ drop n front
-  parts n within is =
-      let same = ap (take n) h.is ∙ take-append-le n front h.after (within_text n within is) in
-      sym (ap (λ t. t ++ drop n front) same ∙ take-append-drop n front)
-
-  length_front : length input ≡ length front + length h.after
-  length_front = ap length h.is ∙ length-append front h.after
-
-  -- a front of the text is one of the input
-  same_front : (n : ℕ) → n ≤ length front → take n input ≡ take n front
-  same_front n within = ap (take n) h.is ∙ take-append-le n front h.after within
-
   -- a text in quotation marks is a front of itself
   all_of_it : (bytes : List ℕ) → IsUtf8 bytes → input ≡ quoted_text (chars bytes) → IsFront (take (length input) input)
   all_of_it bytes utf8 same = subst IsFront (sym (take_all (length input) input (omega arith))) (IsFront.whole bytes utf8 same)
@@ -121,13 +102,13 @@ module _ (input front : List ℕ) (h : IsTextAtFront input front) where
       where
         go : (t : List ℕ) → t ≡ take n input → IsFront t → ⊥
         go t same (IsFront.nothing empty) = omega (arith, ap length (sym same ∙ empty), length-take-le n input within)
-        go t same (IsFront.opened bytes utf8 begins) = none _ (parts n within is ∙ ap (λ s. s ++ drop n front) (sym same ∙ begins))
-        go t same (IsFront.whole bytes utf8 begins) = none _ (parts n within is ∙ ap (λ s. s ++ drop n front) (sym same ∙ begins ∙ marks bytes utf8))
+        go t same (IsFront.opened bytes utf8 begins) = none _ (parts input front h IsFront front_utf8 n within is ∙ ap (λ s. s ++ drop n front) (sym same ∙ begins))
+        go t same (IsFront.whole bytes utf8 begins) = none _ (parts input front h IsFront front_utf8 n within is ∙ ap (λ s. s ++ drop n front) (sym same ∙ begins ∙ marks bytes utf8))
 
     pub not_quoted-no_mark : (bytes : List ℕ) → IsUtf8 bytes → input ≢ quoted_text (chars bytes)
     not_quoted-no_mark bytes utf8 same = no_mark (length input) (omega (arith, ap length (same ∙ marks bytes utf8))) (omega arith) (all_of_it bytes utf8 same)
 
-    pub stops-no_mark : StopsAt input 0
+    pub stops-no_mark : StopsAt IsFront input 0
     stops-no_mark = record { within = omega arith; front = IsFront.nothing refl; longest = no_mark }
 
   -- after the mark bytes were decoded, up to where no byte is spelled
@@ -142,14 +123,14 @@ module _ (input front : List ℕ) (h : IsTextAtFront input front) where
     -- characters after the mark are at most those
     not_more : (n : ℕ) → n ≤ length input → IsFront (take n input) → (bytes : List ℕ) → take n input ≡ 34 ∷ escaped_bytes 34 bytes → n ≤ 1 + length (escaped_bytes 34 done)
     not_more n within is bytes begins =
-        let same : escaped_bytes 34 done ++ rest ≡ escaped_bytes 34 bytes ++ drop n front = ap (drop 1) (sym spelled ∙ parts n within is ∙ ap (λ t. t ++ drop n front) begins) in
+        let same : escaped_bytes 34 done ++ rest ≡ escaped_bytes 34 bytes ++ drop n front = ap (drop 1) (sym spelled ∙ parts input front h IsFront front_utf8 n within is ∙ ap (λ t. t ++ drop n front) begins) in
         omega (arith, no_longer done bytes rest (drop n front) ends same, ap length begins, length-take-le n input within)
 
     -- a whole text in quotation marks is those, and the mark
     whole_rest : (n : ℕ) → n ≤ length input → IsFront (take n input) → (bytes : List ℕ) → IsUtf8 bytes → take n input ≡ quoted_text (chars bytes) → rest ≡ 34 ∷ drop n front
     whole_rest n within is bytes utf8 begins =
         let same : escaped_bytes 34 done ++ rest ≡ (escaped_bytes 34 bytes ++ (34 ∷ [])) ++ drop n front
-        = ap (drop 1) (sym spelled ∙ parts n within is ∙ ap (λ t. t ++ drop n front) (begins ∙ marks bytes utf8)) in
+        = ap (drop 1) (sym spelled ∙ parts input front h IsFront front_utf8 n within is ∙ ap (λ t. t ++ drop n front) (begins ∙ marks bytes utf8)) in
         (same_bytes 34 (inl refl) done bytes rest (34 ∷ drop n front) ends (quote_ends 34 (inl refl) (drop n front))
         (same ∙ append_assoc (escaped_bytes 34 bytes) (34 ∷ []) (drop n front))).1
 
@@ -170,14 +151,14 @@ module _ (input front : List ℕ) (h : IsTextAtFront input front) where
           go t same (IsFront.opened bytes utf8 begins) = omega (arith, more, at, not_more n within is bytes (sym same ∙ begins))
           go t same (IsFront.whole bytes utf8 begins) = no_last _ (whole_rest n within is bytes utf8 (sym same ∙ begins))
 
-      pub stops-misspelled : StopsAt input place
+      pub stops-misspelled : StopsAt IsFront input place
       stops-misspelled =
           let is_length : place ≡ length (34 ∷ escaped_bytes 34 done) = omega (arith, at) in
           let begins : take place input ≡ 34 ∷ escaped_bytes 34 done
-          = same_front place (omega (arith, at, counted)) ∙ ap (take place) spelled ∙ ap (λ n. take n (34 ∷ (escaped_bytes 34 done ++ rest))) is_length
+          = same_front input front h place (omega (arith, at, counted)) ∙ ap (take place) spelled ∙ ap (λ n. take n (34 ∷ (escaped_bytes 34 done ++ rest))) is_length
           ∙ take-append_seam (34 ∷ escaped_bytes 34 done) rest in
           record {
-            within = omega (arith, at, counted, length_front);
+            within = omega (arith, at, counted, length_front input front h);
             front = IsFront.opened done done_utf8 begins;
             longest = longest;
           }
@@ -194,7 +175,7 @@ module _ (input front : List ℕ) (h : IsTextAtFront input front) where
       module _ (place : ℕ) (at : place ≡ 2 + length (escaped_bytes 34 done)) where
         begins : take place input ≡ quoted_text (chars done)
         begins =
-            same_front place (omega (arith, at, counted, ap length last)) ∙ ap (take place) closed
+            same_front input front h place (omega (arith, at, counted, ap length last)) ∙ ap (take place) closed
             ∙ ap (λ n. take n ((34 ∷ (escaped_bytes 34 done ++ (34 ∷ []))) ++ after)) (at ∙ sym length_closed)
             ∙ take-append_seam (34 ∷ (escaped_bytes 34 done ++ (34 ∷ []))) after ∙ sym (marks done done_utf8)
 
@@ -205,7 +186,7 @@ module _ (input front : List ℕ) (h : IsTextAtFront input front) where
             go t same (IsFront.nothing empty) = omega (arith, more, ap length (sym same ∙ empty), length-take-le n input within)
             go t same (IsFront.opened bytes utf8 is_open) = omega (arith, more, at, not_more n within is bytes (sym same ∙ is_open))
             go t same (IsFront.whole bytes utf8 is_whole) =
-                let left = ap length (parts n within is) ∙ length-append (take n input) (drop n front) in
+                let left = ap length (parts input front h IsFront front_utf8 n within is) ∙ length-append (take n input) (drop n front) in
                 omega (
                   arith,
                   more,
@@ -216,8 +197,8 @@ module _ (input front : List ℕ) (h : IsTextAtFront input front) where
                   length-take-le n input within,
                 )
 
-        pub stops-longer : StopsAt input place
-        stops-longer = record { within = omega (arith, at, counted, ap length last, length_front); front = IsFront.whole done done_utf8 begins; longest = longer }
+        pub stops-longer : StopsAt IsFront input place
+        stops-longer = record { within = omega (arith, at, counted, ap length last, length_front input front h); front = IsFront.whole done done_utf8 begins; longest = longer }
 
         -- if more follows, the input is none
         pub not_quoted-longer : place < length input → (bytes : List ℕ) → IsUtf8 bytes → input ≢ quoted_text (chars bytes)

@@ -1,5 +1,6 @@
 pub mod Calls
 pub mod Conversions
+pub mod DebugQuotes
 pub mod Differences
 pub mod Numbers
 pub mod Options

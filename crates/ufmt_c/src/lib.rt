@@ -8,9 +8,11 @@
 //!
 //! A call that pads a text makes no more of it than the buffer can show, and only counts the rest.
 
+mod character_number;
 mod code;
 mod column;
 mod convert;
+mod debug_quotes;
 mod difference;
 mod dump;
 mod filler;

@@ -1,8 +1,7 @@
-//! Characters in apostrophes.
+//! Characters as they are written between quotes, and in apostrophes.
 ghost use Rattle.std.specs.Prelude.{◌≡◌, ◌≢◌, ◌++◌, ℕ, List, MatchOption, encode_utf8};
 ghost use Rattle.std.specs.Char.{IsScalar};
-ghost use Rattle.ufmt_core.specs.Quoted.{escaped, quoted_char};
-ghost use Rattle.ufmt_core.specs.Bytes.{apostrophe};
+ghost use Rattle.ufmt_core.specs.Quoted.{IsQuote, escaped, quoted_char};
 
 use ufmt_scan::quoted::{character_len, split_escaped};
 use ufmt_scan::strip::strip_byte;
@@ -40,12 +39,14 @@ fn split_utf8(input: &[u8]) -> Option<(char, &[u8])>
     }
 }
 
-// The character at the front, as it is written between apostrophes, and what follows it.
-fn split_character(input: &[u8]) -> Option<(char, &[u8])>
-    ensures { MatchOption result ((c : ℕ) (rest : List ℕ) → IsScalar c → input.now ≢ escaped apostrophe c ++ rest)
-        (λ x. IsScalar x.0 × (input.now ≡ escaped apostrophe x.0 ++ x.1.now)) }
+/// The character at the front, as it is written between two of these quotes, and what follows it. `quote` is a
+/// quotation mark or apostrophe.
+pub fn split_character(quote: u8, input: &[u8]) -> Option<(char, &[u8])>
+    requires { IsQuote quote }
+    ensures { MatchOption result ((c : ℕ) (rest : List ℕ) → IsScalar c → input.now ≢ escaped quote c ++ rest)
+        (λ x. IsScalar x.0 × (input.now ≡ escaped quote x.0 ++ x.1.now)) }
 {
-    match split_escaped(b'\'', input) {
+    match split_escaped(quote, input) {
         None => None,
         Some((byte, after)) => {
             if byte < 128 {
@@ -63,7 +64,7 @@ pub fn split_quoted_char(input: &[u8]) -> Option<(char, &[u8])>
         (λ x. IsScalar x.0 × (input.now ≡ quoted_char x.0 ++ x.1.now)) }
 {
     let inside = strip_byte(b'\'', input)?;
-    match split_character(inside) {
+    match split_character(b'\'', inside) {
         None => None,
         Some(front) => match strip_byte(b'\'', front.1) {
             None => None,

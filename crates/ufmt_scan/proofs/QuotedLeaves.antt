@@ -117,9 +117,9 @@ abbrev Led : ℕ → Type 0
 Led c = (b : ℕ) × (more : List ℕ) × (escaped 39 c ≡ escaped_byte 39 b ++ more) × (length more ≡ continuation_len b)
 
 lead : (c : ℕ) → Led c
-lead c = by (is_written c)
+lead c = by (is_written 39 (inr refl) c)
   where
-    by : Written c → Led c
+    by : Written 39 c → Led c
     by (ascii low is) = (c, [], is ∙ sym (append-nil (escaped_byte 39 c)), grind (arith, nat_tests))
     by (past_ascii high itself b past more is) =
         let whole : encode_utf8 c ≡ b ∷ more = sym itself ∙ is ∙ ap (λ e. unwrap_or e (b ∷ []) ++ more) (escape-past_ascii 39 b (omega arith) past) in

@@ -160,8 +160,8 @@ fn byte_at(input: &[u8], index: usize) -> u8
     input.get(index).copied().unwrap_or(0)
 }
 
-// The value of a digit or a letter as a digit, and 36 for any other byte.
-fn digit_value(byte: u8) -> u32
+/// The value of a digit or a letter as a digit, and 36 for any other byte.
+pub fn digit_value(byte: u8) -> u32
     ensures value { result ≡ digit_value byte }
     ensures small { result ≤ 36 }
 {

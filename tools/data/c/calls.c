@@ -97,7 +97,14 @@ static size_t *place(size_t *detail) {
 static void call_on_bytes(const char *name) {
     size_t detail = DETAIL;
     bytes to = buffer(), from = input();
-    ptrdiff_t result = (*name == 'q' ? ufmt_quote : ufmt_unquote)(to.at, to.size, from.at, from.size, place(&detail));
+    ptrdiff_t result;
+    if (*name == 'q') {
+        result = ufmt_quote(to.at, to.size, from.at, from.size, place(&detail));
+    } else if (!strcmp(name, "unquote")) {
+        result = ufmt_unquote(to.at, to.size, from.at, from.size, place(&detail));
+    } else {
+        result = ufmt_unquote_debug(to.at, to.size, from.at, from.size, place(&detail));
+    }
     print(result, detail, to);
     free(from.at);
 }
@@ -198,7 +205,7 @@ static void call_on_two(const char *name) {
 static void call(const char *name) {
     if (!strcmp(name, "convert")) {
         call_convert();
-    } else if (!strcmp(name, "quote") || !strcmp(name, "unquote")) {
+    } else if (!strcmp(name, "quote") || !strcmp(name, "unquote") || !strcmp(name, "unquote_debug")) {
         call_on_bytes(name);
     } else if (!strcmp(name, "is_text")) {
         call_is_text();

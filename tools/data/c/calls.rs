@@ -44,6 +44,7 @@ unsafe extern "C" {
     fn ufmt_parse_signed(number: &mut i64, input: *const u8, length: usize, detail: &mut usize) -> isize;
     fn ufmt_quote(to: *mut u8, size: usize, input: *const u8, length: usize, detail: &mut usize) -> isize;
     fn ufmt_unquote(to: *mut u8, size: usize, input: *const u8, length: usize, detail: &mut usize) -> isize;
+    fn ufmt_unquote_debug(to: *mut u8, size: usize, input: *const u8, length: usize, detail: &mut usize) -> isize;
     fn ufmt_unsigned(to: *mut u8, size: usize, number: u64, detail: &mut usize) -> isize;
     fn ufmt_signed(to: *mut u8, size: usize, number: i64, detail: &mut usize) -> isize;
     fn ufmt_float(to: *mut u8, size: usize, number: f64, detail: &mut usize) -> isize;
@@ -153,6 +154,7 @@ fn on_bytes(name: &str, to: *mut u8, size: usize, words: &mut Words, detail: &mu
     let call: OnBytes = match name {
         "quote" => ufmt_quote,
         "unquote" => ufmt_unquote,
+        "unquote_debug" => ufmt_unquote_debug,
         "dump" => {
             let style = DumpStyle {
                 struct_size: words.number(),

@@ -40,6 +40,7 @@ CALLS = {
     "parse_float": ("number", "bytes"),
     "quote": ("buffer", "bytes"),
     "unquote": ("buffer", "bytes"),
+    "unquote_debug": ("buffer", "bytes"),
     "unsigned": ("buffer", "uint64_t"),
     "signed": ("buffer", "int64_t"),
     "float": ("buffer", "double"),
@@ -111,6 +112,7 @@ def stored():
         yield Case(call, arguments(call, words), text=whole)
         if call == "quote":
             yield Case("unquote", (whole,), text=arguments(call, words)[0])
+            yield Case("unquote_debug", (whole,), text=arguments(call, words)[0])
         elif call in ("unsigned", "signed"):
             yield Case("parse_" + call, (whole,), result=0, number=arguments(call, words)[0])
 
@@ -187,7 +189,12 @@ def version():
 
 # How a character is spelled between quotation marks, and whole characters at the front of a text in quotation marks.
 SPELLED = r'(?:\\(?:[0tnr"\\]|u\{(?:[1-8]|[bcef]|1[0-9a-f]|7f)\})|[^\x00-\x1f"\\\x7f])*'
-QUOTED_FRONT, QUOTED = re.compile('(?:"%s"?)?' % SPELLED), re.compile('"%s"' % SPELLED)
+# As Rust prints them, any character may be written by its number.
+NUMBERED = r'\\u\{(?!d[89a-f][0-9a-f]{2}\})(?:0|[1-9a-f][0-9a-f]{0,4}|10[0-9a-f]{4})\}'
+DEBUG_SPELLED = r'(?:%s|\\[0tnr"\\]|[^\x00-\x1f"\\\x7f])*' % NUMBERED
+# By the call that takes them: what such a text begins with, and such a text.
+QUOTED = {call: (re.compile('(?:"%s"?)?' % spelled), re.compile('"%s"' % spelled)) for call, spelled in (("unquote", SPELLED), ("unquote_debug", DEBUG_SPELLED))}
+LETTERS = {"0": "\0", "t": "\t", "n": "\n", "r": "\r"}
 
 
 def matches(pattern, data):
@@ -198,25 +205,35 @@ def matches(pattern, data):
         return False
 
 
-def misquoted_at(data):
-    """How many bytes at the front of an input some text in quotation marks begins with, in whole characters, or None if it is one."""
-    if matches(QUOTED, data):
-        return None
-    return max(n for n in range(len(data) + 1) if matches(QUOTED_FRONT, data[:n]))
+def unquoted(call, data):
+    """What a call makes of an input: the text in the quotation marks, or how many bytes at its front some such text begins with, in
+    whole characters."""
+    front, whole = QUOTED[call]
+    if not matches(whole, data):
+        return Case(call, (data,), result=NO_TEXT, detail=max(n for n in range(len(data) + 1) if matches(front, data[:n])))
+    text = re.sub(r"\\(?:u\{(\w+)\}|(.))", lambda it: chr(int(it[1], 16)) if it[1] else LETTERS.get(it[2], it[2]), data.decode()[1:-1])
+    return Case(call, (data,), text=text.encode())
+
+
+# Numbers of characters, and some that are of none, or have a zero too many, a letter in upper case or no brace.
+NUMBERS_OF_CHARACTERS = [b"u{%s}" % digits for digits in (
+    b"200b", b"301", b"ad", b"feff", b"41", b"5c", b"22", b"27", b"ff", b"100", b"fff", b"1000", b"d7ff", b"d800", b"dfff", b"e000", b"ffff", b"10000",
+    b"fffff", b"100000", b"10ffff", b"110000", b"ffffff", b"1000000", b"100000041", b"0041", b"00", b"200B", b"20_0b", b"200b ", b"g", b"/", b":", b"`")]
+NUMBERS_OF_CHARACTERS += [b"u{200b", b"u{200b\\}", b"u200b}", b"u{200b}}", b"u{", b"u"]
 
 
 def misquoted():
-    """Inputs that are no texts in quotation marks: texts in quotes that are cut, longer, or have one byte changed."""
+    """Inputs that are texts in quotation marks or nearly so: cut, longer, or with one byte changed."""
     inputs = REFUSED + [b'"' + data + end for data in NOT_TEXTS for end in (b'"', b"", b"\\q", b'\\n"', b'"x')]
+    inputs += [b'"\\%s"' % escape for escape in NUMBERS_OF_CHARACTERS]
     inputs += [b'"\\%s"' % escape for escape in (b"x", b"u{0}", b"u{9}", b"u{a}", b"u{d}", b"u{20}", b"u{80}", b"u{7F}", b"u{1B}", b"u{07}", b"u{}", b"u1", b"'", b"u{1b")]
     whole = '"a\\n\\u{1b}é\\"\\\\z"'.encode()
     inputs += [whole[:at] for at in range(len(whole))] + [whole + b"x", whole + whole]
     inputs += [wide[:at] + end for wide in ['"\u00e9\u4e2d\U0001f980\\0"'.encode()] for at in range(len(wide)) for end in (b"", b'"', b"a", b"\\u{200b}", b"\xff")]
     inputs += [whole[:at] + bytes([byte]) + whole[at + 1 :] for at in range(len(whole)) for byte in (0x00, 0x22, 0x5C, 0x7F, 0xFF)]
     for data in inputs:
-        place = misquoted_at(data)
-        if place is not None:
-            yield Case("unquote", (data,), result=NO_TEXT, detail=place)
+        for call in QUOTED:
+            yield unquoted(call, data)
 
 
 # The digits at the front of an input, and the numbers of each call.

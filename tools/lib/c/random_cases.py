@@ -6,7 +6,7 @@ from lib.c.cases import BAD_OPTION, NO_TEXT, NOT_UTF8, SIZE_MAX, Case, style
 from lib.model import floats
 from lib.model.characters import any_character
 from lib.model.documents import DebugMaker, Maker
-from lib.model.model import DEBUG, TOKEN, quoted, unquoted
+from lib.model.model import DEBUG, TOKEN, quoted
 
 # Inputs are cut at so many bytes, so that many are tried. What happens to long ones is in the tables.
 LONGEST, LONGEST_QUOTED = 200, 60
@@ -91,14 +91,16 @@ class RandomCases:
             return [Case("quote", (data,), result=NOT_UTF8, detail=cases.valid_up_to(data))]
 
     def unquoted(self):
-        data = quoted(self.characters(LONGEST_QUOTED // 2)).encode() if self.random.randrange(3) else self.data(LONGEST_QUOTED)
+        text = self.characters(LONGEST_QUOTED // 2)
+        data = self.random.choice((quoted(text), quoted(text), self.numbered(text))).encode() if self.random.randrange(3) else self.data(LONGEST_QUOTED)
         if self.random.randrange(3) == 0:
             at = self.random.randint(0, len(data))
             data = data[:at] + self.random.choice((b"", b"\\", b'"', b"\\u{", b"\x00", self.random.randbytes(1))) + data[at + self.random.randrange(2):]
-        place = cases.misquoted_at(data)
-        if place is None:
-            return [Case("unquote", (data,), text=unquoted(data.decode()).encode())]
-        return [Case("unquote", (data,), result=NO_TEXT, detail=place)]
+        return [cases.unquoted(call, data) for call in cases.QUOTED]
+
+    def numbered(self, text):
+        """A text in quotation marks with some characters written by their numbers."""
+        return '"%s"' % "".join("\\u{%x}" % ord(it) if self.random.randrange(3) == 0 else quoted(it)[1:-1] for it in text)
 
     def number(self):
         number = self.whole_number(SIZE_MAX)
