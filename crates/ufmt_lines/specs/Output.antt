@@ -1,21 +1,15 @@
 -- What is written for the groups of lines of an input.
-use Rattle.std.specs.Prelude.{◌≡◌, ℕ, false, List, [], ◌∷◌, ◌++◌, map, Option, IfSome, ◌⊎◌}
+use Rattle.std.specs.Prelude.{◌≡◌, ℕ, List, ◌++◌, map, Option, IfSome}
 use Rattle.std.specs.Io.KnownBytes.{Appends, Consumes}
-use Rattle.std.specs.List.{join_with_byte}
-use Rattle.ufmt.specs.Bytes.{line_feed}
-use Rattle.ufmt_core.specs.declared.layout.Mode.{Mode}
+use Rattle.std.specs.List.{concat}
 use Rattle.ufmt_io.specs.Whole.{AppendsPrefix}
-use Rattle.ufmt_lines.specs.Groups.{continues_after, groups_of}
+use Rattle.ufmt_lines.specs.Groups.{AreWholeGroups, groups_of}
 use Rattle.ufmt_lines.specs.Values.{output_of}
 use Rattle.ufmt_lines.specs.declared.run.conversion.Conversion.{Conversion}
 
--- the output for each group of lines, with the line feeds between them
+-- the outputs for the groups of a text, put together
 unfoldable pub outputs_of : Conversion → List ℕ → List ℕ
-outputs_of conversion text = join_with_byte line_feed (map (output_of conversion) (groups_of conversion.to text))
-
--- the text is empty, or ends with a line feed at which a group ends
-abbrev pub AreWholeGroups : Mode → List ℕ → Type 0
-AreWholeGroups mode text = (text ≡ []) ⊎ ((front : List ℕ) × (text ≡ front ++ line_feed ∷ []) × (continues_after mode front ≡ false))
+outputs_of conversion text = concat (map (output_of conversion) (groups_of conversion.to text))
 
 -- if the bytes of input and output are known: the outputs for all groups were written
 abbrev pub WritesOutput : Conversion → Option (List ℕ) → Option (List ℕ) → Option (List ℕ) → Type 0
@@ -29,7 +23,7 @@ WritesOutputPrefix conversion input old new = IfSome input (λ bytes. AppendsPre
 pub record WritesFront (conversion : Conversion) (text rest : List ℕ) (old new : Option (List ℕ)) : Type 0 where
   pub front : List ℕ
   pub cut : text ≡ front ++ rest
-  pub groups : AreWholeGroups conversion.to front
+  pub groups : AreWholeGroups conversion.to front rest
   pub written : Appends old new (outputs_of conversion front)
 
 -- what was read is whole groups, whose outputs were written, and a rest
