@@ -64,9 +64,9 @@ grouped mode group (piece ∷ pieces) = if continues mode group piece then group
 abbrev pub groups_of : Mode → List ℕ → List (List ℕ)
 groups_of mode text = grouped mode [] (pieces_of mode text)
 
--- the groups of a text are those of its front and those of the rest, whatever follows the rest
-abbrev pub AreWholeGroups : Mode → List ℕ → List ℕ → Type 0
-AreWholeGroups mode front rest = (more : List ℕ) → groups_of mode ((front ++ rest) ++ more) ≡ groups_of mode front ++ groups_of mode (rest ++ more)
+-- these groups are the first of a text before this rest, whatever follows the rest
+abbrev pub AreFirstGroups : Mode → List (List ℕ) → List ℕ → List ℕ → Type 0
+AreFirstGroups mode groups text rest = (more : List ℕ) → groups_of mode (text ++ more) ≡ groups ++ groups_of mode (rest ++ more)
 
 -- no group has ended in a text: a space after it is in the same group
 abbrev pub IsInGroup : Mode → List ℕ → Type 0
