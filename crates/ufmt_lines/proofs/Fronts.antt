@@ -1,5 +1,5 @@
 -- First groups of a text, and their outputs, one after another.
-use Rattle.std.proofs.Common.{◌≡◌, ◌∙◌, ◌⊎◌, inl, inr, refl, ap, sym, subst, ℕ, List, [], ◌∷◌, ◌++◌, append_assoc, append-nil, Option}
+use Rattle.std.proofs.Common.{◌≡◌, ◌∙◌, ◌⊎◌, inl, inr, refl, ap, sym, subst, ℕ, List, [], ◌++◌, append_assoc, append-nil, Option}
 use Rattle.std.proofs.KnownBytes.{Appends-nil, Appends-trans}
 use Rattle.std.specs.Io.KnownBytes.{Appends}
 use Rattle.ufmt_lines.specs.declared.run.conversion.Conversion.{Conversion}

@@ -1,5 +1,5 @@
 -- Where a group ends in a line, or that it continues after the line.
-use Rattle.std.proofs.Common.{◌≡◌, ◌∙◌, refl, sym, subst, ℕ, List, [], ◌∷◌, ◌++◌, Bool, true, false, nat_lt, drop, take, length, ◌-◌, ◌≤◌, arith}
+use Rattle.std.proofs.Common.{◌≡◌, ◌∙◌, refl, sym, subst, ℕ, List, [], ◌∷◌, ◌++◌, Bool, true, false, nat_lt, take, length, ◌-◌, arith}
 use Rattle.std.proofs.Math.Bool.{and-false}
 use Rattle.std.proofs.lemmas.List.{drop_all, take_all}
 use Rattle.ufmt_core.specs.declared.layout.Mode.{Mode}

@@ -1,5 +1,5 @@
 -- Groups of lines: of a text that is cut where a group ends, and of a text that is one group.
-use Rattle.std.proofs.Common.{◌≡◌, ◌≢◌, inl, inr, ◌==◌, ◌∙◌, refl, ap, sym, subst, ℕ, List, [], ◌∷◌, ◌++◌, Bool, true, false, ◌&&◌, ◌||◌, not, nat_lt, cond, append_assoc, append-nil, drop, get_or, take, length, suc, ◌+◌, ◌-◌, ◌<◌, ◌≤◌, arith}
+use Rattle.std.proofs.Common.{◌≡◌, ◌≢◌, inl, inr, ◌==◌, ◌∙◌, refl, ap, sym, subst, ℕ, List, [], ◌∷◌, ◌++◌, Bool, true, false, ◌&&◌, not, cond, append_assoc, append-nil, drop, take, length, ◌<◌, ◌≤◌, arith}
 use Rattle.std.proofs.lemmas.List.{take-append-drop}
 use Rattle.std.proofs.lemmas.List.Folds.{concat-append}
 use Rattle.std.proofs.lemmas.Bool.Decides.{eqb_tells}
@@ -8,7 +8,7 @@ use Rattle.std.specs.List.{All, concat, flat_map, onto_first}
 use Rattle.ufmt.specs.Bytes.{line_feed, space}
 use Rattle.ufmt_core.specs.declared.layout.Mode.{Mode}
 use Rattle.ufmt_core.specs.declared.layout.Mode.TheVariants.{Plain, Pretty}
-use Rattle.ufmt_lines.specs.Groups.{AreFirstGroups, IsInGroup, IsInLine, continues, cut_before_word, ended_lines, grouped, groups_of, if_any, is_indented, opens, pieces_of, pieces_of_line}
+use Rattle.ufmt_lines.specs.Groups.{AreFirstGroups, IsInGroup, IsInLine, continues, ended_lines, grouped, groups_of, if_any, is_indented, opens, pieces_of, pieces_of_line}
 use Rattle.ufmt_lines.specs.Private.Group.{IsEndedLine, IsOpen}
 use Rattle.ufmt_lines.proofs.LineEnds.{opens_no_line}
 

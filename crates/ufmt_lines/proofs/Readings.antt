@@ -11,7 +11,6 @@ use Rattle.ufmt_lines.specs.Groups.{IsInGroup, IsInLine, groups_of, if_any}
 use Rattle.ufmt_lines.specs.Private.Group.{EndsGroup, Gathers, IsEndOf, IsEndedLine, IsOpen, IsReading, group_bytes}
 use Rattle.ufmt_lines.specs.Values.{output_of}
 use Rattle.ufmt_lines.proofs.Cuts.{outputs_any}
-use Rattle.ufmt_lines.proofs.Fronts.{nothing_gathered}
 use Rattle.ufmt_lines.proofs.Groups.{groups_only, nothing_open, reading_in_group}
 
 module _ (mode : Mode) where

@@ -1,5 +1,5 @@
 -- The groups of an input's lines that are converted together.
-use Rattle.std.specs.Prelude.{◌≡◌, ◌≢◌, ℕ, ◌-◌, ◌==◌, ◌||◌, ◌&&◌, nat_lt, cond, if◌then◌else◌, not, Bool, true, false, List, [], ◌∷◌, ◌++◌, drop, take, length, slice_index_or}
+use Rattle.std.specs.Prelude.{◌≡◌, ◌≢◌, ℕ, ◌-◌, ◌==◌, ◌||◌, ◌&&◌, nat_lt, cond, if◌then◌else◌, not, Bool, false, List, [], ◌∷◌, ◌++◌, drop, take, length, slice_index_or}
 use Rattle.std.specs.List.{All, flat_map, onto_first}
 use Rattle.ufmt.specs.Bytes.{line_feed, opening_brace, space}
 use Rattle.ufmt.specs.Leaves.{begins_with, is_opening}

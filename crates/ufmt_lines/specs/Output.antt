@@ -1,5 +1,5 @@
 -- What is written for the groups of lines of an input.
-use Rattle.std.specs.Prelude.{◌≡◌, ℕ, List, map, Option, IfSome}
+use Rattle.std.specs.Prelude.{ℕ, List, map, Option, IfSome}
 use Rattle.std.specs.Io.KnownBytes.{Appends, Consumes}
 use Rattle.std.specs.List.{concat}
 use Rattle.ufmt_io.specs.Whole.{AppendsPrefix}

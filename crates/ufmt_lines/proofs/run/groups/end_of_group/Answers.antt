@@ -1,4 +1,4 @@
-use Rattle.std.proofs.Common.{◌∙◌, sym}
+use Rattle.std.proofs.Common.{sym}
 use Rattle.ufmt_lines.proofs.GroupEnds.{bracket_continues, cut_ends, first_ends, indented_continues, last_ends, pretty_ends}
 use Rattle.ufmt_lines.proofs.run.groups.end_of_group.Goals as goal
 

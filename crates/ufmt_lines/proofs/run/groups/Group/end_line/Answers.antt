@@ -1,4 +1,4 @@
-use Rattle.std.proofs.Common.{◌∙◌, ◌++◌, ◌+◌, ap, refl, sym, length}
+use Rattle.std.proofs.Common.{◌∙◌, ◌++◌, ap, refl, sym, length}
 use Rattle.std.proofs.lemmas.List.{take_rest}
 use Rattle.ufmt_lines.specs.Private.Group.{gathered, group_bytes}
 use Rattle.ufmt_lines.proofs.Fronts.{nothing_gathered}
