@@ -43,7 +43,7 @@ impl<A: Copy> uParse<A> for Set {
 mod tests {
     use super::*;
     use ufmt::debug_into;
-    use ufmt_parse::parse;
+    use ufmt_parse::{ParseError, parse};
 
     const TEXT: &[u8] = b"Set { channel: 3, level: -4 }";
 
@@ -57,6 +57,7 @@ mod tests {
         assert_eq!(rt; debug_into(&mut buffer, &set), Ok(TEXT.len()));
         assert_eq!(rt; &buffer[..TEXT.len()], TEXT);
         assert_eq!(rt; parse::<Set, ()>((), TEXT), Ok(set));
-        assert!(rt; parse::<Set, ()>((), b"Set { channel: 300, level: -4 }").is_err());
+        let wrong = parse::<Set, ()>((), b"Set { channel: 300, level: -4 }");
+        assert!(rt; matches!(wrong, Err(ParseError::NotText { .. })));
     }
 }
