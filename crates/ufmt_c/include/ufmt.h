@@ -15,7 +15,7 @@
  *     will do. The buffer holds as many bytes of the text as it has: the last may end inside a character.
  *   - Any other result is a code below zero, named at the call. The buffer stays as it was; but a call
  *     that returns UFMT_NO_TEXT may have overwritten any byte of the buffer.
- *   Where `detail` is NULL, what is said of `*detail` here and below isn't left anywhere.
+ *   If `detail` is NULL, the call leaves nothing of what is said of `*detail` here and below.
  *
  * What you must uphold, which no call can test
  *   - A pointer and the size after it are those of an array of that many bytes, at most PTRDIFF_MAX. With
@@ -65,14 +65,15 @@ uint32_t ufmt_version(void);
 #define UFMT_PLAIN 0
 #define UFMT_PRETTY 1
 
-/* Whether the input is a text of this class in this mode. It is none of a class or a mode that isn't there. */
+/* Returns whether the input is a text of this class in this mode: false if there is no such class or mode. */
 bool ufmt_is_text(uint32_t text_class, uint32_t mode, const char *input, size_t length);
 
-/* Writes the text in the mode `to` of the document of this class whose text in the other mode is the input.
- * Returns UFMT_BAD_OPTION if there is no such class or mode, else UFMT_NO_TEXT if and only if the input is no
- * such text. Then `*detail` becomes the number of bytes at its front that were read before the piece that
- * doesn't fit: a leaf, or brackets, commas, colons and spaces up to the next leaf. An input that is only cut
- * may have been read to its end. */
+/* The input is the text of a document of this class, in the other mode than `to`. Writes the text of the same
+ * document in the mode `to`. Returns UFMT_BAD_OPTION if there is no such class or mode. Else it returns
+ * UFMT_NO_TEXT if and only if the input is no such text. Then `*detail` becomes the number of bytes at the
+ * input's front that were read before the piece that doesn't fit. A piece is a leaf, or brackets, commas,
+ * colons and spaces up to the next leaf. If the input is only the beginning of a text, it may have been read
+ * to its end. */
 ptrdiff_t ufmt_convert(char *buffer, size_t size, uint32_t text_class, uint32_t to, const char *input, size_t length, size_t *detail);
 
 /* Texts in quotes. */
@@ -80,10 +81,11 @@ ptrdiff_t ufmt_convert(char *buffer, size_t size, uint32_t text_class, uint32_t 
 /* Writes the input in quotation marks, with the escapes that `{:?}` writes; each character past ASCII is
  * written as itself. Or returns UFMT_NOT_UTF8. */
 ptrdiff_t ufmt_quote(char *buffer, size_t size, const char *input, size_t length, size_t *detail);
-/* Writes the text of which ufmt_quote writes this input. Of any other input, also one with another escape
- * than that would write, it returns UFMT_NO_TEXT. Then `*detail` becomes how many bytes at its front some
- * output of ufmt_quote begins with, in whole characters: the mark, characters in UTF-8 as ufmt_quote writes
- * them, and the last mark. A character or an escape that is cut doesn't count. */
+/* The input is what ufmt_quote writes of some text. Writes that text. Returns UFMT_NO_TEXT of any other input,
+ * also of one with an escape that ufmt_quote doesn't write. Then `*detail` becomes the length of the longest
+ * front of the input that some output of ufmt_quote begins with, in whole characters. These are the mark,
+ * characters in UTF-8 as ufmt_quote writes them, and the last mark. A character or an escape that is cut
+ * doesn't count. */
 ptrdiff_t ufmt_unquote(char *buffer, size_t size, const char *input, size_t length, size_t *detail);
 /* The same of what Rust's `{:?}` prints of a text: it takes each character as `\u{..}` too, with the lower-case
  * hexadecimal digits of its number and no zero before them, as Rust writes those that can't be seen: "\u{200b}". */
@@ -99,11 +101,12 @@ ptrdiff_t ufmt_signed(char *buffer, size_t size, int64_t number, size_t *detail)
  * enough. No two floats have one text, and all NaN have one. */
 ptrdiff_t ufmt_float(char *buffer, size_t size, double number, size_t *detail);
 
-/* Leaves in `*number` the number of which ufmt_unsigned, ufmt_signed or ufmt_float writes this input, and returns 0:
- * `*detail` stays. Of any other input, also of one with a plus, a space, a zero too many, a number that its type
- * doesn't have, or a float that is written otherwise, as 1 or 1.50, it returns UFMT_NO_TEXT: `*number` stays. Then, if a number is at the input's front, and
- * after it a comma, a closing bracket or another byte that may come after a leaf in a text of a value,
- * `*detail` becomes how many bytes the number has, and else some number up to `length`. */
+/* The input is what ufmt_unsigned, ufmt_signed or ufmt_float writes of some number. Leaves that number in
+ * `*number`, and returns 0. `*detail` stays. Of any other input it returns UFMT_NO_TEXT, and `*number` stays.
+ * Other inputs are those with a plus, a space or a zero too many, a number that the type doesn't have, or a
+ * float that is written otherwise, as 1 or 1.50. If such an input begins with a number, and then has a comma,
+ * a closing bracket or another byte that may come after a leaf in a text of a value, `*detail` becomes how
+ * many bytes the number has. Else it becomes some number up to `length`. */
 ptrdiff_t ufmt_parse_unsigned(uint64_t *number, const char *input, size_t length, size_t *detail);
 ptrdiff_t ufmt_parse_signed(int64_t *number, const char *input, size_t length, size_t *detail);
 ptrdiff_t ufmt_parse_float(double *number, const char *input, size_t length, size_t *detail);

@@ -1,6 +1,7 @@
 //! Lines in a buffer of a fixed size: one of a log, measurements in a row, and the bytes of a packet.
 ghost use Rattle.ufmt.specs.Buffer.{Fronts};
-ghost use Rattle.ufmt_print_examples.specs.Logger.{dump_text, line, measurement_document, measurement_pieces, measurements_text};
+ghost use Rattle.ufmt_print_examples.specs.Logger.{line, measurement_document};
+ghost use Rattle.ufmt_print_examples.specs.Logger.{dump_text, measurement_pieces, measurements_text};
 
 use ufmt::pieces::Mark;
 use ufmt::{Formatter, Full, HexOptions, Line, fields, line_into, pieces, uDebug, uWrite};

@@ -73,6 +73,7 @@ IN_BODIES = [
     (NAMED, "ufmt_scan/src/error.rt", "ReadError::code", "ReadError::OutOfMemory=>2"),
     (NAMED, "ufmt_conv/src/run/fault.rt", "Fault::status", "Fault::OutOfMemory=>IoFault::OutOfMemory.status()"),
     (NAMED, "ufmt_conv/src/run/fault.rt", "Fault::line", "Fault::OutOfMemory=>\"\""),
+    (NAMED, "ufmt_first_example/src/lib.rt", "a_setting_is_printed_to_a_buffer_and_parsed", "Err(ParseError::NotText{..})"),
     (NAMED, "ufmt_io/src/fault.rt", "IoFault::status", "IoFault::OutOfMemory=>5"),
     (NAMED, "ufmt_lines/src/run/fault.rt", "fault_line", "IoFault::OutOfMemory=>\"\""),
     (NAMED, "ufmt_conv/src/run/fault.rt", "Fault::line", '"ufmt_conv: out of memory"'),

@@ -1,4 +1,4 @@
-//! Tests of `parse_command`, and the first lines of README.md.
+//! Tests of `parse_command`.
 use super::*;
 use std::str::from_utf8;
 use ufmt::debug_into;

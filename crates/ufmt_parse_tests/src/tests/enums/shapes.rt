@@ -1,10 +1,10 @@
 //! Tests of enums.
 ghost use Rattle.std.specs.Prelude.{[], ◌∷◌, IfSome, ⊤};
 ghost use Rattle.ufmt.specs.ValueDocuments.{named, named_struct, named_tuple, number, string};
-ghost use Rattle.ufmt_parse_tests.specs.declared.tests.enums.shapes.Event.TheVariants.{Started, Said, Lost};
 ghost use Rattle.ufmt_parse_tests.specs.declared.tests.enums.shapes.Signal.TheVariants.{A, AB, ABC};
-ghost use Rattle.ufmt_parse_tests.specs.declared.tests.enums.shapes.Eight.TheVariants.{First, Second, Third, Fourth, Fifth, Sixth, Seventh, Eighth};
 ghost use Rattle.ufmt_parse.specs.Values.{is_u8};
+ghost use Rattle.ufmt_parse_tests.specs.declared.tests.enums.shapes.Event.TheVariants.{Started, Said, Lost};
+ghost use Rattle.ufmt_parse_tests.specs.declared.tests.enums.shapes.Eight.TheVariants.{First, Second, Third, Fourth, Fifth, Sixth, Seventh, Eighth};
 
 use crate::tests::same;
 use std::alloc::Global;
