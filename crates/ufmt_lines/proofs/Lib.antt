@@ -8,3 +8,14 @@ pub mod FoundValues
 pub mod Consumed
 pub mod Conversions
 pub mod WorkedGroups
+pub mod Rests
+pub mod SteepTexts
+pub mod FirstBrackets
+pub mod ValueStarts
+pub mod Heads
+pub mod FieldsAhead
+pub mod BlockTexts
+pub mod ConvertedSteps
+pub mod StillTexts
+pub mod PrettyInside
+pub mod ComesBack

@@ -1,8 +1,10 @@
--- What groups of lines to be made pretty are.
+-- What groups of lines to be made pretty are, and which texts come back.
 use Rattle.std.specs.Prelude.{◌≡◌, ℕ, List}
 use Rattle.ufmt.specs.Lines.{lines_of}
-use Rattle.ufmt_core.specs.declared.layout.Mode.TheVariants.{Pretty}
+use Rattle.ufmt_core.specs.declared.layout.Mode.TheVariants.{Plain, Pretty}
 use Rattle.ufmt_lines.specs.Groups.{IsInGroup, IsInLine, groups_of}
+use Rattle.ufmt_lines.specs.Values.{output_of}
+use Rattle.ufmt_lines.specs.declared.run.conversion.Conversion.{Conversion}
 
 -- what is made pretty is each line by itself
 abbrev pub LinesAreMadePretty : Type 0
@@ -11,3 +13,14 @@ LinesAreMadePretty = (text : List ℕ) → groups_of Pretty text ≡ lines_of te
 -- and a rest in which none ends has no line feed
 abbrev pub PrettyRestIsInLine : Type 0
 PrettyRestIsInLine = (text : List ℕ) → IsInGroup Pretty text → IsInLine text
+
+-- a conversion to plain, and one to pretty, with this limit
+abbrev pub plain_with : ℕ → Conversion
+plain_with n = record { to = Plain; longer_than = n }
+
+abbrev pub pretty_with : ℕ → Conversion
+pretty_with n = record { to = Pretty; longer_than = n }
+
+-- a text that stays as it is made plain comes back after it is made pretty and then plain, whatever the limit
+abbrev pub PlainTextsComeBack : Type 0
+PlainTextsComeBack = (n : ℕ) (text : List ℕ) → output_of (plain_with n) text ≡ text → output_of (plain_with n) (output_of (pretty_with n) text) ≡ text

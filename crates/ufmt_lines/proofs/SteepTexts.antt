@@ -1,0 +1,220 @@
+-- In a pretty text, an opening bracket at a line's end inside of a block comes before eight spaces.
+use Rattle.std.proofs.Common.{◌≡◌, ◌≢◌, ◌∙◌, refl, ap, sym, subst, ℕ, zero, suc, ◌+◌, ◌≤◌, min, Bool, true, false, List, [], ◌∷◌, ◌++◌, codes, append_assoc, drop, get_or, arith}
+use Rattle.std.proofs.lemmas.Bool.{true≢false}
+use Rattle.std.specs.Prelude.{⊤}
+use Rattle.ufmt.specs.Bytes.{line_feed}
+use Rattle.ufmt.specs.Document.{Document, leaf, joined, list_of, set_of, map_of, struct_of, non_exhaustive_of, tuple_of, pretty_part, Documents, no_documents, first_document, Pairs, no_pairs, first_pair, Fields, no_fields, first_field}
+use Rattle.ufmt.specs.Layout.{Frame, frame, setting, inside, indentation, lead, ending, trail, next, block_tail, layout, texts, pair_texts, field_texts}
+use Rattle.ufmt.specs.Leaves.{is_opening}
+use Rattle.ufmt.specs.Token.{IsName, IsBuilt, AreBuilt, PairsAreBuilt, FieldsAreBuilt}
+use Rattle.ufmt_core.specs.Shift.{IsOneLine}
+use Rattle.ufmt_core.specs.declared.layout.Count.{Count}
+use Rattle.ufmt_core.specs.declared.layout.Count.TheVariants.{Zero, One, Several}
+use Rattle.ufmt_core.specs.declared.layout.Kind.{Kind}
+use Rattle.ufmt_core.specs.declared.layout.Kind.TheVariants.{Brackets, Braces, Struct, Tuple, Unnamed}
+use Rattle.ufmt_core.specs.declared.layout.Mode.TheVariants.{Pretty}
+use Rattle.ufmt_grammar.proofs.BlocksComplete.{entry_assoc}
+use Rattle.ufmt_grammar.proofs.ClassLeaves.{name_some}
+use Rattle.ufmt_grammar.proofs.ClassLines.{IsBuilt-HasNoLineFeed}
+use Rattle.ufmt_grammar.proofs.DottedStructs.{rest_text, rest_text-false, dotted_layout}
+use Rattle.ufmt_grammar.specs.Reading.{last_dots}
+use Rattle.ufmt_grammar.specs.declared.class.Class.TheVariants.{Debug}
+
+-- eight spaces, if a line feed comes first
+abbrev pub DeepAfter : List ℕ → Type 0
+DeepAfter t = (u : List ℕ) → t ≡ line_feed ∷ u → (w : List ℕ) × (u ≡ codes "        " ++ w)
+
+-- that comes after each opening bracket
+abbrev pub Steep : List ℕ → Type 0
+Steep [] = ⊤
+Steep (c ∷ t) = (is_opening c ≡ true → DeepAfter t) × Steep t
+
+-- no line feed comes first
+abbrev pub InLine : List ℕ → Type 0
+InLine t = (v : List ℕ) → t ≢ line_feed ∷ v
+
+pub in_line : (c : ℕ) (t : List ℕ) → c ≢ line_feed → InLine (c ∷ t)
+in_line c t other = λ v is. other (ap (λ l. get_or l 0 0) is)
+
+-- a part at the end is steep too
+pub steep_after : (a b : List ℕ) → Steep (a ++ b) → Steep b
+steep_after [] b h = h
+steep_after (c ∷ a) b h = steep_after a b h.1
+
+-- any byte but an opening bracket may come first
+pub steep_byte : (c : ℕ) (t : List ℕ) → is_opening c ≡ false → Steep t → Steep (c ∷ t)
+steep_byte c t other h = (λ opens. absurd (true≢false (sym opens ∙ other)), h)
+
+-- so may bytes of a line
+steep_line : (w u : List ℕ) → IsOneLine w → InLine u → Steep u → Steep (w ++ u)
+steep_line [] u line first h = h
+steep_line (c ∷ w) u line first h = (λ opens. deep w line.1, steep_line w u line.1 first h)
+  where
+    deep : (w : List ℕ) → IsOneLine w → DeepAfter (w ++ u)
+    deep [] line = λ v is. absurd (first v is)
+    deep (b ∷ w) line = λ v is. absurd (line.0 (ap (λ l. get_or l 0 0) is))
+
+pub steep_indentation : (k : ℕ) (u : List ℕ) → Steep u → Steep (indentation k ++ u)
+steep_indentation zero u h = h
+steep_indentation (suc k) u h = steep_byte 32 _ refl (steep_byte 32 _ refl (steep_byte 32 _ refl (steep_byte 32 _ refl (steep_indentation k u h))))
+
+-- an entry's comma and line feed
+pub steep_trail : (u : List ℕ) → Steep u → Steep (trail Pretty ++ u)
+steep_trail u h = steep_byte 44 (10 ∷ u) refl (steep_byte 10 u refl h)
+
+pub trail_in_line : (u : List ℕ) → InLine (trail Pretty ++ u)
+trail_in_line u = in_line 44 (10 ∷ u) (λ e. omega (arith, e))
+
+-- at depth 2 or more, a line begins with eight spaces
+deep_indentation : (k : ℕ) (u : List ℕ) → 2 ≤ k → DeepAfter (line_feed ∷ (indentation k ++ u))
+deep_indentation zero u deep = absurd (omega (arith, deep))
+deep_indentation (suc zero) u deep = absurd (omega (arith, deep))
+deep_indentation (suc (suc k)) u deep = λ v is. (indentation k ++ u, sym (ap (drop 1) is))
+
+-- a bracket and the line of the first entry
+steep_opening : (c k : ℕ) (u : List ℕ) → 2 ≤ k → Steep u → Steep (c ∷ line_feed ∷ (indentation k ++ u))
+steep_opening c k u deep h = (λ opens. deep_indentation k u deep, steep_byte line_feed (indentation k ++ u) refl (steep_indentation k u h))
+
+-- two bytes, of which the second is no bracket that opens and no line feed
+steep_pair : (c b : ℕ) (u : List ℕ) → is_opening b ≡ false → b ≢ line_feed → Steep u → Steep (c ∷ b ∷ u)
+steep_pair c b u other same h = (λ opens. λ v is. absurd (same (ap (λ l. get_or l 0 0) is)), steep_byte b u other h)
+
+-- the text is steep before what is, if no line feed comes next
+abbrev pub IsSteep : List ℕ → Type 0
+IsSteep text = (u : List ℕ) → InLine u → Steep u → Steep (text ++ u)
+
+abbrev pub AreSteep : List (List ℕ) → Type 0
+AreSteep [] = ⊤
+AreSteep (text ∷ texts) = IsSteep text × AreSteep texts
+
+-- so are two texts with a colon and a space between them
+pub steep_keyed : (a b : List ℕ) → IsSteep a → IsSteep b → IsSteep (a ++ (codes ": " ++ b))
+steep_keyed a b first second = λ u line h.
+    subst Steep (sym (append_assoc a (codes ": " ++ b) u))
+    (first (codes ": " ++ (b ++ u)) (in_line 58 _ (λ e. omega (arith, e))) (steep_byte 58 _ refl (steep_byte 32 _ refl (second u line h))))
+
+-- ---- the rest of a block
+
+closed : (j c : ℕ) (u : List ℕ) → is_opening c ≡ false → Steep u → Steep ((indentation j ++ (c ∷ [])) ++ u)
+closed j c u other h = subst Steep (sym (append_assoc (indentation j) (c ∷ []) u)) (steep_indentation j (c ∷ u) (steep_byte c u other h))
+
+steep_end : (kind : Kind) (j : ℕ) (u : List ℕ) → Steep u
+    → Steep (ending (frame Pretty kind) (setting Pretty j) One ++ u) × Steep (ending (frame Pretty kind) (setting Pretty j) Several ++ u)
+steep_end Brackets j u h = (closed j 93 u refl h, closed j 93 u refl h)
+steep_end Braces j u h = (closed j 125 u refl h, closed j 125 u refl h)
+steep_end Struct j u h = (closed j 125 u refl h, closed j 125 u refl h)
+steep_end Tuple j u h = (closed j 41 u refl h, closed j 41 u refl h)
+steep_end Unnamed j u h = (closed j 41 u refl h, closed j 41 u refl h)
+
+steep_ending : (kind : Kind) (j : ℕ) (count : Count) (u : List ℕ) → Steep u → Steep (ending (frame Pretty kind) (setting Pretty j) (next count) ++ u)
+steep_ending kind j Zero u h = (steep_end kind j u h).0
+steep_ending kind j One u h = (steep_end kind j u h).1
+steep_ending kind j Several u h = (steep_end kind j u h).1
+
+steep_lead : (f : Frame) (j : ℕ) (count : Count) (u : List ℕ) → Steep u → Steep (lead f (setting Pretty j) (next count) ++ u)
+steep_lead f j Zero u h = steep_indentation j u h
+steep_lead f j One u h = steep_indentation j u h
+steep_lead f j Several u h = steep_indentation j u h
+
+module _ (kind : Kind) (j : ℕ) (close : List ℕ) (b : Bool) (ends : (u : List ℕ) → Steep u → Steep (close ++ u)) where
+  pub steep_rest : (count : Count) (ts : List (List ℕ)) (u : List ℕ) → AreSteep ts → Steep u → Steep (rest_text (frame Pretty kind) (setting Pretty j) close (next count) ts b ++ u)
+  steep_rest count [] u h steep = go b
+    where
+      go : (b : Bool) → Steep (rest_text (frame Pretty kind) (setting Pretty j) close (next count) [] b ++ u)
+      go false = steep_ending kind j count u steep
+      go true = subst Steep (sym (append_assoc (lead (frame Pretty kind) (inside (setting Pretty j)) (next count)) close u)) (steep_lead (frame Pretty kind) (inside (setting Pretty j)).depth count (close ++ u) (ends u steep))
+  steep_rest count (text ∷ ts) u h steep =
+      let f = frame Pretty kind in
+      let left = rest_text f (setting Pretty j) close (next (next count)) ts b in
+      subst Steep (sym (entry_assoc (lead f (inside (setting Pretty j)) (next count)) text (trail Pretty) left u))
+      (steep_lead f (inside (setting Pretty j)).depth count _ (h.0 (trail Pretty ++ (left ++ u)) (trail_in_line (left ++ u)) (steep_trail (left ++ u) (steep_rest (next count) ts u h.1 steep))))
+
+-- the same of a block that doesn't end in dots
+pub steep_tail : (kind : Kind) (j : ℕ) (ts : List (List ℕ)) (u : List ℕ) → AreSteep ts → Steep u → Steep (block_tail (frame Pretty kind) (setting Pretty j) One ts ++ u)
+steep_tail kind j ts u h steep =
+    subst (λ t. Steep (t ++ u)) (rest_text-false (frame Pretty kind) (setting Pretty j) [] One ts) (steep_rest kind j [] false (λ v k. k) Zero ts u h steep)
+
+-- and of a struct that does
+pub steep_dotted : (j : ℕ) (ts : List (List ℕ)) (u : List ℕ) → AreSteep ts → Steep u → Steep (rest_text (frame Pretty Struct) (setting Pretty j) (last_dots (setting Pretty j)) One ts true ++ u)
+steep_dotted j ts u h steep =
+    steep_rest Struct j (last_dots (setting Pretty j)) true
+    (λ v k. steep_byte 46 _ refl (steep_byte 46 _ refl (steep_byte 10 _ refl (steep_end Struct j v k).0))) Zero ts u h steep
+
+pub name_in_line : (name : List ℕ) → IsName Debug name → IsOneLine name
+name_in_line name h = (IsBuilt-HasNoLineFeed Debug (struct_of name no_fields) (h, tt)).0
+
+-- ---- documents at depth 1 or more
+
+-- a block's bracket, and its entries
+steep_block : (c k : ℕ) (text left u : List ℕ) → 2 ≤ k → IsSteep text → Steep (left ++ u) → Steep (c ∷ line_feed ∷ ((indentation k ++ (text ++ (trail Pretty ++ left))) ++ u))
+steep_block c k text left u deep entry rest =
+    subst (λ t. Steep (c ∷ line_feed ∷ t)) (sym (entry_assoc (indentation k) text (trail Pretty) left u))
+    (steep_opening c k (text ++ (trail Pretty ++ (left ++ u))) deep (entry (trail Pretty ++ (left ++ u)) (trail_in_line (left ++ u)) (steep_trail (left ++ u) rest)))
+
+-- a name and what follows it
+steep_named : (name more u : List ℕ) → IsName Debug name → InLine (more ++ u) → Steep (more ++ u) → Steep ((name ++ more) ++ u)
+steep_named name more u h first rest = subst Steep (sym (append_assoc name more u)) (steep_line name (more ++ u) (name_in_line name h) first rest)
+
+entries_deep : (j : ℕ) → 1 ≤ j → 2 ≤ min (j + 1) 255
+entries_deep j deep = omega (arith, deep)
+
+entries_inside : (j : ℕ) → 1 ≤ j → 1 ≤ min (j + 1) 255
+entries_inside j deep = omega (arith, deep)
+
+pub name_steep : (name : List ℕ) → IsName Debug name → IsSteep name
+name_steep name h = λ u first rest. steep_line name u (name_in_line name h) first rest
+
+mutual
+  pub document_steep : (j : ℕ) → 1 ≤ j → (d : Document) → IsBuilt Debug d → IsSteep (layout (setting Pretty j) d)
+  document_steep j deep (leaf text) h = λ u first rest. steep_line text u (IsBuilt-HasNoLineFeed Debug (leaf text) h) first rest
+  document_steep j deep (joined ds) h = absurd h
+  document_steep j deep (list_of no_documents) h = λ u first rest. steep_pair 91 93 u refl (λ e. omega (arith, e)) rest
+  document_steep j deep (list_of (first_document d ds)) h = λ u first rest.
+      steep_block 91 (min (j + 1) 255) (layout (inside (setting Pretty j)) d) (block_tail (frame Pretty Brackets) (setting Pretty j) One (texts (inside (setting Pretty j)) ds)) u (entries_deep j deep)
+      (document_steep (min (j + 1) 255) (entries_inside j deep) d h.0) (steep_tail Brackets j _ u (documents_steep (min (j + 1) 255) (entries_inside j deep) ds h.1) rest)
+  document_steep j deep (set_of no_documents) h = λ u first rest. steep_pair 123 125 u refl (λ e. omega (arith, e)) rest
+  document_steep j deep (set_of (first_document d ds)) h = λ u first rest.
+      steep_block 123 (min (j + 1) 255) (layout (inside (setting Pretty j)) d) (block_tail (frame Pretty Braces) (setting Pretty j) One (texts (inside (setting Pretty j)) ds)) u (entries_deep j deep)
+      (document_steep (min (j + 1) 255) (entries_inside j deep) d h.0) (steep_tail Braces j _ u (documents_steep (min (j + 1) 255) (entries_inside j deep) ds h.1) rest)
+  document_steep j deep (map_of no_pairs) h = λ u first rest. steep_pair 123 125 u refl (λ e. omega (arith, e)) rest
+  document_steep j deep (map_of (first_pair key value ps)) h = λ u first rest.
+      steep_block 123 (min (j + 1) 255) (layout (inside (setting Pretty j)) key ++ (codes ": " ++ layout (inside (setting Pretty j)) value)) (block_tail (frame Pretty Braces) (setting Pretty j) One (pair_texts (inside (setting Pretty j)) ps)) u (entries_deep j deep)
+      (steep_keyed _ _ (document_steep (min (j + 1) 255) (entries_inside j deep) key h.0) (document_steep (min (j + 1) 255) (entries_inside j deep) value h.1))
+      (steep_tail Braces j _ u (pairs_steep (min (j + 1) 255) (entries_inside j deep) ps h.2) rest)
+  document_steep j deep (struct_of name no_fields) h = λ u first rest. steep_named name [] u h.0 first rest
+  document_steep j deep (struct_of name (first_field field value fs)) h = λ u first rest.
+      steep_named name _ u h.0 (in_line 32 _ (λ e. omega (arith, e)))
+      (steep_byte 32 _ refl (steep_block 123 (min (j + 1) 255) (field ++ (codes ": " ++ layout (inside (setting Pretty j)) value)) (block_tail (frame Pretty Struct) (setting Pretty j) One (field_texts (inside (setting Pretty j)) fs)) u (entries_deep j deep)
+      (steep_keyed _ _ (name_steep field h.1.0) (document_steep (min (j + 1) 255) (entries_inside j deep) value h.1.1))
+      (steep_tail Struct j _ u (fields_steep (min (j + 1) 255) (entries_inside j deep) fs h.1.2) rest)))
+  document_steep j deep (non_exhaustive_of name no_fields) h = λ u first rest.
+      steep_named name _ u h.1 (in_line 32 _ (λ e. omega (arith, e)))
+      (steep_byte 32 _ refl (steep_pair 123 32 _ refl (λ e. omega (arith, e)) (steep_byte 46 _ refl (steep_byte 46 _ refl (steep_byte 32 _ refl (steep_byte 125 _ refl rest))))))
+  document_steep j deep (non_exhaustive_of name (first_field field value fs)) h = λ u first rest.
+      subst (λ t. Steep (t ++ u)) (sym (dotted_layout (setting Pretty j) name field value fs))
+      (steep_named name _ u h.1 (in_line 32 _ (λ e. omega (arith, e)))
+      (steep_byte 32 _ refl (steep_block 123 (min (j + 1) 255) (field ++ (codes ": " ++ layout (inside (setting Pretty j)) value)) (rest_text (frame Pretty Struct) (setting Pretty j) (last_dots (setting Pretty j)) One (field_texts (inside (setting Pretty j)) fs) true) u (entries_deep j deep)
+      (steep_keyed _ _ (name_steep field h.2.0) (document_steep (min (j + 1) 255) (entries_inside j deep) value h.2.1))
+      (steep_dotted j _ u (fields_steep (min (j + 1) 255) (entries_inside j deep) fs h.2.2) rest))))
+  document_steep j deep (tuple_of [] no_documents) h = absurd (name_some Debug h)
+  document_steep j deep (tuple_of (c ∷ name) no_documents) h = λ u first rest. steep_named (c ∷ name) [] u h first rest
+  document_steep j deep (tuple_of [] (first_document d ds)) h = λ u first rest.
+      steep_block 40 (min (j + 1) 255) (layout (inside (setting Pretty j)) d) (block_tail (frame Pretty Unnamed) (setting Pretty j) One (texts (inside (setting Pretty j)) ds)) u (entries_deep j deep)
+      (document_steep (min (j + 1) 255) (entries_inside j deep) d h.1) (steep_tail Unnamed j _ u (documents_steep (min (j + 1) 255) (entries_inside j deep) ds h.2) rest)
+  document_steep j deep (tuple_of (c ∷ name) (first_document d ds)) h = λ u first rest.
+      steep_named (c ∷ name) _ u h.0 (in_line 40 _ (λ e. omega (arith, e)))
+      (steep_block 40 (min (j + 1) 255) (layout (inside (setting Pretty j)) d) (block_tail (frame Pretty Tuple) (setting Pretty j) One (texts (inside (setting Pretty j)) ds)) u (entries_deep j deep)
+      (document_steep (min (j + 1) 255) (entries_inside j deep) d h.1) (steep_tail Tuple j _ u (documents_steep (min (j + 1) 255) (entries_inside j deep) ds h.2) rest))
+  document_steep j deep (pretty_part d) h = absurd h
+
+  pub documents_steep : (j : ℕ) → 1 ≤ j → (ds : Documents) → AreBuilt Debug ds → AreSteep (texts (setting Pretty j) ds)
+  documents_steep j deep no_documents h = tt
+  documents_steep j deep (first_document d ds) h = (document_steep j deep d h.0, documents_steep j deep ds h.1)
+
+  pub pairs_steep : (j : ℕ) → 1 ≤ j → (ps : Pairs) → PairsAreBuilt Debug ps → AreSteep (pair_texts (setting Pretty j) ps)
+  pairs_steep j deep no_pairs h = tt
+  pairs_steep j deep (first_pair key value ps) h = (steep_keyed _ _ (document_steep j deep key h.0) (document_steep j deep value h.1), pairs_steep j deep ps h.2)
+
+  pub fields_steep : (j : ℕ) → 1 ≤ j → (fs : Fields) → FieldsAreBuilt Debug fs → AreSteep (field_texts (setting Pretty j) fs)
+  fields_steep j deep no_fields h = tt
+  fields_steep j deep (first_field name value fs) h = (steep_keyed _ _ (name_steep name h.0) (document_steep j deep value h.1), fields_steep j deep fs h.2)
