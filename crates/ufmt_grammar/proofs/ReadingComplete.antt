@@ -276,46 +276,68 @@ module _ (class : Class) where
         };
       }) fits d u h less follows
 
-  -- in pretty mode a line feed comes after the bracket, so a list with entries is no address, whatever follows it
-  pretty_no_address : (k : ℕ) (ds : Documents) (d : Document) (u : List ℕ) → IsNoAddress class (block_tail (frame Pretty Brackets) (setting Pretty k) Zero (texts (inside (setting Pretty k)) (first_document d ds)) ++ u)
-  pretty_no_address k ds d u = go class
+  -- before this text, a list with entries is no address
+  abbrev pub NoAddressIn : Setting → Document → List ℕ → Type 0
+  NoAddressIn s (leaf text) u = ⊤
+  NoAddressIn s (joined ds) u = ⊤
+  NoAddressIn s (list_of no_documents) u = ⊤
+  NoAddressIn s (list_of (first_document d ds)) u = IsNoAddress class (block_tail (frame s.mode Brackets) s Zero (texts (inside s) (first_document d ds)) ++ u)
+  NoAddressIn s (set_of ds) u = ⊤
+  NoAddressIn s (map_of ps) u = ⊤
+  NoAddressIn s (struct_of name fs) u = ⊤
+  NoAddressIn s (non_exhaustive_of name fs) u = ⊤
+  NoAddressIn s (tuple_of name ds) u = ⊤
+  NoAddressIn s (pretty_part d) u = ⊤
+
+  -- a block with entries is read if its entries are, whatever follows it, but for what makes a list an address
+  block_with_complete : (s : Setting) (p : Parse Document) (n : ℕ) → ReadsBelow p (inside s) n → Fits s n → (d : Document) (u : List ℕ)
+      → IsBuilt class d → IsBlock d → nest d ≤ n → NoAddressIn s d u → read_with class s p (layout s d ++ u) ≡ Some (normal d, u)
+  block_with_complete s p n below fits (leaf text) u h block less none = absurd block
+  block_with_complete s p n below fits (joined ds) u h block less none = absurd block
+  block_with_complete s p n below fits (list_of no_documents) u h block less none = absurd block
+  block_with_complete s p n below fits (list_of (first_document d ds)) u h block less none = list_complete s p n below fits d ds u h.0 h.1 less none
+  block_with_complete s p n below fits (set_of no_documents) u h block less none = absurd block
+  block_with_complete s p n below fits (set_of (first_document d ds)) u h block less none = set_complete s p n below fits d ds u h.0 h.1 less
+  block_with_complete s p n below fits (map_of no_pairs) u h block less none = absurd block
+  block_with_complete s p n below fits (map_of (first_pair key value ps)) u h block less none = map_complete s p n below fits key value ps u h.0 h.1 h.2 less
+  block_with_complete s p n below fits (struct_of name no_fields) u h block less none = absurd block
+  block_with_complete s p n below fits (struct_of name (first_field field_name value fs)) u h block less none =
+      struct_complete s p n below fits name field_name value fs u h.0 h.1.0 h.1.1 h.1.2 less
+  block_with_complete s p n below fits (tuple_of name no_documents) u h block less none = absurd block
+  block_with_complete s p n below fits (tuple_of name (first_document d ds)) u h block less none = tuple_complete s p n below fits name d ds u h.0 h.1 h.2 less
+  block_with_complete s p n below fits (non_exhaustive_of name no_fields) u h block less none = absurd block
+  block_with_complete s p n below fits (non_exhaustive_of name (first_field field_name value fs)) u h block less none =
+      dotted_complete s p n below fits name (first_field field_name value fs) u h.0 h.1 h.2 less
+  block_with_complete s p n below fits (pretty_part d) u h block less none = absurd block
+
+  -- a block with entries is read as its normal form so
+  pub block_read : (n : ℕ) (s : Setting) (d : Document) (u : List ℕ) → IsBuilt class d → IsBlock d → nest d ≤ n → Fits s n → NoAddressIn s d u
+      → read class s n (layout s d ++ u) ≡ Some (normal d, u)
+  unfolding read
+  block_read zero s d u h block less fits none =
+      block_with_complete s (λ t. None) zero (record { reads = λ e w below. absurd (omega arith) }) fits d u h block less none
+  block_read (suc n) s d u h block less fits none =
+      block_with_complete s (read class (inside s) n) (suc n)
+      (record {
+        reads = λ e w under. record {
+          begins = document_begins class (inside s) e w;
+          reads = λ v after. read_complete n (inside s) e v w (omega arith) (fits_inside s n fits) after;
+        };
+      }) fits d u h block less none
+
+  -- in pretty mode a line feed comes after a list's bracket
+  pub pretty_no_address : (k : ℕ) (d : Document) (u : List ℕ) → NoAddressIn (setting Pretty k) d u
+  pretty_no_address k (leaf text) u = tt
+  pretty_no_address k (joined ds) u = tt
+  pretty_no_address k (list_of no_documents) u = tt
+  pretty_no_address k (list_of (first_document d ds)) u = go class
     where
       go : (class : Class) → IsNoAddress class (block_tail (frame Pretty Brackets) (setting Pretty k) Zero (texts (inside (setting Pretty k)) (first_document d ds)) ++ u)
       go Token = tt
       go Debug = refl
-
-  -- a pretty block with entries is read if its entries are, whatever follows it
-  block_with_complete : (k : ℕ) (p : Parse Document) (n : ℕ) → ReadsBelow p (inside (setting Pretty k)) n → Fits (setting Pretty k) n → (d : Document) (u : List ℕ)
-      → IsBuilt class d → IsBlock d → nest d ≤ n → read_with class (setting Pretty k) p (layout (setting Pretty k) d ++ u) ≡ Some (normal d, u)
-  block_with_complete k p n below fits (leaf text) u h block less = absurd block
-  block_with_complete k p n below fits (joined ds) u h block less = absurd block
-  block_with_complete k p n below fits (list_of no_documents) u h block less = absurd block
-  block_with_complete k p n below fits (list_of (first_document d ds)) u h block less = list_complete (setting Pretty k) p n below fits d ds u h.0 h.1 less (pretty_no_address k ds d u)
-  block_with_complete k p n below fits (set_of no_documents) u h block less = absurd block
-  block_with_complete k p n below fits (set_of (first_document d ds)) u h block less = set_complete (setting Pretty k) p n below fits d ds u h.0 h.1 less
-  block_with_complete k p n below fits (map_of no_pairs) u h block less = absurd block
-  block_with_complete k p n below fits (map_of (first_pair key value ps)) u h block less = map_complete (setting Pretty k) p n below fits key value ps u h.0 h.1 h.2 less
-  block_with_complete k p n below fits (struct_of name no_fields) u h block less = absurd block
-  block_with_complete k p n below fits (struct_of name (first_field field_name value fs)) u h block less =
-      struct_complete (setting Pretty k) p n below fits name field_name value fs u h.0 h.1.0 h.1.1 h.1.2 less
-  block_with_complete k p n below fits (tuple_of name no_documents) u h block less = absurd block
-  block_with_complete k p n below fits (tuple_of name (first_document d ds)) u h block less = tuple_complete (setting Pretty k) p n below fits name d ds u h.0 h.1 h.2 less
-  block_with_complete k p n below fits (non_exhaustive_of name no_fields) u h block less = absurd block
-  block_with_complete k p n below fits (non_exhaustive_of name (first_field field_name value fs)) u h block less =
-      dotted_complete (setting Pretty k) p n below fits name (first_field field_name value fs) u h.0 h.1 h.2 less
-  block_with_complete k p n below fits (pretty_part d) u h block less = absurd block
-
-  -- a pretty block with entries is read as its normal form, whatever follows it
-  pub block_read : (n k : ℕ) (d : Document) (u : List ℕ) → IsBuilt class d → IsBlock d → nest d ≤ n → Fits (setting Pretty k) n
-      → read class (setting Pretty k) n (layout (setting Pretty k) d ++ u) ≡ Some (normal d, u)
-  unfolding read
-  block_read zero k d u h block less fits =
-      block_with_complete k (λ t. None) zero (record { reads = λ e w below. absurd (omega arith) }) fits d u h block less
-  block_read (suc n) k d u h block less fits =
-      block_with_complete k (read class (inside (setting Pretty k)) n) (suc n)
-      (record {
-        reads = λ e w under. record {
-          begins = document_begins class (inside (setting Pretty k)) e w;
-          reads = λ v after. read_complete n (inside (setting Pretty k)) e v w (omega arith) (fits_inside (setting Pretty k) n fits) after;
-        };
-      }) fits d u h block less
+  pretty_no_address k (set_of ds) u = tt
+  pretty_no_address k (map_of ps) u = tt
+  pretty_no_address k (struct_of name fs) u = tt
+  pretty_no_address k (non_exhaustive_of name fs) u = tt
+  pretty_no_address k (tuple_of name ds) u = tt
+  pretty_no_address k (pretty_part d) u = tt

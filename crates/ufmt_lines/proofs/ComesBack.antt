@@ -7,16 +7,17 @@ use Rattle.ufmt.specs.Document.{Document}
 use Rattle.ufmt.specs.Layout.{layout, setting}
 use Rattle.ufmt.specs.Leaves.{is_opening}
 use Rattle.ufmt_core.specs.declared.layout.Mode.TheVariants.{Plain, Pretty}
-use Rattle.ufmt_grammar.proofs.ReadingComplete.{block_read}
+use Rattle.ufmt_grammar.proofs.ReadingComplete.{block_read, pretty_no_address}
 use Rattle.ufmt_grammar.proofs.ReadingSound.{Found, read_sound}
 use Rattle.ufmt_grammar.specs.declared.class.Class.TheVariants.{Debug}
+use Rattle.ufmt_lines.proofs.ApartTexts.{converted_apart}
 use Rattle.ufmt_lines.proofs.BlockTexts.{BlockTexts, block_texts, entries_block}
 use Rattle.ufmt_lines.proofs.ConvertedSteps.{convert, no_bracket, no_value, value_step, value_whole}
 use Rattle.ufmt_lines.proofs.FirstBrackets.{FirstBracket, Without, first_bracket, one_first, without_append, without_drop}
 use Rattle.ufmt_lines.proofs.FoundValues.{front_value, value_entries, value_read}
 use Rattle.ufmt_lines.proofs.Heads.{opening_no_name, opening_no_space}
 use Rattle.ufmt_lines.proofs.PrettyInside.{first_line, same_struct, was_there}
-use Rattle.ufmt_lines.proofs.StillTexts.{Still, block_of, converted_apart, cut_assoc, still_at, still_rest, still_same}
+use Rattle.ufmt_lines.proofs.StillTexts.{Still, block_of, cut_assoc, still_at, still_rest, still_same}
 use Rattle.ufmt_lines.proofs.ValueStarts.{Apart, could_be_is, from_bracket, start_after, start_same}
 use Rattle.ufmt_lines.specs.OutputLaws.{PlainTextsComeBack, plain_with, pretty_with}
 use Rattle.ufmt_lines.specs.Values.{convert_from, could_be_struct, is_after_name, is_in_struct, stays, value_from, value_text}
@@ -26,7 +27,7 @@ use Rattle.ufmt_scan.specs.Fronts.{begins_with_field, has_entries, has_one_leaf}
 pretty_read : (to_text rest : List ℕ) (s : _) (d : Document) → Found Debug s 255 to_text d rest → has_entries d ≡ true → (u : List ℕ) → value_from Plain (layout (setting Pretty 0) d ++ u) ≡ Some (d, u)
 pretty_read to_text rest s d found entries u =
     front_value Plain (layout (setting Pretty 0) d ++ u) d u
-    (block_read Debug 255 0 d u found.tokens (entries_block d entries) found.nests (omega arith) ∙ ap (λ e. Some (e, u)) found.is_normal) entries
+    (block_read Debug 255 (setting Pretty 0) d u found.tokens (entries_block d entries) found.nests (omega arith) (pretty_no_address Debug 0 d u) ∙ ap (λ e. Some (e, u)) found.is_normal) entries
 
 -- what of three isn't so
 neither : (a b c : Bool) → (a || b || c) ≡ false → c ≡ false
@@ -98,7 +99,7 @@ module _ (limit : ℕ) where
         (bracket_back n y c [] text none opens (subst (Still limit) (append_assoc y (c ∷ []) text) still) back))
     last_back y none still false other = λ m long.
         let all = length-append (y ++ c ∷ []) after in
-        converted_apart limit y c (without_append is_opening y (c ∷ []) none (other, tt)) apart m after
+        converted_apart (plain_with limit) y c (without_append is_opening y (c ∷ []) none (other, tt)) apart m after
         ∙ ap (λ t. (y ++ c ∷ []) ++ t) (back m (omega (arith, all, long)))
 
     -- bytes that stay, up to one of no name, come back

@@ -19,3 +19,4 @@ pub mod ConvertedSteps
 pub mod StillTexts
 pub mod PrettyInside
 pub mod ComesBack
+pub mod ApartTexts

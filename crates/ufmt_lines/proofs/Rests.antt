@@ -90,7 +90,7 @@ module _ (front rest : List ℕ) where
       ∙ ap (λ s. (get_or rest end 0 == space) && is_named (front ++ rest) s (length front + end)) (run_moved low end)
       ∙ ap (λ b. (get_or rest end 0 == space) && b) (named_moved (run_start rest low end) end)
 
-  after_name_moved : (low bracket : ℕ) → is_after_name (front ++ rest) (length front + low) (length front + bracket) ≡ is_after_name rest low bracket
+  pub after_name_moved : (low bracket : ℕ) → is_after_name (front ++ rest) (length front + low) (length front + bracket) ≡ is_after_name rest low bracket
   after_name_moved low bracket = go (nat_lt low bracket) refl
     where
       go : (b : Bool) → nat_lt low bracket ≡ b → is_after_name (front ++ rest) (length front + low) (length front + bracket) ≡ is_after_name rest low bracket

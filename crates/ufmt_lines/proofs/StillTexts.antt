@@ -9,6 +9,7 @@ use Rattle.ufmt.specs.Leaves.{is_opening}
 use Rattle.ufmt_core.specs.declared.layout.Mode.TheVariants.{Plain, Pretty}
 use Rattle.ufmt_grammar.proofs.ReadingSound.{read_sound}
 use Rattle.ufmt_grammar.specs.declared.class.Class.TheVariants.{Debug}
+use Rattle.ufmt_lines.proofs.ApartTexts.{converted_apart}
 use Rattle.ufmt_lines.proofs.BlockTexts.{BlockTexts, block_texts, entries_block}
 use Rattle.ufmt_lines.proofs.ConvertedSteps.{convert, no_bracket, no_value, value_step, value_whole}
 use Rattle.ufmt_lines.proofs.FirstBrackets.{FirstBracket, Without, first_bracket, without_append}
@@ -81,60 +82,6 @@ module _ (limit : ℕ) where
           ∙ no_value (plain_with limit) m f.before f.bracket f.after f.none f.opens at.0
           ∙ ap (λ t. f.before ++ f.bracket ∷ t) (more f.after at.1) ∙ sym f.is
 
-  -- ---- after a byte of no name
-
-  module _ (y : List ℕ) (c : ℕ) (none : Without is_opening (y ++ c ∷ [])) (apart : Apart c) where
-    abbrev front : List ℕ
-    front = y ++ c ∷ []
-
-    module _ (z : List ℕ) (k : ℕ) (r : List ℕ) (before : Without is_opening z) (opens : is_opening k ≡ true) where
-      start_apart : start_after k (front ++ z) (is_in_struct Plain r) ≡ length front + start_after k z (is_in_struct Plain r)
-      start_apart =
-          sym (start_is Plain (front ++ z) k r)
-          ∙ ap (λ t. value_start Plain t 0 (length (front ++ z))) (append_assoc front z (k ∷ r))
-          ∙ ap (value_start Plain (front ++ (z ++ k ∷ r)) 0) (length-append front z)
-          ∙ start_later Plain y c (z ++ k ∷ r) (length z) apart
-          ∙ ap (λ n. length front + n) (start_is Plain z k r)
-
-      same_from : from_bracket Plain (front ++ z) k r ≡ from_bracket Plain z k r
-      same_from =
-          ap (λ n. drop n (front ++ z) ++ k ∷ r) start_apart ∙ ap (λ t. t ++ k ∷ r) (drop-append-add front z (start_after k z (is_in_struct Plain r)))
-
-      bracket_apart : (n : ℕ) → convert (plain_with limit) (suc n) (front ++ (z ++ k ∷ r)) ≡ front ++ convert (plain_with limit) (suc n) (z ++ k ∷ r)
-      bracket_apart n = ap (convert (plain_with limit) (suc n)) (sym (append_assoc front z (k ∷ r))) ∙ go (value_from Plain (from_bracket Plain z k r)) refl
-        where
-          longer : Without is_opening (front ++ z)
-          longer = without_append is_opening front z none before
-
-          go : (o : Option (Document × List ℕ)) → value_from Plain (from_bracket Plain z k r) ≡ o
-              → convert (plain_with limit) (suc n) ((front ++ z) ++ k ∷ r) ≡ front ++ convert (plain_with limit) (suc n) (z ++ k ∷ r)
-          go None is =
-              no_value (plain_with limit) n (front ++ z) k r longer opens (ap (value_from Plain) same_from ∙ is)
-              ∙ append_assoc front z (k ∷ convert (plain_with limit) n r)
-              ∙ ap (λ t. front ++ t) (sym (no_value (plain_with limit) n z k r before opens is))
-          go (Some x) is =
-              let s = start_after k z (is_in_struct Plain r) in
-              let after = layout (setting Plain 0) x.0 ++ convert (plain_with limit) n x.1 in
-              value_step (plain_with limit) n (front ++ z) k r longer opens x.0 x.1 (ap (value_from Plain) same_from ∙ is)
-              ∙ ap (λ m. take m (front ++ z) ++ after) start_apart
-              ∙ ap (λ t. t ++ after) (take-append-add front z s)
-              ∙ append_assoc front (take s z) after
-              ∙ ap (λ t. front ++ t) (sym (value_step (plain_with limit) n z k r before opens x.0 x.1 is))
-
-    -- what follows it is converted as if nothing were before
-    pub converted_apart : (n : ℕ) (text : List ℕ) → convert (plain_with limit) n ((y ++ c ∷ []) ++ text) ≡ (y ++ c ∷ []) ++ convert (plain_with limit) n text
-    unfolding convert_from
-    converted_apart zero text = refl
-    converted_apart (suc n) text = go (first_bracket text)
-      where
-        go : Without is_opening text ⊎ FirstBracket text → convert (plain_with limit) (suc n) (front ++ text) ≡ front ++ convert (plain_with limit) (suc n) text
-        go (inl without) =
-            no_bracket (plain_with limit) (suc n) (front ++ text) (without_append is_opening front text none without)
-            ∙ ap (λ t. front ++ t) (sym (no_bracket (plain_with limit) (suc n) text without))
-        go (inr f) =
-            ap (λ t. convert (plain_with limit) (suc n) (front ++ t)) f.is ∙ bracket_apart f.before f.bracket f.after f.none f.opens n
-            ∙ ap (λ t. front ++ convert (plain_with limit) (suc n) t) (sym f.is)
-
   -- what follows a bracket is in what follows it and more
   pub cut_assoc : (z : List ℕ) (k : ℕ) (r e t : List ℕ) → ((z ++ k ∷ r) ++ e) ++ t ≡ z ++ k ∷ ((r ++ e) ++ t)
   cut_assoc z k r e t = simp append_assoc
@@ -148,7 +95,7 @@ module _ (limit : ℕ) where
         record {
           fuel = h.fuel;
           long = omega (arith, long, within);
-          same = append_cancel_left (y ++ c ∷ []) _ _ (sym (converted_apart y c (without_append is_opening y (c ∷ []) none (other, tt)) apart h.fuel text) ∙ h.same);
+          same = append_cancel_left (y ++ c ∷ []) _ _ (sym (converted_apart (plain_with limit) y c (without_append is_opening y (c ∷ []) none (other, tt)) apart h.fuel text) ∙ h.same);
         }
 
     -- so what follows such a byte stays too

@@ -8,7 +8,7 @@ use Rattle.ufmt.specs.Bytes.{colon, opening_brace, opening_parenthesis, space}
 use Rattle.ufmt.specs.Leaves.{is_name_byte}
 use Rattle.ufmt_core.specs.declared.layout.Mode.{Mode}
 use Rattle.ufmt_grammar.specs.declared.class.Class.TheVariants.{Debug}
-use Rattle.ufmt_lines.proofs.Rests.{after_name_some, name_before, run_within, start_moved}
+use Rattle.ufmt_lines.proofs.Rests.{after_name_moved, after_name_some, name_before, run_within, start_moved}
 use Rattle.ufmt_lines.specs.Values.{brace_start, could_be_struct, is_after_name, is_in_struct, is_named, run_start, tuple_start, value_start}
 use Rattle.ufmt_scan.specs.Fronts.{begins_with_field}
 
@@ -167,3 +167,19 @@ start_later to y c rest bracket apart =
     start_low (front ++ rest) (length y) (subst Apart (sym last) apart) (length front + bracket) (omega (arith, size)) to
     ∙ ap (λ n. value_start to (front ++ rest) n (length front + bracket)) low
     ∙ start_moved front rest to 0 bracket
+
+-- and whether it could be a struct is as without that
+pub could_be_later : (y : List ℕ) (c : ℕ) (z : List ℕ) (k : ℕ) (r : List ℕ) → Apart c
+    → could_be_struct (((y ++ c ∷ []) ++ z) ++ k ∷ r) 0 (length ((y ++ c ∷ []) ++ z)) ≡ could_be_struct (z ++ k ∷ r) 0 (length z)
+could_be_later y c z k r apart =
+    let front = y ++ c ∷ [] in
+    let size : length front ≡ suc (length y) = length-append y (c ∷ []) ∙ omega arith in
+    let whole = length-append front z in
+    let last : get_or (front ++ z) (length y) 0 ≡ c = get_or_append_left front z 0 (length y) (omega (arith, size)) ∙ get_or-append_seam y c [] 0 in
+    let low : suc (length y) ≡ length front + 0 = omega (arith, size) in
+    let named : is_after_name (front ++ z) 0 (length (front ++ z)) ≡ is_after_name z 0 (length z) =
+    ap (is_after_name (front ++ z) 0) whole
+    ∙ after_low (front ++ z) (length y) (subst Apart (sym last) apart) (length front + length z) (omega (arith, size))
+    ∙ ap (λ n. is_after_name (front ++ z) n (length front + length z)) low
+    ∙ after_name_moved front z 0 (length z) in
+    could_be_is (front ++ z) k r ∙ ap (λ b. (k == opening_brace) && b && begins_with_field Debug r) named ∙ sym (could_be_is z k r)
