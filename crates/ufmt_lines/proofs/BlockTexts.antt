@@ -1,5 +1,5 @@
 -- The plain and the pretty text of a block with entries: they begin alike up to its bracket, and a bracket closes them.
-use Rattle.std.proofs.Common.{◌≡◌, ◌∙◌, refl, ap, sym, subst, ℕ, ◌≤◌, true, false, List, [], ◌∷◌, ◌++◌, codes, append_assoc, append-nil, is_some, arith}
+use Rattle.std.proofs.Common.{◌≡◌, inr, ◌∙◌, refl, ap, sym, subst, ℕ, ◌≤◌, true, false, List, [], ◌∷◌, ◌++◌, codes, append_assoc, append-nil, is_some, arith}
 use Rattle.ufmt.specs.Bytes.{closing_brace, closing_bracket, closing_parenthesis, line_feed, opening_brace, opening_bracket, opening_parenthesis, space}
 use Rattle.ufmt.specs.Document.{Document, leaf, joined, list_of, set_of, map_of, struct_of, non_exhaustive_of, tuple_of, pretty_part, Documents, no_documents, first_document, Pairs, no_pairs, first_pair, Fields, no_fields, first_field}
 use Rattle.ufmt.specs.Layout.{frame, setting, inside, indentation, lead, ending, trail, next, block_tail, layout, line_start, if_any, brace_space, lone_comma, texts, pair_texts, field_texts}
@@ -23,7 +23,7 @@ use Rattle.ufmt_grammar.specs.declared.class.Class.TheVariants.{Debug}
 use Rattle.ufmt_lines.proofs.FieldsAhead.{document_field, field_there}
 use Rattle.ufmt_lines.proofs.FirstBrackets.{Without}
 use Rattle.ufmt_lines.proofs.Heads.{BeginsSolid, document_solid, name_solid, name_without_enders, name_without_openings, named_without_enders, named_without_openings, solid_append, solid_in_line}
-use Rattle.ufmt_lines.proofs.SteepTexts.{InLine, IsSteep, Steep, document_steep, documents_steep, fields_steep, in_line, name_steep, pairs_steep, steep_dotted, steep_keyed, steep_tail, steep_trail, trail_in_line}
+use Rattle.ufmt_lines.proofs.SteepTexts.{BeginsLine, begins_dotted, begins_tail, InLine, IsSteep, Steep, document_steep, documents_steep, fields_steep, in_line, name_steep, pairs_steep, steep_dotted, steep_keyed, steep_tail, steep_trail, trail_in_line}
 use Rattle.ufmt_lines.proofs.ValueStarts.{Apart}
 use Rattle.ufmt_scan.specs.Fronts.{begins_with_field, has_entries}
 
@@ -112,8 +112,9 @@ pub record BlockTexts (d : Document) : Type 0 where
       → begins_with space (plain_tail ++ u) ≡ begins_with_field Debug ((text ++ (trail Pretty ++ left)) ++ v)
   pub ends : (mode : Mode) → EndsClosed (layout (setting mode 0) d)
 
-entry_steep : (text left : List ℕ) → IsSteep text → Steep (left ++ []) → Steep (text ++ (trail Pretty ++ left))
-entry_steep text left entry rest = entry (trail Pretty ++ left) (trail_in_line left) (steep_trail left (subst Steep (append-nil left) rest))
+entry_steep : (text left : List ℕ) → IsSteep text → BeginsLine (left ++ []) → Steep (left ++ []) → Steep (text ++ (trail Pretty ++ left))
+entry_steep text left entry next rest =
+    entry (trail Pretty ++ left) (trail_in_line left) (steep_trail left (subst BeginsLine (append-nil left) next) (subst Steep (append-nil left) rest))
 
 keyed_assoc : (a b c u : List ℕ) → ((a ++ (codes ": " ++ b)) ++ c) ++ u ≡ a ++ (codes ": " ++ (b ++ (c ++ u)))
 keyed_assoc a b c u = simp append_assoc
@@ -138,7 +139,7 @@ list_texts d ds h = record {
   left = block_tail (frame Pretty Brackets) (setting Pretty 0) One (texts (setting Pretty 1) ds);
   pretty = refl;
   begins = document_solid (setting Pretty 1) d h.0;
-  steep = entry_steep _ _ (document_steep 1 first_depth d h.0) (steep_tail Brackets 0 _ [] (documents_steep 1 first_depth ds h.1) tt);
+  steep = entry_steep _ _ (document_steep 1 first_depth d h.0) (begins_tail Brackets 0 _ [] (inr refl)) (steep_tail Brackets 0 _ [] (inr refl) (documents_steep 1 first_depth ds h.1) tt);
   same_kind = λ u v brace. absurd (omega (arith, brace));
   ends = λ mode. entries_end Brackets (setting mode 0) (codes "[") (layout (inside (setting mode 0)) d) (texts (inside (setting mode 0)) ds);
 }
@@ -160,7 +161,7 @@ set_texts d ds h =
       left = pretty_left;
       pretty = refl;
       begins = document_solid (setting Pretty 1) d h.0;
-      steep = entry_steep _ _ (document_steep 1 first_depth d h.0) (steep_tail Braces 0 _ [] (documents_steep 1 first_depth ds h.1) tt);
+      steep = entry_steep _ _ (document_steep 1 first_depth d h.0) (begins_tail Braces 0 _ [] (inr refl)) (steep_tail Braces 0 _ [] (inr refl) (documents_steep 1 first_depth ds h.1) tt);
       same_kind = λ u v brace none.
           solid_no_space (solid_append (document_solid (setting Plain 0) d h.0) plain_left) u
           ∙ sym (ap (begins_with_field Debug) (append_assoc (layout (setting Pretty 1) d) (trail Pretty ++ pretty_left) v)
@@ -188,7 +189,7 @@ map_texts key value ps h =
       left = pretty_left;
       pretty = refl;
       begins = solid_append (document_solid (setting Pretty 1) key h.0) _;
-      steep = entry_steep _ _ (steep_keyed _ _ (document_steep 1 first_depth key h.0) (document_steep 1 first_depth value h.1)) (steep_tail Braces 0 _ [] (pairs_steep 1 first_depth ps h.2) tt);
+      steep = entry_steep _ _ (steep_keyed _ _ (document_steep 1 first_depth key h.0) (document_steep 1 first_depth value h.1)) (begins_tail Braces 0 _ [] (inr refl)) (steep_tail Braces 0 _ [] (inr refl) (pairs_steep 1 first_depth ps h.2) tt);
       same_kind = λ u v brace none.
           solid_no_space (solid_append (solid_append (document_solid (setting Plain 0) key h.0) _) plain_left) u
           ∙ sym (ap (begins_with_field Debug) (keyed_assoc (layout (setting Pretty 1) key) (layout (setting Pretty 1) value) (trail Pretty ++ pretty_left) v)
@@ -213,7 +214,7 @@ tuple_texts d ds h = record {
   left = block_tail (frame Pretty Unnamed) (setting Pretty 0) One (texts (setting Pretty 1) ds);
   pretty = refl;
   begins = document_solid (setting Pretty 1) d h.1;
-  steep = entry_steep _ _ (document_steep 1 first_depth d h.1) (steep_tail Unnamed 0 _ [] (documents_steep 1 first_depth ds h.2) tt);
+  steep = entry_steep _ _ (document_steep 1 first_depth d h.1) (begins_tail Unnamed 0 _ [] (inr refl)) (steep_tail Unnamed 0 _ [] (inr refl) (documents_steep 1 first_depth ds h.2) tt);
   same_kind = λ u v brace. absurd (omega (arith, brace));
   ends = λ mode. entries_end Unnamed (setting mode 0) [] (layout (inside (setting mode 0)) d) (texts (inside (setting mode 0)) ds);
 }
@@ -232,7 +233,7 @@ named_texts c name d ds h = record {
   left = block_tail (frame Pretty Tuple) (setting Pretty 0) One (texts (setting Pretty 1) ds);
   pretty = refl;
   begins = document_solid (setting Pretty 1) d h.1;
-  steep = entry_steep _ _ (document_steep 1 first_depth d h.1) (steep_tail Tuple 0 _ [] (documents_steep 1 first_depth ds h.2) tt);
+  steep = entry_steep _ _ (document_steep 1 first_depth d h.1) (begins_tail Tuple 0 _ [] (inr refl)) (steep_tail Tuple 0 _ [] (inr refl) (documents_steep 1 first_depth ds h.2) tt);
   same_kind = λ u v brace. absurd (omega (arith, brace));
   ends = λ mode. entries_end Tuple (setting mode 0) (c ∷ name) (layout (inside (setting mode 0)) d) (texts (inside (setting mode 0)) ds);
 }
@@ -266,7 +267,7 @@ struct_texts name field value fs h =
       left = left;
       pretty = sym (append_assoc name (space ∷ []) (opening_brace ∷ line_feed ∷ (indentation 1 ++ (text ++ (trail Pretty ++ left)))));
       begins = solid_append (name_solid field h.1.0) _;
-      steep = entry_steep _ _ (steep_keyed _ _ (name_steep field h.1.0) (document_steep 1 first_depth value h.1.1)) (steep_tail Struct 0 _ [] (fields_steep 1 first_depth fs h.1.2) tt);
+      steep = entry_steep _ _ (steep_keyed _ _ (name_steep field h.1.0) (document_steep 1 first_depth value h.1.1)) (begins_tail Struct 0 _ [] (inr refl)) (steep_tail Struct 0 _ [] (inr refl) (fields_steep 1 first_depth fs h.1.2) tt);
       same_kind = λ u v brace none. field_first field value h.1.0 h.1.1 left v;
       ends = λ mode. entries_end Struct (setting mode 0) name (field ++ (codes ": " ++ layout (inside (setting mode 0)) value)) (field_texts (inside (setting mode 0)) fs);
     }
@@ -289,7 +290,7 @@ dotted_texts name field value fs h =
       left = left;
       pretty = dotted_layout (setting Pretty 0) name field value fs ∙ sym (append_assoc name (space ∷ []) (opening_brace ∷ line_feed ∷ (indentation 1 ++ (text ++ (trail Pretty ++ left)))));
       begins = solid_append (name_solid field h.2.0) _;
-      steep = entry_steep _ _ (steep_keyed _ _ (name_steep field h.2.0) (document_steep 1 first_depth value h.2.1)) (steep_dotted 0 _ [] (fields_steep 1 first_depth fs h.2.2) tt);
+      steep = entry_steep _ _ (steep_keyed _ _ (name_steep field h.2.0) (document_steep 1 first_depth value h.2.1)) (begins_dotted 0 _ [] (inr refl)) (steep_dotted 0 _ [] (inr refl) (fields_steep 1 first_depth fs h.2.2) tt);
       same_kind = λ u v brace none. field_first field value h.2.0 h.2.1 left v;
       ends = λ mode. subst EndsClosed (sym (dotted_layout (setting mode 0) name field value fs))
           (ends_after name (ends_after (lead (frame mode Struct) (inside (setting mode 0)) Zero) (ends_after (field ++ (codes ": " ++ layout (inside (setting mode 0)) value)) (ends_after (trail mode) (dotted_ends (setting mode 0) Zero (field_texts (inside (setting mode 0)) fs))))));

@@ -1,14 +1,15 @@
 -- What a text is converted to, from its first bracket on: with nothing known of the bytes before the text.
-use Rattle.std.proofs.Common.{◌≡◌, ◌∙◌, refl, ap, sym, subst, ℕ, suc, ◌+◌, ◌-◌, ◌≤◌, true, List, [], ◌∷◌, ◌++◌, append_assoc, Some, None, drop, take, length, length-append, arith}
+use Rattle.std.proofs.Common.{◌≡◌, ◌⊎◌, inl, inr, ◌∙◌, refl, ap, sym, subst, ℕ, zero, suc, ◌+◌, ◌-◌, ◌<◌, ◌≤◌, true, List, [], ◌∷◌, ◌++◌, append_assoc, Option, Some, None, drop, take, length, length-append, arith}
 use Rattle.std.proofs.Math.Seq.{drop-append_seam, take-append-add, take-append_seam}
 use Rattle.std.proofs.lemmas.List.{drop-append-le, length-take-le, take-append-drop, take-append-le}
 use Rattle.ufmt.specs.Document.{Document}
 use Rattle.ufmt.specs.Layout.{layout, setting}
 use Rattle.ufmt.specs.Leaves.{is_opening}
 use Rattle.ufmt_grammar.proofs.ReadingSound.{Found, read_sound}
+use Rattle.ufmt_grammar.proofs.ReadingTurns.{read_takes}
 use Rattle.ufmt_grammar.specs.declared.class.Class.TheVariants.{Debug}
 use Rattle.ufmt_lines.proofs.Conversions.{bracket_stays, rest_stays, value_ends}
-use Rattle.ufmt_lines.proofs.FirstBrackets.{Without, before_first, before_none}
+use Rattle.ufmt_lines.proofs.FirstBrackets.{FirstBracket, Without, before_first, before_none, first_bracket}
 use Rattle.ufmt_lines.proofs.FoundValues.{value_read}
 use Rattle.ufmt_lines.proofs.Rests.{rest_converted}
 use Rattle.ufmt_lines.proofs.ValueStarts.{from_bracket, start_after, start_is, start_within}
@@ -111,3 +112,40 @@ module _ (conversion : Conversion) where
           ∙ ap (λ t. (y ++ value_text s conversion.to v d) ++ convert_from conversion n t (start + size)) (value_whole ∙ sym (append_assoc y v rest))
           ∙ ap (λ t. (y ++ value_text s conversion.to v d) ++ t) (after_front (y ++ v) rest n (start + size) (omega (arith, parts, front_long)))
           ∙ append_assoc y (value_text s conversion.to v d) (convert n rest)
+
+  -- what is left after a value is shorter than the text
+  pub value_shorter : (z : List ℕ) (k : ℕ) (r : List ℕ) (d : Document) (rest : List ℕ) → value_from conversion.to (from_bracket conversion.to z k r) ≡ Some (d, rest) → length rest < length (z ++ k ∷ r)
+  value_shorter z k r d rest is =
+      let s = start_after k z (is_in_struct conversion.to r) in
+      let fewer = (read_takes Debug (setting (other_mode conversion.to) 0) 255).takes (from_bracket conversion.to z k r) d rest (value_read conversion.to (from_bracket conversion.to z k r) d rest is) in
+      let short = length-append (drop s z) (k ∷ r) in
+      let left = length-drop s z in
+      let long = length-append z (k ∷ r) in
+      omega (arith, fewer, short, left, long)
+
+  -- so any two numbers of brackets that suffice give the same
+  module _ (m n : ℕ) (z : List ℕ) (k : ℕ) (r : List ℕ) (none : Without is_opening z) (opens : is_opening k ≡ true)
+      (more : (t : List ℕ) → length t < length (z ++ k ∷ r) → convert m t ≡ convert n t) where
+    enough_at : (o : Option (Document × List ℕ)) → value_from conversion.to (from_bracket conversion.to z k r) ≡ o → convert (suc m) (z ++ k ∷ r) ≡ convert (suc n) (z ++ k ∷ r)
+    enough_at None is =
+        let long = length-append z (k ∷ r) in
+        no_value m z k r none opens is ∙ ap (λ t. z ++ k ∷ t) (more r (omega (arith, long))) ∙ sym (no_value n z k r none opens is)
+    enough_at (Some x) is =
+        value_step m z k r none opens x.0 x.1 is
+        ∙ ap (λ t. take (start_after k z (is_in_struct conversion.to r)) z ++ (value_text (stays conversion (z ++ k ∷ r) 0 (length z) x.0 (length (given_text x.0))) conversion.to (given_text x.0) x.0 ++ t)) (more x.1 (value_shorter z k r x.0 x.1 is))
+        ∙ sym (value_step n z k r none opens x.0 x.1 is)
+
+  pub enough : (m n : ℕ) (text : List ℕ) → length text ≤ m → length text ≤ n → convert m text ≡ convert n text
+  enough zero n [] first second = no_bracket zero [] tt ∙ sym (no_bracket n [] tt)
+  enough zero n (c ∷ text) first second = absurd (omega (arith, first))
+  enough (suc m) zero [] first second = no_bracket (suc m) [] tt ∙ sym (no_bracket zero [] tt)
+  enough (suc m) zero (c ∷ text) first second = absurd (omega (arith, second))
+  enough (suc m) (suc n) text first second = go (first_bracket text) (enough m n)
+    where
+      go : Without is_opening text ⊎ FirstBracket text → ((t : List ℕ) → length t ≤ m → length t ≤ n → convert m t ≡ convert n t) → convert (suc m) text ≡ convert (suc n) text
+      go (inl none) more = no_bracket (suc m) text none ∙ sym (no_bracket (suc n) text none)
+      go (inr f) more =
+          let size = ap length f.is in
+          ap (convert (suc m)) f.is
+          ∙ enough_at m n f.before f.bracket f.after f.none f.opens (λ t less. more t (omega (arith, size, first, less)) (omega (arith, size, second, less))) _ refl
+          ∙ ap (convert (suc n)) (sym f.is)

@@ -90,7 +90,7 @@ field_found t h = go (read_name Debug t) refl h
 
 -- ---- what follows a bracket
 
-same_answer : (a b : Bool) → (a ≡ true → b ≡ true) → (b ≡ true → a ≡ true) → a ≡ b
+pub same_answer : (a b : Bool) → (a ≡ true → b ≡ true) → (b ≡ true → a ≡ true) → a ≡ b
 same_answer true b there back = sym (there refl)
 same_answer false true there back = back refl
 same_answer false false there back = refl

@@ -24,6 +24,10 @@ without_drop test zero a none = none
 without_drop test (suc n) [] none = tt
 without_drop test (suc n) (c ∷ a) none = without_drop test n a none.1
 
+pub without_after : (test : ℕ → Bool) (a b : List ℕ) → Without test (a ++ b) → Without test b
+without_after test [] b none = none
+without_after test (c ∷ a) b none = without_after test a b none.1
+
 -- the first bracket of a text
 pub record FirstBracket (text : List ℕ) : Type 0 where
   pub before : List ℕ

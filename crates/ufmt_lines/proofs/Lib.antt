@@ -20,3 +20,6 @@ pub mod StillTexts
 pub mod PrettyInside
 pub mod ComesBack
 pub mod ApartTexts
+pub mod PlainLines
+pub mod ReadLines
+pub mod LinesApart

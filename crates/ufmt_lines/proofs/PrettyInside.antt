@@ -11,7 +11,7 @@ use Rattle.ufmt_lines.proofs.ConvertedSteps.{convert, no_bracket, no_value, valu
 use Rattle.ufmt_lines.proofs.FieldsAhead.{struct_by_front}
 use Rattle.ufmt_lines.proofs.FirstBrackets.{FirstBracket, Without, first_bracket, front_before, one_first, with_more, without_append}
 use Rattle.ufmt_lines.proofs.Heads.{opening_no_ender}
-use Rattle.ufmt_lines.proofs.SteepTexts.{Steep, steep_after, steep_byte, steep_indentation}
+use Rattle.ufmt_lines.proofs.SteepTexts.{Steep, steep_after, steep_feed, steep_indentation}
 use Rattle.ufmt_lines.proofs.StillTexts.{block_of}
 use Rattle.ufmt_lines.proofs.ValueStarts.{from_bracket, start_after}
 use Rattle.ufmt_lines.specs.OutputLaws.{pretty_with}
@@ -49,8 +49,8 @@ last_of (b ∷ c) x (a ∷ f) l is some = last_of c x f l (ap (drop 1) is) some
 abbrev pub first_line : {d : Document} → BlockTexts d → List ℕ
 first_line b = line_feed ∷ (indentation 1 ++ (b.text ++ (trail Pretty ++ b.left)))
 
-line_steep : {d : Document} (b : BlockTexts d) → Steep (first_line b)
-line_steep b = steep_byte line_feed _ refl (steep_indentation 1 _ b.steep)
+pub line_steep : {d : Document} (b : BlockTexts d) → Steep (first_line b)
+line_steep b = steep_feed _ (inl refl) (steep_indentation 1 _ b.steep)
 
 -- after a bracket, a line feed and four spaces an entry comes, and no space
 not_steep : (k e : ℕ) (t : List ℕ) → is_opening k ≡ true → (e == space) ≡ false → Steep (k ∷ line_feed ∷ (indentation 1 ++ e ∷ t)) → ⊥
