@@ -4,11 +4,11 @@ use Rattle.std.proofs.KnownBytes.{Consumes-kept, Consumes-nil, Consumes-trans, C
 use Rattle.std.specs.Io.KnownBytes.{Appends, Consumes, IsAtEnd, Keeps}
 use Rattle.ufmt_lines.specs.declared.run.conversion.Conversion.{Conversion}
 use Rattle.ufmt_io.specs.Whole.{AppendsPrefix}
-use Rattle.ufmt_lines.specs.Output.{WritesOutput, WritesOutputPrefix, WritesFront, ReadsAndWrites, outputs_of}
-use Rattle.ufmt_lines.specs.Groups.{IsInGroup}
+use Rattle.ufmt_lines.specs.Output.{WritesOutput, WritesOutputPrefix, WritesFront, ReadsAndWrites, outputs_for, outputs_of}
+use Rattle.ufmt_lines.specs.Groups.{groups_of, if_any}
 use Rattle.ufmt_lines.specs.Values.{output_of}
-use Rattle.ufmt_lines.proofs.Cuts.{outputs_one}
-use Rattle.ufmt_lines.proofs.Fronts.{front_before, front_in_part, front_then, outputs_after, nothing_written}
+use Rattle.ufmt_lines.proofs.Cuts.{outputs_at, outputs_one}
+use Rattle.ufmt_lines.proofs.Fronts.{front_before, front_in_part, front_then, nothing_written}
 
 -- known bytes begin with those that were consumed
 consumed_front : (old new : Option (List ℕ)) (bytes : List ℕ) (P : List ℕ → Type 0) → Consumes old new bytes → ((more : List ℕ) → P (bytes ++ more)) → IfSome old P
@@ -63,20 +63,20 @@ module _ (conversion : Conversion) where
         pub read_in_part : ((more : List ℕ) → AppendsPrefix old new (outputs_of conversion ((group ++ bytes) ++ more))) → WritesOutputPrefix conversion first known new
         read_in_part part =
             consumed_front first third (so_far.text ++ bytes) _ (Consumes-trans first second third _ _ so_far.read consumed)
-            (λ more. front_in_part conversion _ _ known old new (front_before conversion _ _ more known old front_with) (part more))
+            (λ more. front_in_part conversion _ _ more known old new front_with (part more))
 
       -- nothing more comes
-      module _ (new : Option (List ℕ)) (consumed : Consumes second third []) (end : IsAtEnd third) (within : IsInGroup conversion.to group) where
-        pub last_written : Appends old new (output_of conversion group ++ []) → WritesOutput conversion first known new
+      module _ (new : Option (List ℕ)) (consumed : Consumes second third []) (end : IsAtEnd third) (one : groups_of conversion.to group ≡ if_any group) where
+        pub last_written : Appends old new (output_of conversion group) → WritesOutput conversion first known new
         last_written written =
             let front = group_left in
-            let all : outputs_of conversion so_far.text ≡ outputs_of conversion front.front ++ (output_of conversion group ++ []) =
-            ap (outputs_of conversion) front.cut ∙ outputs_after conversion front.front group front.groups
-            ∙ ap (λ t. outputs_of conversion front.front ++ t) (outputs_one conversion group within ∙ sym (append-nil (output_of conversion group))) in
+            let all : outputs_of conversion so_far.text ≡ outputs_for conversion front.groups ++ output_of conversion group =
+            outputs_at conversion front.groups so_far.text group front.are_first ∙ ap (λ t. outputs_for conversion front.groups ++ t) (outputs_one conversion group one) in
             Consumes-whole first third so_far.text _ (all_read consumed) end (subst (Appends known new) (sym all) (Appends-trans known old new _ _ front.written written))
 
-        pub last_in_part : AppendsPrefix old new (output_of conversion group ++ []) → WritesOutputPrefix conversion first known new
+        pub last_in_part : AppendsPrefix old new (output_of conversion group) → WritesOutputPrefix conversion first known new
         last_in_part written =
-            let group_outputs : output_of conversion group ++ [] ≡ outputs_of conversion group = append-nil (output_of conversion group) ∙ sym (outputs_one conversion group within) in
+            let outputs : outputs_of conversion (group ++ []) ≡ output_of conversion group = ap (outputs_of conversion) (append-nil group) ∙ outputs_one conversion group one in
             Consumes-whole first third so_far.text _ (all_read consumed) end
-            (front_in_part conversion so_far.text group known old new group_left (subst (AppendsPrefix old new) group_outputs written))
+            (subst (λ t. AppendsPrefix known new (outputs_of conversion t)) (append-nil so_far.text)
+            (front_in_part conversion so_far.text group [] known old new group_left (subst (AppendsPrefix old new) (sym outputs) written)))

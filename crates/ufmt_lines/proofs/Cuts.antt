@@ -1,38 +1,38 @@
--- The outputs for a text that is cut where a group of lines ends.
-use Rattle.std.proofs.Common.{◌≡◌, ◌∙◌, refl, ap, sym, ℕ, List, [], ◌∷◌, ◌++◌, false, map, append_assoc}
+-- The outputs for groups, and for a text of one group.
+use Rattle.std.proofs.Common.{◌≡◌, ◌∙◌, refl, ap, sym, ℕ, List, [], ◌∷◌, ◌++◌, map, append-nil}
 use Rattle.std.proofs.lemmas.List.{map-append}
-use Rattle.std.specs.List.{join_with_byte}
-use Rattle.ufmt.specs.Bytes.{line_feed}
+use Rattle.std.proofs.lemmas.List.Folds.{concat-append}
+use Rattle.std.specs.List.{concat}
 use Rattle.ufmt_lines.specs.declared.run.conversion.Conversion.{Conversion}
-use Rattle.ufmt_lines.specs.Output.{outputs_of}
-use Rattle.ufmt_lines.specs.Groups.{IsInGroup, continues_after, groups_of}
+use Rattle.ufmt_lines.specs.Output.{outputs_for, outputs_of}
+use Rattle.ufmt_lines.specs.Groups.{AreFirstGroups, groups_of, if_any}
 use Rattle.ufmt_lines.specs.Values.{convert_from, output_of}
-use Rattle.ufmt_lines.proofs.Groups.{groups_cut, groups_one, groups_some, nothing_in_group}
-
-join_cut : (first : List ℕ) (others : List (List ℕ)) (second : List ℕ) (more : List (List ℕ))
-    → join_with_byte line_feed ((first ∷ others) ++ second ∷ more) ≡ join_with_byte line_feed (first ∷ others) ++ line_feed ∷ join_with_byte line_feed (second ∷ more)
-join_cut first [] second more = refl
-join_cut first (x ∷ others) second more =
-    ap (λ t. first ++ line_feed ∷ t) (join_cut x others second more) ∙ sym (append_assoc first (line_feed ∷ join_with_byte line_feed (x ∷ others)) _)
 
 module _ (conversion : Conversion) where
-  -- the outputs for both parts, and a line feed between them
-  pub outputs_cut : (text more : List ℕ) → continues_after conversion.to text ≡ false → outputs_of conversion (text ++ line_feed ∷ more) ≡ outputs_of conversion text ++ line_feed ∷ outputs_of conversion more
-  unfolding outputs_of
-  outputs_cut text more ended =
-      let front = groups_some conversion.to text in let rest = groups_some conversion.to more in
-      rw (groups_cut conversion.to text more ended, map-append (output_of conversion) (groups_of conversion.to text) (groups_of conversion.to more), front.are, rest.are)
-      (join_cut (output_of conversion front.first) (map (output_of conversion) front.others) (output_of conversion rest.first) (map (output_of conversion) rest.others))
-
-  -- the outputs for one group are its output
-  pub outputs_one : (group : List ℕ) → IsInGroup conversion.to group → outputs_of conversion group ≡ output_of conversion group
-  unfolding outputs_of
-  outputs_one group within = rw (groups_one conversion.to group within) refl
-
   nothing_stays : output_of conversion [] ≡ []
   unfolding convert_from
   nothing_stays = refl
 
-  -- no text has no output
-  pub outputs_nil : outputs_of conversion [] ≡ []
-  outputs_nil = outputs_one [] (nothing_in_group conversion.to) ∙ nothing_stays
+  -- the outputs for groups and for others are put together
+  pub outputs_more : (groups others : List (List ℕ)) → outputs_for conversion (groups ++ others) ≡ outputs_for conversion groups ++ outputs_for conversion others
+  outputs_more groups others = ap (λ t. concat t) (map-append (output_of conversion) groups others) ∙ concat-append (map (output_of conversion) groups) (map (output_of conversion) others)
+
+  -- the outputs for one group, or for none, are its output
+  pub outputs_any : (group : List ℕ) → outputs_for conversion (if_any group) ≡ output_of conversion group
+  outputs_any [] = sym nothing_stays
+  outputs_any (byte ∷ group) = append-nil (output_of conversion (byte ∷ group))
+
+  -- the outputs for a text are those for its first groups, and those for the rest
+  pub outputs_cut : (groups : List (List ℕ)) (text rest : List ℕ) → AreFirstGroups conversion.to groups text rest → (more : List ℕ)
+      → outputs_of conversion (text ++ more) ≡ outputs_for conversion groups ++ outputs_of conversion (rest ++ more)
+  unfolding outputs_of
+  outputs_cut groups text rest first more = ap (outputs_for conversion) (first more) ∙ outputs_more groups (groups_of conversion.to (rest ++ more))
+
+  pub outputs_at : (groups : List (List ℕ)) (text rest : List ℕ) → AreFirstGroups conversion.to groups text rest → outputs_of conversion text ≡ outputs_for conversion groups ++ outputs_of conversion rest
+  outputs_at groups text rest first =
+      ap (outputs_of conversion) (sym (append-nil text)) ∙ outputs_cut groups text rest first [] ∙ ap (λ t. outputs_for conversion groups ++ outputs_of conversion t) (append-nil rest)
+
+  -- the outputs for a text of one group are its output
+  pub outputs_one : (group : List ℕ) → groups_of conversion.to group ≡ if_any group → outputs_of conversion group ≡ output_of conversion group
+  unfolding outputs_of
+  outputs_one group one = ap (outputs_for conversion) one ∙ outputs_any group

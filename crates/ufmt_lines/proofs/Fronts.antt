@@ -1,111 +1,108 @@
--- Whole groups of lines at the front of a text, and their outputs, one after another.
-use Rattle.std.proofs.Common.{◌≡◌, ◌∙◌, refl, ap, sym, subst, ℕ, List, [], ◌∷◌, ◌++◌, false, append_assoc, append-nil, Option, inl, inr, Result, Ok, Err, OnOk}
+-- First groups of a text, and their outputs, one after another.
+use Rattle.std.proofs.Common.{◌≡◌, ◌∙◌, ◌⊎◌, inl, inr, refl, ap, sym, subst, ℕ, List, [], ◌++◌, append_assoc, append-nil, Option}
 use Rattle.std.proofs.KnownBytes.{Appends-nil, Appends-trans}
 use Rattle.std.specs.Io.KnownBytes.{Appends}
-use Rattle.ufmt.specs.Bytes.{line_feed}
 use Rattle.ufmt_lines.specs.declared.run.conversion.Conversion.{Conversion}
+use Rattle.ufmt_core.specs.declared.layout.Mode.{Mode}
 use Rattle.ufmt_io.specs.Whole.{AppendsPrefix}
-use Rattle.ufmt_lines.specs.Output.{AreWholeGroups, WritesFront, outputs_of}
-use Rattle.ufmt_lines.specs.Groups.{IsInGroup, continues_after}
-use Rattle.ufmt_lines.specs.Values.{output_of}
-use Rattle.ufmt_lines.proofs.Cuts.{outputs_cut, outputs_nil, outputs_one}
-use Rattle.ufmt_lines.proofs.Groups.{ends_after}
+use Rattle.ufmt_lines.specs.Output.{WritesFront, outputs_for, outputs_of}
+use Rattle.ufmt_lines.specs.Groups.{AreFirstGroups, groups_of}
+use Rattle.ufmt_lines.specs.Private.Group.{Gathers}
+use Rattle.ufmt_lines.proofs.Cuts.{outputs_cut, outputs_more}
+
+module _ (mode : Mode) where
+  no_first : (text : List ℕ) → AreFirstGroups mode [] text text
+  no_first text = λ more. refl
+
+  first_before : (groups : List (List ℕ)) (text rest more : List ℕ) → AreFirstGroups mode groups text rest → AreFirstGroups mode groups (text ++ more) (rest ++ more)
+  first_before groups text rest more first = λ others.
+      ap (groups_of mode) (append_assoc text more others) ∙ first (more ++ others) ∙ ap (λ t. groups ++ groups_of mode t) (sym (append_assoc rest more others))
+
+  first_then : (groups others : List (List ℕ)) (text mid rest : List ℕ) → AreFirstGroups mode groups text mid → AreFirstGroups mode others mid rest → AreFirstGroups mode (groups ++ others) text rest
+  first_then groups others text mid rest first next = λ more.
+      first more ∙ ap (λ g. groups ++ g) (next more) ∙ sym (append_assoc groups others (groups_of mode (rest ++ more)))
 
 module _ (conversion : Conversion) where
-  -- the output for what follows whole groups comes after theirs
-  pub outputs_after : (front more : List ℕ) → AreWholeGroups conversion.to front → outputs_of conversion (front ++ more) ≡ outputs_of conversion front ++ outputs_of conversion more
-  outputs_after front more (inl none) =
-      ap (λ t. outputs_of conversion (t ++ more)) none ∙ ap (λ t. t ++ outputs_of conversion more) (sym (outputs_nil conversion) ∙ ap (outputs_of conversion) (sym none))
-  outputs_after front more (inr (text, is, ends)) =
-      let ended : outputs_of conversion (text ++ line_feed ∷ []) ≡ outputs_of conversion text ++ line_feed ∷ [] = outputs_cut conversion text [] ends ∙ ap (λ t. outputs_of conversion text ++ line_feed ∷ t) (outputs_nil conversion) in
-      ap (λ t. outputs_of conversion (t ++ more)) is ∙ ap (outputs_of conversion) (append_assoc text (line_feed ∷ []) more) ∙ outputs_cut conversion text more ends
-      ∙ sym (append_assoc (outputs_of conversion text) (line_feed ∷ []) (outputs_of conversion more))
-      ∙ ap (λ t. t ++ outputs_of conversion more) (sym ended ∙ ap (outputs_of conversion) (sym is))
+  -- nothing is gathered yet
+  pub nothing_gathered : (text outputs : List ℕ) → Gathers conversion text text outputs outputs
+  nothing_gathered text outputs = record { groups = []; are_first = no_first conversion.to text; appended = sym (append-nil outputs) }
 
-  groups_after : (front more : List ℕ) → AreWholeGroups conversion.to front → AreWholeGroups conversion.to more → AreWholeGroups conversion.to (front ++ more)
-  groups_after front more whole (inl none) = subst (AreWholeGroups conversion.to) (sym (ap (λ t. front ++ t) none ∙ append-nil front)) whole
-  groups_after front more (inl none) (inr more_ends) = subst (λ t. AreWholeGroups conversion.to (t ++ more)) (sym none) (inr more_ends)
-  groups_after front more (inr (first, is, ends)) (inr (text, is_more, more_ends)) = inr (
-    first ++ line_feed ∷ text,
-    ap (λ t. front ++ t) is_more ∙ ap (λ t. t ++ (text ++ line_feed ∷ [])) is ∙ append_assoc first (line_feed ∷ []) (text ++ line_feed ∷ [])
-        ∙ sym (append_assoc first (line_feed ∷ text) (line_feed ∷ [])),
-    ends_after conversion.to first text ends more_ends,
-  )
+  -- more bytes follow the rest
+  pub gathered_before : (text rest more old new : List ℕ) → Gathers conversion text rest old new → Gathers conversion (text ++ more) (rest ++ more) old new
+  gathered_before text rest more old new h = record { groups = h.groups; are_first = first_before conversion.to h.groups text rest more h.are_first; appended = h.appended }
+
+  -- first the outputs for some groups, then those for some of the rest
+  pub gathered_then : (text mid rest first second third : List ℕ) → Gathers conversion text mid first second → Gathers conversion mid rest second third → Gathers conversion text rest first third
+  gathered_then text mid rest first second third g h = record {
+    groups = g.groups ++ h.groups;
+    are_first = first_then conversion.to g.groups h.groups text mid rest g.are_first h.are_first;
+    appended = h.appended ∙ ap (λ t. t ++ outputs_for conversion h.groups) g.appended ∙ append_assoc first (outputs_for conversion g.groups) (outputs_for conversion h.groups)
+        ∙ ap (λ t. first ++ t) (sym (outputs_more conversion g.groups h.groups));
+  }
 
   -- nothing is written yet
   pub nothing_written : (text : List ℕ) (known : Option (List ℕ)) → WritesFront conversion text text known known
-  nothing_written text known = record { front = []; cut = refl; groups = inl refl; written = subst (Appends known known) (sym (outputs_nil conversion)) (Appends-nil known) }
+  nothing_written text known = record { groups = []; are_first = no_first conversion.to text; written = Appends-nil known }
 
-  -- more bytes after the rest
-  pub front_before : (text rest more : List ℕ) (old new : Option (List ℕ)) → WritesFront conversion text rest old new
-      → WritesFront conversion (text ++ more) (rest ++ more) old new
-  front_before text rest more old new h =
-      record { front = h.front; cut = ap (λ t. t ++ more) h.cut ∙ append_assoc h.front rest more; groups = h.groups; written = h.written }
+  -- more bytes follow the rest
+  pub front_before : (text rest more : List ℕ) (old new : Option (List ℕ)) → WritesFront conversion text rest old new → WritesFront conversion (text ++ more) (rest ++ more) old new
+  front_before text rest more old new h = record { groups = h.groups; are_first = first_before conversion.to h.groups text rest more h.are_first; written = h.written }
 
   -- first a front, then a front of the rest
   pub front_then : (text mid rest : List ℕ) (first second third : Option (List ℕ)) → WritesFront conversion text mid first second
       → WritesFront conversion mid rest second third → WritesFront conversion text rest first third
-  front_then text mid rest first second third g h =
-      record {
-        front = g.front ++ h.front;
-        cut = g.cut ∙ ap (λ t. g.front ++ t) h.cut ∙ sym (append_assoc g.front h.front rest);
-        groups = groups_after g.front h.front g.groups h.groups;
-        written = subst (Appends first third) (sym (outputs_after g.front h.front g.groups)) (Appends-trans first second third _ _ g.written h.written);
-      }
+  front_then text mid rest first second third g h = record {
+    groups = g.groups ++ h.groups;
+    are_first = first_then conversion.to g.groups h.groups text mid rest g.are_first h.are_first;
+    written = subst (Appends first third) (sym (outputs_more conversion g.groups h.groups)) (Appends-trans first second third _ _ g.written h.written);
+  }
+
+  -- what was gathered from nothing on is written
+  pub gathered_written : (text rest outputs : List ℕ) (old new : Option (List ℕ)) → Gathers conversion text rest [] outputs → Appends old new outputs → WritesFront conversion text rest old new
+  gathered_written text rest outputs old new h written = record { groups = h.groups; are_first = h.are_first; written = subst (Appends old new) h.appended written }
 
   -- a front, and then a prefix of the outputs for the rest, are a prefix of all outputs
-  pub front_in_part : (text mid : List ℕ) (first second third : Option (List ℕ)) → WritesFront conversion text mid first second
-      → AppendsPrefix second third (outputs_of conversion mid) → AppendsPrefix first third (outputs_of conversion text)
-  front_in_part text mid first second third g (part, left, joined, written) =
-      let all = ap (outputs_of conversion) g.cut ∙ outputs_after g.front mid g.groups ∙ ap (λ t. outputs_of conversion g.front ++ t) joined
-      ∙ sym (append_assoc (outputs_of conversion g.front) part left) in
-      (outputs_of conversion g.front ++ part, left, all, Appends-trans first second third _ _ g.written written)
+  pub front_in_part : (text mid more : List ℕ) (first second third : Option (List ℕ)) → WritesFront conversion text mid first second
+      → AppendsPrefix second third (outputs_of conversion (mid ++ more)) → AppendsPrefix first third (outputs_of conversion (text ++ more))
+  front_in_part text mid more first second third g (part, left, joined, written) =
+      let all = outputs_cut conversion g.groups text mid g.are_first more ∙ ap (λ t. outputs_for conversion g.groups ++ t) joined ∙ sym (append_assoc (outputs_for conversion g.groups) part left) in
+      (outputs_for conversion g.groups ++ part, left, all, Appends-trans first second third _ _ g.written written)
 
-  module _ (group : List ℕ) (old new : Option (List ℕ)) (within : IsInGroup conversion.to group) (ends : continues_after conversion.to group ≡ false) where
-    -- one group and its line feed
-    whole_group : Appends old new (output_of conversion group ++ line_feed ∷ []) → WritesFront conversion (group ++ line_feed ∷ []) [] old new
-    whole_group written =
-        record {
-          front = group ++ line_feed ∷ [];
-          cut = sym (append-nil (group ++ line_feed ∷ []));
-          groups = inr (group, refl, ends);
-          written = subst (Appends old new) (sym (outputs_cut conversion group [] ends ∙ ap (λ t. t ++ line_feed ∷ outputs_of conversion []) (outputs_one conversion group within)
-              ∙ ap (λ t. output_of conversion group ++ line_feed ∷ t) (outputs_nil conversion))) written;
-        }
+  -- a prefix of what was gathered is one of all outputs
+  pub gathered_in_part : (text rest outputs more : List ℕ) (old new : Option (List ℕ)) → Gathers conversion text rest [] outputs → AppendsPrefix old new outputs
+      → AppendsPrefix old new (outputs_of conversion (text ++ more))
+  gathered_in_part text rest outputs more old new h (part, left, joined, written) =
+      let all = outputs_cut conversion h.groups text rest h.are_first more ∙ ap (λ t. t ++ outputs_of conversion (rest ++ more)) (sym h.appended ∙ joined) ∙ append_assoc part left (outputs_of conversion (rest ++ more)) in
+      (part, left ++ outputs_of conversion (rest ++ more), all, written)
 
-    -- if a call wrote the output for the group, of which nothing is left
-    pub group_ended : {T E : Type 0} (result : Result T E) (left : List ℕ) → OnOk result (Appends old new (output_of conversion group ++ line_feed ∷ [])) → OnOk result (left ≡ [])
-        → OnOk result (WritesFront conversion (group ++ line_feed ∷ []) left old new)
-    group_ended (Ok x) left written none = subst (λ t. WritesFront conversion (group ++ line_feed ∷ []) t old new) (sym none) (whole_group written)
-    group_ended (Err e) left written none = tt
+  -- what was gathered is written now, or is still to be written
+  abbrev pub WritesAndGathers : List ℕ → List ℕ → List ℕ → Option (List ℕ) → Option (List ℕ) → Type 0
+  WritesAndGathers text rest outputs old new = (middle : List ℕ) × WritesFront conversion text middle old new × Gathers conversion middle rest [] outputs
 
-    -- a prefix of a group's output and line feed is a prefix of the outputs for a text that begins with the group
-    pub group_in_part : AppendsPrefix old new (output_of conversion group ++ line_feed ∷ []) → (more : List ℕ)
-        → AppendsPrefix old new (outputs_of conversion ((group ++ line_feed ∷ []) ++ more))
-    group_in_part (part, left, joined, written) more =
-        let all = ap (outputs_of conversion) (append_assoc group (line_feed ∷ []) more) ∙ outputs_cut conversion group more ends
-        ∙ ap (λ t. t ++ line_feed ∷ outputs_of conversion more) (outputs_one conversion group within)
-        ∙ sym (append_assoc (output_of conversion group) (line_feed ∷ []) (outputs_of conversion more))
-        ∙ ap (λ t. t ++ outputs_of conversion more) joined ∙ append_assoc part left (outputs_of conversion more) in
-        (part, left ++ outputs_of conversion more, all, written)
+  -- if there was more, and then all of it may have been written
+  pub written_if_full : (text middle rest outputs left : List ℕ) (first second third : Option (List ℕ)) → WritesFront conversion text middle first second
+      → Gathers conversion middle rest [] outputs → (((left ≡ outputs) × (third ≡ second)) ⊎ ((left ≡ []) × Appends second third outputs)) → WritesAndGathers text rest left first third
+  written_if_full text middle rest outputs left first second third before more (inl (same, none)) =
+      (middle, subst (WritesFront conversion text middle first) (sym none) before, subst (Gathers conversion middle rest []) (sym same) more)
+  written_if_full text middle rest outputs left first second third before more (inr (none, written)) =
+      (rest, front_then text middle rest first second third before (gathered_written middle rest outputs second third more written), subst (Gathers conversion rest rest []) (sym none) (nothing_gathered rest []))
 
-  -- a line of the group that is being read, of which these bytes were gathered, ends in the bytes that follow
-  module _ (text group first after rest : List ℕ) (known second third : Option (List ℕ))
-      (is : rest ≡ first ++ line_feed ∷ after) (before : WritesFront conversion text (group ++ rest) known second) where
-    cut_there : group ++ rest ≡ ((group ++ first) ++ line_feed ∷ []) ++ after
-    cut_there =
-        ap (λ t. group ++ t) is ∙ sym (append_assoc group first (line_feed ∷ after)) ∙ sym (append_assoc (group ++ first) (line_feed ∷ []) after)
+  -- the outputs for the groups that ended in a line were gathered
+  pub line_gathered : (middle group line after rest left first outputs more : List ℕ) → rest ≡ line ++ after → Gathers conversion middle (group ++ rest) first outputs
+      → Gathers conversion (group ++ line) left outputs more → Gathers conversion middle (left ++ after) first more
+  line_gathered middle group line after rest left first outputs more is before ended =
+      let cut : group ++ rest ≡ (group ++ line) ++ after = ap (λ t. group ++ t) is ∙ sym (append_assoc group line after) in
+      gathered_then middle (group ++ rest) (left ++ after) first outputs more before
+      (subst (λ t. Gathers conversion t (left ++ after) outputs more) (sym cut) (gathered_before (group ++ line) left after outputs more ended))
 
-    -- the line has ended: the group's output is written, or else the group continues
-    pub line_ended : (left : List ℕ) → WritesFront conversion ((group ++ first) ++ line_feed ∷ []) left second third → WritesFront conversion text (left ++ after) known third
-    line_ended left ended =
-        front_then text (group ++ rest) (left ++ after) known second third before
-        (subst (λ t. WritesFront conversion t (left ++ after) second third) (sym cut_there) (front_before _ left after second third ended))
+  -- all that was gathered was written
+  pub all_written : (text middle rest outputs : List ℕ) (first second third : Option (List ℕ)) → WritesFront conversion text middle first second
+      → Gathers conversion middle rest [] outputs → Appends second third outputs → WritesFront conversion text rest first third
+  all_written text middle rest outputs first second third before more written =
+      front_then text middle rest first second third before (gathered_written middle rest outputs second third more written)
 
-    -- a prefix of the output is written
-    pub line_in_part : ((more : List ℕ) → AppendsPrefix second third (outputs_of conversion (((group ++ first) ++ line_feed ∷ []) ++ more))) → (more : List ℕ)
-        → AppendsPrefix known third (outputs_of conversion (text ++ more))
-    line_in_part part more =
-        front_in_part (text ++ more) ((group ++ rest) ++ more) known second third (front_before text (group ++ rest) more known second before)
-        (subst (λ t. AppendsPrefix second third (outputs_of conversion t))
-        (sym (ap (λ t. t ++ more) cut_there ∙ append_assoc ((group ++ first) ++ line_feed ∷ []) after more)) (part (after ++ more)))
+  -- a prefix of it was written
+  pub written_in_part : (text middle rest outputs : List ℕ) (first second third : Option (List ℕ)) → WritesFront conversion text middle first second
+      → Gathers conversion middle rest [] outputs → AppendsPrefix second third outputs → (more : List ℕ) → AppendsPrefix first third (outputs_of conversion (text ++ more))
+  written_in_part text middle rest outputs first second third before gathers part more =
+      front_in_part text middle more first second third before (gathered_in_part middle rest outputs more second third gathers part)

@@ -1,9 +1,14 @@
 pub mod LineLengths
 pub mod NameBytes
 pub mod FirstBytes
+pub mod LineEnds
 pub mod Groups
+pub mod CutLines
+pub mod GroupEnds
 pub mod Cuts
 pub mod Fronts
+pub mod Readings
+pub mod Outcomes
 pub mod FoundValues
 pub mod Consumed
 pub mod Conversions

@@ -1,4 +1,4 @@
-//! A run of the program: writes the output for each group of lines before it reads the next.
+//! A run of the program: writes the outputs for all groups of lines that have ended before it reads more.
 ghost use Rattle.std.specs.Prelude.{◌≡◌, ◌↔◌, ◌<◌, ◌≤◌, false, take, vec_len, IfErr, IfOk, IsErr, IsErrOf, IsTrue, OnErr, OnOk, ⊤};
 ghost use Rattle.std.specs.Io.KnownBytes.{Appends, Consumes, IsAtEnd, Keeps};
 ghost use Rattle.ufmt_io.specs.Whole.{AppendsPrefix};
@@ -28,11 +28,12 @@ pub use ufmt_io::{Failed, IoFault, Watched};
 // How many bytes are read at once, at most.
 const CHUNK: usize = 64 * 1024;
 
-/// Reads the input to its end, and writes the output for each group of lines before it reads further,
-/// with its values converted. Memory is kept for the longest group and its output only.
+/// Reads the input to its end, and writes each group of lines with its values converted. The outputs for
+/// all groups that have ended are written before more is read. Memory is kept for one read, the longest
+/// group and its output, and 1 MiB of outputs.
 ///
 /// On `CannotWrite` a prefix of the outputs was written. On any other fault the outputs for whole
-/// groups were written: to all groups that were read whole, if the fault is `CannotRead`.
+/// groups were written: for all groups that were read whole, if the fault is `CannotRead`.
 pub fn run<R: Read, W: Write>(
     alloc: Global,
     conversion: Conversion,
@@ -67,7 +68,7 @@ pub fn run<R: Read, W: Write>(
     'reads: for _ in 0..u64::MAX {
         let count = read_chunk(input, &mut chunk)?;
         if count == 0 {
-            return group.write(conversion, b"", output);
+            return group.write_last(conversion, output);
         }
         group.write_ended(conversion, front(&chunk, count), output)?;
     }

@@ -11,7 +11,7 @@ from typing import NamedTuple, Optional
 
 # How many bytes of messages can wait in a socket, as asked for: Linux doubles that. The longest outputs have 270,000.
 ROOM = 200_000
-LONGEST = 300_000
+LONGEST = 350_000
 # An output that doesn't come in this time is a fault.
 SECONDS = 20
 

@@ -1,4 +1,7 @@
-"""The law of ufmt_lines, on the model: a log that `--plain` leaves as it is comes back after pretty and plain, for every limit."""
+"""Laws of ufmt_lines, on the model.
+
+A log that `--plain` leaves as it is comes back after pretty and plain, for every limit. Cuts of groups change no output.
+"""
 import random
 
 from lib.log_model import log_model
@@ -10,11 +13,8 @@ PIECES = (b"a", b"b:", b"a: ", b"[", b"]", b"(", b")", b"{", b"}", b" { ", b" }"
           b"\n    ", b"..", b"\"x [1, 2]\"", b"'a'", b"'", b"\\", b"()", b"(Weak)", b"[::1]:80", b"Some(", b"S { a: 1, b: 2 }", b"[1, 2]",
           b"{1: 2, 3: 4}", b"{a: 1, b: 2}", b"m ", b"1", b"\xff", b"\xc3\xa9", b"(a,)", b"(a, b)", b"[\n    a,\n]", b"m {\n    a: b,\n}", b"x {\n    a,\n}",
           b"(\n    1,\n)", b"{\n    1: 2,\n}", b"\r", b"\x1b[0m", b",\n}", b",\n]", b"\n}", b"[[", b"{ ", b"S { a: [", b"    1,\n", b"    ..\n",
-          b"S {\n    a: 1,\n    ..\n}", b"\"")
-
-
-def whole(mode, log, longer_than=0):
-    return b"".join(text for _end, text in log_model.outputs(mode, log, longer_than))
+          b"S {\n    a: 1,\n    ..\n}", b"\"", b"[\n", b"{\n", b"(\n", b" {\n", b"S {\n", b"x:", b"] b [\n", b"}(\n", b"]{\n", b"    [\n", b"    b: S {\n",
+          b"        1,\n", b"    ],\n", b"]\n", b"}\n", b")\n")
 
 
 def nasty(chance):
@@ -23,16 +23,26 @@ def nasty(chance):
     return b"".join(chance.choice(pieces) for _ in range(chance.randint(1, 14)))
 
 
+def cut_fault(log, plain):
+    """What is wrong with the groups: put together they are the log, and cuts change no output."""
+    if b"".join(group for _read, group in log_model.groups("plain", log)) != log:
+        return ["the groups of %r aren't it" % log]
+    if log_model.whole_output("plain", log, end_in=log_model.uncut_end_in) != plain:
+        return ["%r is %r with cut groups" % (log, plain)]
+    return []
+
+
 def faults(count, seed):
     chance = random.Random(seed)
     found = []
     for log in [*NAMED, *(nasty(chance) for _ in range(count))]:
-        plain = whole("plain", log)
+        plain = log_model.whole_output("plain", log, 0)
+        found += cut_fault(log, plain)
         for given in {log, plain}:
-            if whole("plain", given) != given:
+            if log_model.whole_output("plain", given, 0) != given:
                 continue
             for longer_than in LIMITS:
-                pretty = whole("pretty", given, longer_than)
-                if whole("plain", pretty) != given:
+                pretty = log_model.whole_output("pretty", given, longer_than)
+                if log_model.whole_output("plain", pretty, 0) != given:
                     found.append("%r doesn't come back from %r, at %d bytes" % (given, pretty, longer_than))
     return found

@@ -15,7 +15,7 @@ from lib.log_model.logs import CHUNK
 SIZE = 32 * 1024
 # How much longer a log is whose reads and writes are counted, and that must pass in the memory of the short one.
 LONGER = 8
-# How many bytes of memory the longer log may take more, and how many for each byte of its longest line or group.
+# How many bytes of memory the longer log may take more, and how many for each byte of its longest line or group and of its longest write.
 SLACK = 16 * 1024
 MEMORY = 4
 # By how much a shape may cost more steps than were measured: compilers differ.
@@ -168,23 +168,38 @@ def wrong_steps(meter, shape, nothing):
     return None
 
 
+def ended(shape, log):
+    """How many bytes the groups have that end in a read, for each read in which some do, and for the end. Their outputs are one write.
+
+    No output of these shapes is so long that the outputs for a read are written in parts.
+    """
+    sizes = {}
+    for read, group in log_model.groups(shape.mode, log):
+        number = None if read is None else -(-read // CHUNK)
+        sizes[number] = sizes.get(number, 0) + len(group)
+    return sizes
+
+
 def wrong_calls(meter, shape):
-    """One read takes each chunk, and one more the end. One write has each output that isn't empty."""
+    """One read takes each chunk, and one more the end. One write has the outputs for the groups that end in a chunk, or at the end."""
     log = shape.log(SIZE * LONGER)
     given = meter.calls(meter.put(shape.name, log), shape.mode)
-    groups = log_model.groups(shape.mode, log)
-    wanted = devices.Ended(0, -(-len(log) // CHUNK) + 1, len(groups) - (groups[-1] == b""))
+    wanted = devices.Ended(0, -(-len(log) // CHUNK) + 1, len(ended(shape, log)))
     if given.reads is not None and given != wanted:
         return "%s: %s, not %s" % (shape.name, given, wanted)
     return None
 
 
+def kept(shape, log):
+    """How many bytes are kept at most: of a line or group, and of groups whose outputs are written at once."""
+    return max(len(group) for _read, group in log_model.groups(shape.mode, log)) + max(ended(shape, log).values())
+
+
 def wrong_memory(meter, shape):
-    """The longer log passes in the memory of the short one, and some more for a line or group that is longer."""
+    """The longer log passes in the memory of the short one, and some more for a line, group or write that is longer."""
     short, long = shape.log(SIZE), shape.log(SIZE * LONGER)
     least = meter.least(meter.put(shape.name, short), shape.mode)
-    longest = [max(map(len, log_model.groups(shape.mode, log))) for log in (short, long)]
-    most = least + SLACK + MEMORY * (longest[1] - longest[0])
+    most = least + SLACK + MEMORY * (kept(shape, long) - kept(shape, short))
     if not meter.passes(meter.put(shape.name, long), shape.mode, most):
         return "%s: %d bytes pass in %d bytes of memory, and %d bytes not in %d" % (shape.name, len(short), least, len(long), most)
     return None

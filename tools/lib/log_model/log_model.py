@@ -12,6 +12,8 @@ READERS = {"pretty": PlainReader(DEBUG), "plain": PrettyReader(DEBUG)}
 PRINTERS = {"pretty": pretty, "plain": plain}
 # How long a plain text is at most that stays, if nothing else is said.
 LONGER_THAN = 40
+# How many bytes of outputs are written before a chunk's others are made.
+LEAST = 1024 * 1024
 OPENING = (b"(", b"[", b"{")
 BRACKET = re.compile(r"[(\[{]")
 # A byte that a name may have: a byte of a word, or a colon.
@@ -128,43 +130,86 @@ def output(mode, group, longer_than=LONGER_THAN):
     return encoded("".join([*out, text[done:]]))
 
 
-def groups(mode, log):
-    """The groups of lines, each with the line feed at its end, but for the last."""
-    found, group = [], []
-    for line in log.split(b"\n"):
-        continues = mode == "plain" and (line.endswith(OPENING) or (group != [] and line.startswith(b" ")))
-        group.append(line)
-        if not continues:
-            found.append(b"\n".join(group) + b"\n")
-            group = []
-    if group:
-        found.append(b"\n".join(group) + b"\n")
-    found[-1] = found[-1][:-1]
+def ended_lines(log):
+    """The lines of a log, each with its line feed, and what follows the last one."""
+    *lines, rest = log.split(b"\n")
+    return [line + b"\n" for line in lines], rest
+
+
+def word_at(line):
+    """Where the word of the bracket begins that a line ends with: a run of bytes of a name, before a brace also with a space after it."""
+    words = decoded(line[:-2])
+    if line.endswith(b"{\n") and words.endswith(" "):
+        words = words[:-1]
+    return len(encoded(words[: name_start(words, 0, len(words))]))
+
+
+def end_in(mode, line, inside):
+    """How many bytes of the line belong to the group that is open before it, or None if all do and it stays open."""
+    if mode == "pretty":
+        return len(line)
+    opens, is_indented = line[:-1].endswith(OPENING), line.startswith(b" ")
+    if opens and not is_indented:
+        return word_at(line)
+    return None if opens or (inside and is_indented) else len(line)
+
+
+def uncut_end_in(mode, line, inside):
+    """The same for groups that are larger: no line is cut in them."""
+    continues = mode == "plain" and (line[:-1].endswith(OPENING) or (inside and line.startswith(b" ")))
+    return None if continues else len(line)
+
+
+def groups(mode, log, end_in=end_in):
+    """The groups of a log, each with the number of bytes after which it is known to end: its line's, or None for what is left at the end."""
+    lines, rest = ended_lines(log)
+    found, group, read = [], b"", 0
+    for line in lines:
+        read += len(line)
+        end = end_in(mode, line, group != b"")
+        if end is None:
+            group += line
+            continue
+        if group + line[:end]:
+            found.append((read, group + line[:end]))
+        group = line[end:]
+    if group + rest:
+        found.append((None, group + rest))
     return found
 
 
-def outputs(mode, log, longer_than=LONGER_THAN):
-    """The output for each group, and how many bytes of the log there are up to the group's end."""
-    found, end = [], 0
-    for group in groups(mode, log):
-        end += len(group)
-        is_ended = group.endswith(b"\n")
-        found.append((end, output(mode, group[:-1] if is_ended else group, longer_than) + b"\n" * is_ended))
-    return found
+def outputs(mode, log, longer_than=LONGER_THAN, end_in=end_in):
+    """The output for each group, with the number of bytes after which it is known to end."""
+    return [(read, output(mode, group, longer_than)) for read, group in groups(mode, log, end_in)]
+
+
+def whole_output(mode, log, longer_than=LONGER_THAN, end_in=end_in):
+    """The outputs for all groups, put together."""
+    return b"".join(text for _read, text in outputs(mode, log, longer_than, end_in))
+
+
+def gathered(pieces):
+    """Outputs as they are written: as soon as there are LEAST bytes, and at the end."""
+    found, waits = [], b""
+    for piece in pieces:
+        waits += piece
+        if len(waits) >= LEAST:
+            found.append(waits)
+            waits = b""
+    return found + [waits] * (waits != b"")
 
 
 def writes(mode, log, chunks, longer_than=LONGER_THAN):
     """What is written after each chunk is read, and last after the end: a list for each, with a piece for each write.
 
-    The output for a group is one write, as soon as the group's last line was read. An empty output is not written.
+    The outputs for the groups that end in a chunk are one write, or more if they are long.
     """
     whole = outputs(mode, log, longer_than)
-    _end, last = whole.pop()
     rounds, read, at = [], 0, 0
     for chunk in chunks:
         read += len(chunk)
         first = at
-        while at < len(whole) and whole[at][0] <= read:
+        while at < len(whole) and whole[at][0] is not None and whole[at][0] <= read:
             at += 1
-        rounds.append([text for _end, text in whole[first:at]])
-    return rounds + [[last] if last else []]
+        rounds.append(gathered(text for _read, text in whole[first:at]))
+    return rounds + [gathered(text for _read, text in whole[at:])]

@@ -48,7 +48,7 @@ def faults():
         count += len(wanted)
         if len(given) != len(wanted) or not all(map(is_same, [line] * len(given), given, wanted)):
             found.append("line %d of %s: %s are laid out, and %s are marked" % (number, PATH.name, given, wanted))
-    pretty = b"".join(text for _end, text in log_model.outputs("pretty", log()))
-    if b"".join(text for _end, text in log_model.outputs("plain", pretty)) != log():
+    pretty = log_model.whole_output("pretty", log())
+    if log_model.whole_output("plain", pretty) != log():
         found.append("%s doesn't come back" % PATH.name)
     return found, count

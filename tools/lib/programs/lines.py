@@ -162,10 +162,12 @@ def too_long_a_line(cases):
 
 
 def many_lines(cases):
-    """Memory is kept for one line or group only: 100,000 pass in 6 MiB, there and back."""
+    """Memory is kept for one line or group and some outputs only: 100,000 pass in 6 MiB, there and back."""
     plain, pretty = LONG * 100_000, LONG_PRETTY * 100_000
     cases.judge("100,000 lines in 6 MiB", cases.run(text=plain, limit=6 * 1024), 0, pretty)
     cases.judge("--plain: 100,000 groups in 6 MiB", cases.run("--plain", text=pretty, limit=6 * 1024), 0, plain)
+    opening = b"open Block {\n" * 1_000_000
+    cases.judge("--plain: 1,000,000 lines that end with a bracket in 6 MiB", cases.run("--plain", text=opening, limit=6 * 1024), 0, opening)
 
 
 def main(program):

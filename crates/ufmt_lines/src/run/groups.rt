@@ -1,39 +1,48 @@
-//! Groups of lines, gathered from what was read, and their outputs, which are written one by one.
-ghost use Rattle.std.specs.Prelude.{◌≡◌, ◌≢◌, ◌↔◌, ◌+◌, ◌≤◌, ◌++◌, ◌∷◌, [], List, ℕ, IfErr, IsErrOf, IsTrue, MatchOption, OnOk, drop, false, length};
+//! Groups of lines, gathered from what was read, and their outputs, which are written together.
+ghost use Rattle.std.specs.Prelude.{◌≡◌, ◌≢◌, ◌↔◌, ◌<◌, ◌+◌, ◌≤◌, ◌++◌, ◌⊎◌, ◌∷◌, [], List, ℕ, IfErr, IsErr, IsErrOf, IsTrue, MatchOption, OnErr, OnOk, drop, false, length, take, true};
 ghost use Rattle.std.specs.Io.KnownBytes.{Appends};
 ghost use Rattle.ufmt.specs.Bytes.{line_feed};
 ghost use Rattle.ufmt_io.specs.Watched.{device_of, has_failed};
 ghost use Rattle.ufmt_io.specs.Whole.{AppendsPrefix};
 ghost use Rattle.ufmt_lines.specs.Output.{WritesFront, outputs_of};
-ghost use Rattle.ufmt_lines.specs.Groups.{IsInGroup, IsInLine, continues_after, is_indented, opens};
+ghost use Rattle.ufmt_lines.specs.Groups.{IsInGroup, IsInLine, is_indented, is_spaced_brace, opens, word_start};
+ghost use Rattle.ufmt_lines.specs.Private.Group.{IsEndOf, IsEndedLine};
 ghost use Rattle.ufmt_lines.specs.Private.LineLen.{line_len};
 ghost use Rattle.ufmt_lines.specs.Values.{output_of};
 
 use super::conversion::Conversion;
 use super::output::GroupOutput;
-use super::values::is_opening;
+use super::values::{is_opening, run_start};
 use memchr::memchr;
-use std::alloc::Global;
+use std::alloc::{AllocError, Global};
 use std::io::Write;
 use ufmt::layout::Mode;
 use ufmt_io::{IoFault, Watched, write_whole};
 
-/// The group of lines that is being read, and room for its output. Both are used again for each group.
+// How many bytes of outputs are written at once, at least, if more groups have ended.
+const LEAST: usize = 1024 * 1024;
+
+/// The group of lines that is being read, and outputs that aren't written yet.
 #[derive(Drop)]
 pub(super) struct Group {
     bytes: Vec<u8>,
-    prepared: GroupOutput,
+    // Where the line begins that hasn't ended. The group continues after the lines before it.
+    line: usize,
+    outputs: GroupOutput,
 }
 
 impl Group {
-    ghost use Rattle.ufmt_lines.specs.Private.Group.{group_bytes};
+    ghost use Rattle.ufmt_lines.specs.Private.Group.{IsReading, Gathers, gathered, group_bytes};
 
     pub(super) fn new(alloc: Global) -> Group
-        ensures { group_bytes result ≡ [] }
+        ensures bytes { group_bytes result ≡ [] }
+        ensures line { result.line ≡ 0 }
+        ensures outputs { gathered result ≡ [] }
     {
         Group {
             bytes: Vec::new(alloc),
-            prepared: GroupOutput::new(alloc),
+            line: 0,
+            outputs: GroupOutput::new(alloc),
         }
     }
 
@@ -46,11 +55,13 @@ impl Group {
         output: &mut Watched<W>,
     ) -> Result<(), IoFault>
         requires works { has_failed output.old ≡ false }
-        requires in_group { IsInGroup conversion.to (group_bytes self.old) }
+        requires reading { IsReading conversion.to self.old }
+        requires none { gathered self.old ≡ [] }
         ensures ok { OnOk result (WritesFront conversion (group_bytes self.old ++ bytes.now)
             (group_bytes self.new) (W.contents (device_of output.old))
             (W.contents (device_of output.new))) }
-        ensures in_group { OnOk result (IsInGroup conversion.to (group_bytes self.new)) }
+        ensures reading { OnOk result (IsReading conversion.to self.new) }
+        ensures none { OnOk result (gathered self.new ≡ []) }
         ensures cannot_write { IsErrOf result IoFault.CannotWrite → (more : List ℕ)
             → AppendsPrefix (W.contents (device_of output.old))
             (W.contents (device_of output.new))
@@ -62,108 +73,141 @@ impl Group {
         ensures no_reader { IfErr result (λ fault. fault ≢ IoFault.CannotRead) }
     {
         let mut rest = bytes;
-        while let Some((first, after)) = split_line(rest) {
-            self.bytes.extend_from_slice(first)?;
-            self.end_line(conversion, output)?;
+        while let Some((line, after)) = split_line(rest) {
+            self.end_line(conversion, line)?;
+            self.write_if_full(output)?;
             rest = after;
         }
         self.bytes.extend_from_slice(rest)?;
-        Ok(())
+        self.write_gathered(output)
     }
 
-    // Ends a line: writes the output for the group if it ends there. Else the group continues.
-    fn end_line<W: Write>(
+    /// Writes the output for what is left, which is the last group.
+    pub(super) fn write_last<W: Write>(
         &mut self,
         conversion: Conversion,
         output: &mut Watched<W>,
     ) -> Result<(), IoFault>
         requires works { has_failed output.old ≡ false }
-        requires in_group { IsInGroup conversion.to (group_bytes self.old) }
-        ensures ok { OnOk result (WritesFront conversion (group_bytes self.old ++ line_feed ∷ [])
-            (group_bytes self.new) (W.contents (device_of output.old))
-            (W.contents (device_of output.new))) }
-        ensures in_group { OnOk result (IsInGroup conversion.to (group_bytes self.new)) }
-        ensures cannot_write { IsErrOf result IoFault.CannotWrite → (more : List ℕ)
-            → AppendsPrefix (W.contents (device_of output.old))
-            (W.contents (device_of output.new))
-            (outputs_of conversion ((group_bytes self.old ++ line_feed ∷ []) ++ more)) }
-        ensures out_of_memory { IsErrOf result IoFault.OutOfMemory → output.new ≡ output.old }
-        ensures failed { IsErrOf result IoFault.CannotWrite ↔ IsTrue (has_failed output.new) }
-        ensures no_reader { IfErr result (λ fault. fault ≢ IoFault.CannotRead) }
-    {
-        if continues(conversion.to, &self.bytes) {
-            self.bytes.extend_from_slice(b"\n")?;
-            return Ok(());
-        }
-        self.write(conversion, b"\n", output)
-    }
-
-    /// Writes the output for the group and this end of it. On `Ok` a new group begins.
-    pub(super) fn write<W: Write>(
-        &mut self,
-        conversion: Conversion,
-        end: &[u8],
-        output: &mut Watched<W>,
-    ) -> Result<(), IoFault>
-        requires { has_failed output.old ≡ false }
+        requires none { gathered self.old ≡ [] }
         ensures ok { OnOk result (Appends (W.contents (device_of output.old))
-            (W.contents (device_of output.new))
-            (output_of conversion (group_bytes self.old) ++ end.now)) }
-        ensures next { OnOk result (group_bytes self.new ≡ []) }
+            (W.contents (device_of output.new)) (output_of conversion (group_bytes self.old))) }
         ensures cannot_write { IsErrOf result IoFault.CannotWrite
             → AppendsPrefix (W.contents (device_of output.old))
-            (W.contents (device_of output.new))
-            (output_of conversion (group_bytes self.old) ++ end.now) }
+            (W.contents (device_of output.new)) (output_of conversion (group_bytes self.old)) }
         ensures out_of_memory { IsErrOf result IoFault.OutOfMemory → output.new ≡ output.old }
         ensures failed { IsErrOf result IoFault.CannotWrite ↔ IsTrue (has_failed output.new) }
         ensures no_reader { IfErr result (λ fault. fault ≢ IoFault.CannotRead) }
     {
-        self.prepared.clear();
-        self.prepared.push_group(conversion, &self.bytes)?;
-        self.prepared.push(end)?;
-        write_whole(output, self.prepared.as_bytes()).map_err(|_| IoFault::CannotWrite)?;
-        self.bytes.clear();
+        self.outputs.push_group(conversion, &self.bytes)?;
+        self.write_gathered(output)
+    }
+
+    // Ends the line with these bytes, the last of which is its line feed. Appends the output for the
+    // group if it ends in the line.
+    fn end_line(&mut self, conversion: Conversion, bytes: &[u8]) -> Result<(), AllocError>
+        requires reading { IsReading conversion.to self.old }
+        requires line { IsEndedLine bytes.now }
+        ensures reading { OnOk result (IsReading conversion.to self.new) }
+        ensures ok { OnOk result (Gathers conversion (group_bytes self.old ++ bytes.now)
+            (group_bytes self.new) (gathered self.old) (gathered self.new)) }
+    {
+        self.bytes.extend_from_slice(bytes)?;
+        let line = &self.bytes[self.line..];
+        let Some(size) = end_of_group(conversion.to, self.line > 0, line) else {
+            self.begin_line();
+            return Ok(());
+        };
+        self.end_group(conversion, self.line + size)
+    }
+
+    // Appends the output for the group, which has so many bytes. Those after them begin the next group.
+    fn end_group(&mut self, conversion: Conversion, size: usize) -> Result<(), AllocError>
+        requires { size ≤ length (group_bytes self.old) }
+        ensures bytes { OnOk result (group_bytes self.new ≡ drop size (group_bytes self.old)) }
+        ensures line { OnOk result (self.new.line ≡ length (group_bytes self.new)) }
+        ensures ok { OnOk result (gathered self.new
+            ≡ gathered self.old ++ output_of conversion (take size (group_bytes self.old))) }
+    {
+        self.outputs.push_group(conversion, &self.bytes[..size])?;
+        self.bytes.drain(..size);
+        self.begin_line();
+        Ok(())
+    }
+
+    // All bytes so far are lines that have ended.
+    fn begin_line(&mut self)
+        ensures bytes { group_bytes self.new ≡ group_bytes self.old }
+        ensures line { self.new.line ≡ length (group_bytes self.old) }
+        ensures same { gathered self.new ≡ gathered self.old }
+    {
+        self.line = self.bytes.len();
+    }
+
+    // Writes the outputs if there are many.
+    fn write_if_full<W: Write>(&mut self, output: &mut Watched<W>) -> Result<(), IoFault>
+        requires works { has_failed output.old ≡ false }
+        ensures same { group_bytes self.new ≡ group_bytes self.old }
+        ensures line { self.new.line ≡ self.old.line }
+        ensures ok { OnOk result (((gathered self.new ≡ gathered self.old)
+            × (W.contents (device_of output.new) ≡ W.contents (device_of output.old)))
+            ⊎ ((gathered self.new ≡ []) × Appends (W.contents (device_of output.old))
+            (W.contents (device_of output.new)) (gathered self.old))) }
+        ensures cannot_write { OnErr result (AppendsPrefix (W.contents (device_of output.old))
+            (W.contents (device_of output.new)) (gathered self.old)) }
+        ensures failed { IsErr result ↔ IsTrue (has_failed output.new) }
+        ensures no_other { IfErr result (λ fault. fault ≡ IoFault.CannotWrite) }
+    {
+        if self.outputs.as_bytes().len() < LEAST {
+            return Ok(());
+        }
+        self.write_gathered(output)
+    }
+
+    // Writes the outputs, if there are any.
+    fn write_gathered<W: Write>(&mut self, output: &mut Watched<W>) -> Result<(), IoFault>
+        requires works { has_failed output.old ≡ false }
+        ensures same { group_bytes self.new ≡ group_bytes self.old }
+        ensures line { self.new.line ≡ self.old.line }
+        ensures ok { OnOk result (Appends (W.contents (device_of output.old))
+            (W.contents (device_of output.new)) (gathered self.old)) }
+        ensures none { OnOk result (gathered self.new ≡ []) }
+        ensures cannot_write { OnErr result (AppendsPrefix (W.contents (device_of output.old))
+            (W.contents (device_of output.new)) (gathered self.old)) }
+        ensures failed { IsErr result ↔ IsTrue (has_failed output.new) }
+        ensures no_other { IfErr result (λ fault. fault ≡ IoFault.CannotWrite) }
+    {
+        if self.outputs.as_bytes().is_empty() {
+            return Ok(());
+        }
+        write_whole(output, self.outputs.as_bytes()).map_err(|_| IoFault::CannotWrite)?;
+        self.outputs.clear();
         Ok(())
     }
 }
 
-// Whether the group continues after these lines of it. Where texts are made pretty, a group is one line.
-fn continues(mode: Mode, group: &[u8]) -> bool
-    requires { IsInGroup mode group.now }
-    ensures { result ≡ continues_after mode group.now }
+// How many bytes of the line are the last of its group, if the group ends in the line. It is inside if
+// the group has lines before it.
+fn end_of_group(mode: Mode, inside: bool, line: &[u8]) -> Option<usize>
+    requires { IsEndedLine line.now }
+    ensures { IsEndOf mode inside line.now result }
 {
     match mode {
-        Mode::Pretty => false,
-        Mode::Plain => match last_line(group) {
-            None => opens(group),
-            Some(line) => opens(line) || is_indented(line),
+        Mode::Pretty => Some(line.len()),
+        Mode::Plain => match (opens(line), is_indented(line)) {
+            (true, false) => Some(word_start(line, line.len() - 2)),
+            (true, true) => None,
+            (false, true) if inside => None,
+            (false, _) => Some(line.len()),
         },
     }
 }
 
-// The bytes after the last line feed, if there is one.
-fn last_line(text: &[u8]) -> Option<&[u8]>
-    ensures { MatchOption result (IsInLine text.now) (λ line. IsInLine line.now
-        × ((front : List ℕ) × (text.now ≡ front ++ line_feed ∷ line.now))) }
-{
-    let mut start = text.len();
-    while start > 0 {
-        if text[start - 1] == b'\n' {
-            return Some(&text[start..]);
-        }
-        start -= 1;
-    }
-    None
-}
-
-// Whether the line ends with an opening bracket.
+// Whether the line ends with an opening bracket and a line feed.
 fn opens(line: &[u8]) -> bool
     ensures { result ≡ opens line.now }
 {
-    match line.last() {
-        Some(byte) => is_opening(*byte),
-        None => false,
-    }
+    line.len() > 1 && line[line.len() - 1] == b'\n' && is_opening(line[line.len() - 2])
 }
 
 // Whether the line begins with a space.
@@ -176,14 +220,36 @@ fn is_indented(line: &[u8]) -> bool
     }
 }
 
-// The bytes before the first line feed, and those after it.
+// Where the word of this bracket begins.
+fn word_start(line: &[u8], bracket: usize) -> usize
+    requires { bracket < length line.now }
+    ensures start { result ≡ word_start line.now bracket }
+    ensures within { result ≤ bracket }
+{
+    if is_spaced_brace(line, bracket) {
+        run_start(line, 0, bracket - 1)
+    } else {
+        run_start(line, 0, bracket)
+    }
+}
+
+// Whether a brace is here, after a space.
+fn is_spaced_brace(line: &[u8], bracket: usize) -> bool
+    requires { bracket < length line.now }
+    ensures is { result ≡ is_spaced_brace line.now bracket }
+    ensures some { result ≡ true → 0 < bracket }
+{
+    line[bracket] == b'{' && bracket > 0 && line[bracket - 1] == b' '
+}
+
+// The first line with its line feed, and what follows it, or `None` if there is no line feed.
 fn split_line(text: &[u8]) -> Option<(&[u8], &[u8])>
-    ensures { MatchOption result (IsInLine text.now) (λ x. IsInLine x.0.now
-        × (text.now ≡ x.0.now ++ line_feed ∷ x.1.now)) }
+    ensures { MatchOption result (IsInLine text.now) (λ x. IsEndedLine x.0.now
+        × (text.now ≡ x.0.now ++ x.1.now)) }
 {
     let end = line_len(text);
     if end < text.len() {
-        Some((&text[..end], &text[end + 1..]))
+        Some((&text[..end + 1], &text[end + 1..]))
     } else {
         None
     }

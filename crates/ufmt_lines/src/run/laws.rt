@@ -1,5 +1,10 @@
 //! Laws, each as the contract of a function.
-ghost use Rattle.ufmt_lines.specs.OutputLaws.{LinesAreMadePretty, PlainTextsComeBack, PrettyRestIsInLine};
+ghost use Rattle.ufmt_lines.specs.OutputLaws.{GroupsAreTheText, LinesAreMadePretty, PlainTextsComeBack, PrettyRestIsInLine};
+
+/// The groups of a text, put together, are the text.
+pub fn groups_are_the_text()
+    ensures { GroupsAreTheText }
+{}
 
 /// Where texts are made pretty, each line is a group by itself. A rest in which no line ends has no
 /// line feed.

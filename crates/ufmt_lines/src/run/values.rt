@@ -120,8 +120,8 @@ fn begins_with_space(text: &[u8]) -> bool
     }
 }
 
-// Where the longest run of bytes of a name begins that ends here.
-fn run_start(text: &[u8], low: usize, end: usize) -> usize
+/// Where the longest run of bytes of a name begins that ends here.
+pub(super) fn run_start(text: &[u8], low: usize, end: usize) -> usize
     requires low { low ≤ end }
     requires within { end ≤ length text.now }
     ensures start { result ≡ run_start text.now low end }

@@ -5,7 +5,7 @@ use Rattle.ufmt_lines.specs.Groups.{IsInGroup}
 use Rattle.ufmt_lines.specs.Private.Group.{group_bytes}
 use Rattle.ufmt_io.specs.Watched.{device_of}
 use Rattle.ufmt_lines.proofs.Consumed.{WritesUpTo, last_written, last_in_part, nothing_read, read_as, read_in_part, read_kept, read_more, read_nothing}
-use Rattle.ufmt_lines.proofs.Groups.{nothing_in_group}
+use Rattle.ufmt_lines.proofs.Readings.{reading_nothing, reading_one, reading_within}
 use Rattle.ufmt_lines.proofs.run.run.Goals as goal
 
 pub returns-in_err-chunk-clause-out_of_memory : goal.returns-in_err-chunk-clause-out_of_memory
@@ -15,41 +15,43 @@ pub reads-init : goal.reads-init
 reads-init g c = record {
   input_works = c.requires.input_works;
   output_works = c.requires.output_works;
-  in_group = subst (IsInGroup c.args.conversion.to) (sym c.new-group.ensures) (nothing_in_group c.args.conversion.to);
+  reading = reading_nothing c.args.conversion.to c.new-group.result c.new-group.ensures.bytes c.new-group.ensures.line;
+  none = c.new-group.ensures.outputs;
   room = c.in_ok-chunk.ensures;
   so_far = subst (λ group. WritesUpTo c.args.conversion group (g.R.Read.remaining (device_of c.args.input.now)) (g.R.Read.remaining (device_of c.args.input.now))
-      (g.W.Write.contents (device_of c.args.output.now)) (g.W.Write.contents (device_of c.args.output.now))) (sym c.new-group.ensures) (nothing_read c.args.conversion _ _);
+      (g.W.Write.contents (device_of c.args.output.now)) (g.W.Write.contents (device_of c.args.output.now))) (sym c.new-group.ensures.bytes) (nothing_read c.args.conversion _ _);
 }
 
 pub reads-preserved : goal.reads-preserved
 reads-preserved g c = record {
   input_works = c.in_ok-count.ensures.works;
   output_works = search rules;
-  in_group = c.in_ok-write_ended.ensures.in_group;
+  reading = c.in_ok-write_ended.ensures.reading;
+  none = c.in_ok-write_ended.ensures.none;
   room = c.in_ok-count.ensures.room;
   so_far = read_more c.args.conversion _ _ _ _ _ c.reads.invariant.so_far _ _ _ c.in_ok-count.ensures.ok
       (λ rest. rest ≡ group_bytes c.write_ended.new.self) _ refl (rw c.front.ensures at c.in_ok-write_ended.ensures.ok);
 }
 
 pub returns-in_err-count-clause-cannot_read : goal.returns-in_err-count-clause-cannot_read
-returns-in_err-count-clause-cannot_read g c = λ failed. read_kept c.args.conversion _ _ _ _ _ c.reads.invariant.so_far _ (IsInGroup c.args.conversion.to) c.reads.invariant.in_group c.in_err-count.ensures.kept
+returns-in_err-count-clause-cannot_read g c = λ failed. read_kept c.args.conversion _ _ _ _ _ c.reads.invariant.so_far _ (IsInGroup c.args.conversion.to) (reading_within c.args.conversion.to c.reads.group c.reads.invariant.reading) c.in_err-count.ensures.kept
 
 pub returns-then-count-eq0-clause-ok : goal.returns-then-count-eq0-clause-ok
-returns-then-count-eq0-clause-ok g c = on_ok_weaker c.write.result (λ written.
+returns-then-count-eq0-clause-ok g c = on_ok_weaker c.write_last.result (λ written.
     last_written c.args.conversion _ _ _ _ _ c.reads.invariant.so_far _ _ (rw c.if-count-eq0.true at c.in_ok-count.ensures.ok)
-    (c.in_ok-count.ensures.end c.if-count-eq0.true) c.reads.invariant.in_group written) c.write.ensures.ok
+    (c.in_ok-count.ensures.end c.if-count-eq0.true) (reading_one c.args.conversion.to c.reads.group c.reads.invariant.reading) written) c.write_last.ensures.ok
 
 pub returns-then-count-eq0-clause-read_whole : goal.returns-then-count-eq0-clause-read_whole
-returns-then-count-eq0-clause-read_whole g c = on_ok_weaker c.write.result (λ written. c.in_ok-count.ensures.end c.if-count-eq0.true) c.write.ensures.ok
+returns-then-count-eq0-clause-read_whole g c = on_ok_weaker c.write_last.result (λ written. c.in_ok-count.ensures.end c.if-count-eq0.true) c.write_last.ensures.ok
 
 pub returns-then-count-eq0-clause-cannot_write : goal.returns-then-count-eq0-clause-cannot_write
 returns-then-count-eq0-clause-cannot_write g c = λ failed.
     last_in_part c.args.conversion _ _ _ _ _ c.reads.invariant.so_far _ _ (rw c.if-count-eq0.true at c.in_ok-count.ensures.ok)
-    (c.in_ok-count.ensures.end c.if-count-eq0.true) c.reads.invariant.in_group (c.write.ensures.cannot_write failed)
+    (c.in_ok-count.ensures.end c.if-count-eq0.true) (reading_one c.args.conversion.to c.reads.group c.reads.invariant.reading) (c.write_last.ensures.cannot_write failed)
 
 pub returns-then-count-eq0-clause-out_of_memory : goal.returns-then-count-eq0-clause-out_of_memory
 returns-then-count-eq0-clause-out_of_memory g c = λ failed.
-    rw (c.write.ensures.out_of_memory failed)
+    rw (c.write_last.ensures.out_of_memory failed)
     (read_nothing c.args.conversion _ _ _ _ _ c.reads.invariant.so_far _ (λ rest. ⊤) tt (rw c.if-count-eq0.true at c.in_ok-count.ensures.ok))
 
 pub returns-in_err-write_ended-clause-cannot_write : goal.returns-in_err-write_ended-clause-cannot_write
@@ -63,4 +65,4 @@ returns-in_err-write_ended-clause-out_of_memory g c = λ failed.
     read_more c.args.conversion _ _ _ _ _ c.reads.invariant.so_far _ _ _ c.in_ok-count.ensures.ok (λ rest. ⊤) part.0 tt (rw c.front.ensures at part.1)
 
 pub returns-clause-cannot_read : goal.returns-clause-cannot_read
-returns-clause-cannot_read g c = λ failed. rw c.give_up.ensures.device (read_as c.args.conversion _ _ _ _ _ c.reads.invariant.so_far (IsInGroup c.args.conversion.to) c.reads.invariant.in_group)
+returns-clause-cannot_read g c = λ failed. rw c.give_up.ensures.device (read_as c.args.conversion _ _ _ _ _ c.reads.invariant.so_far (IsInGroup c.args.conversion.to) (reading_within c.args.conversion.to c.reads.group c.reads.invariant.reading))

@@ -24,36 +24,33 @@ fn row_of(alloc: Global, (mode, text, read, written): Run<'_>, fails_at: usize) 
     calls.into_inner().row
 }
 
-// An output of 20 bytes, one of two, one of one, and one of 17 after the end.
+// Outputs of 20 bytes, of two, of one, and one of 17 after the end.
 const LINES: &[u8] = b"a [1, 2]\nb\n\n[2, 3]";
 
-// Groups that end after 13 bytes, after 15 and at the end of 30, with outputs of 6, 2 and 10 bytes.
+// Groups that end after 4 bytes, after 13, after 15 and at the end of 30, with outputs of 2, 4, 2 and 10 bytes.
 const GROUPS: &[u8] = b"a [\n    1,\n]\nb\nS {\n    c: d,\n}";
 
 const ROWS: [(Run<'static>, &str); 17] = [
-    ((Mode::Pretty, LINES, WHOLE, WHOLE), "rwfwfwf0wf"),
-    ((Mode::Pretty, LINES, 4, WHOLE), "rrrwfwfwfrr0wf"),
+    ((Mode::Pretty, LINES, WHOLE, WHOLE), "rwf0wf"),
+    ((Mode::Pretty, LINES, 4, WHOLE), "rrrwfrr0wf"),
     (
         (Mode::Pretty, LINES, 1, WHOLE),
         "rrrrrrrrrwfrrwfrwfrrrrrr0wf",
     ),
-    ((Mode::Pretty, LINES, WHOLE, 5), "rwwwwfwfwf0wwwwf"),
-    (
-        (Mode::Pretty, LINES, WHOLE, 2),
-        "rwwwwwwwwwwfwfwf0wwwwwwwwwf",
-    ),
-    ((Mode::Pretty, LINES, WHOLE, 20), "rwfwfwf0wf"),
-    ((Mode::Pretty, b"", WHOLE, WHOLE), "0f"),
+    ((Mode::Pretty, LINES, WHOLE, 5), "rwwwwwf0wwwwf"),
+    ((Mode::Pretty, LINES, WHOLE, 2), "rwwwwwwwwwwwwf0wwwwwwwwwf"),
+    ((Mode::Pretty, LINES, WHOLE, 20), "rwwf0wf"),
+    ((Mode::Pretty, b"", WHOLE, WHOLE), "0"),
     ((Mode::Pretty, b"a", WHOLE, WHOLE), "r0wf"),
-    ((Mode::Pretty, b"[a, b]\n", WHOLE, WHOLE), "rwf0f"),
-    ((Mode::Pretty, b"\n\n\n", WHOLE, 1), "rwfwfwf0f"),
-    ((Mode::Plain, GROUPS, WHOLE, WHOLE), "rwfwf0wf"),
-    ((Mode::Plain, GROUPS, 7, WHOLE), "rrwfrwfrr0wf"),
-    ((Mode::Plain, GROUPS, WHOLE, 4), "rwwfwf0wwwf"),
-    ((Mode::Plain, GROUPS, WHOLE, 5), "rwwfwf0wwf"),
-    ((Mode::Plain, b"a [\n    1,\n    2", WHOLE, WHOLE), "r0wf"),
+    ((Mode::Pretty, b"[a, b]\n", WHOLE, WHOLE), "rwf0"),
+    ((Mode::Pretty, b"\n\n\n", WHOLE, 1), "rwwwf0"),
+    ((Mode::Plain, GROUPS, WHOLE, WHOLE), "rwf0wf"),
+    ((Mode::Plain, GROUPS, 7, WHOLE), "rwfrwfrwfrr0wf"),
+    ((Mode::Plain, GROUPS, WHOLE, 4), "rwwf0wwwf"),
+    ((Mode::Plain, GROUPS, WHOLE, 5), "rwwf0wwf"),
+    ((Mode::Plain, b"a [\n    1,\n    2", WHOLE, WHOLE), "rwf0wf"),
     ((Mode::Plain, b"[\n", 1, WHOLE), "rr0wf"),
-    ((Mode::Plain, b"[1]\n\n", WHOLE, WHOLE), "rwfwf0f"),
+    ((Mode::Plain, b"[1]\n\n", WHOLE, WHOLE), "rwf0"),
 ];
 
 // Whether each run that fails at a call ends with this call.
@@ -70,8 +67,8 @@ fn ends_at_any_failure(alloc: Global, input: Run<'_>, calls: &str) -> Result<boo
     Ok(true)
 }
 
-// Each output is one write if the writer takes it whole, and one flush follows. Nothing is read before
-// the outputs for what was read are written, or after the end, and no device is called after a failure.
+// The outputs for what a read gave are one write if the writer takes it whole, and one flush follows.
+// Nothing is read before they are written, or after the end, and no device is called after a failure.
 #[test]
 fn devices_are_called_no_more_than_needed(rt: HostRuntime) -> Result<(), Fail> {
     for (input, calls) in ROWS {
@@ -96,15 +93,15 @@ fn counts_of(row: &str) -> (usize, usize, usize) {
     (reads, writes, flushes)
 }
 
-// A chunk of 64 KiB takes one read, and the end one more.
+// A chunk of 64 KiB takes one read, and the end one more. The outputs for it are one write.
 #[test]
 fn a_chunk_takes_one_read(rt: HostRuntime) -> Result<(), Fail> {
     let rows: [(Mode, &[u8; 16], usize, (usize, usize, usize)); 5] = [
         (Mode::Pretty, b"aaaaaaaaaaaaaaaa", 65_536, (17, 1, 1)),
         (Mode::Plain, b"aaaaaaaaaaaaaaaa", 65_536, (17, 1, 1)),
-        (Mode::Pretty, b"a [12345, 6789]\n", 8192, (3, 8192, 8193)),
-        (Mode::Plain, b"[\n    123456,\n]\n", 8192, (3, 8192, 8193)),
-        (Mode::Plain, b"[\n    1234567,\n]", 8192, (3, 1, 1)),
+        (Mode::Pretty, b"a [12345, 6789]\n", 8192, (3, 2, 2)),
+        (Mode::Plain, b"[\n    123456,\n]\n", 8192, (3, 2, 2)),
+        (Mode::Plain, b"[\n    1234567,\n]", 8192, (3, 3, 3)),
     ];
     for (mode, piece, count, wanted) in rows {
         let mut text = Vec::new(rt.alloc());
@@ -113,6 +110,30 @@ fn a_chunk_takes_one_read(rt: HostRuntime) -> Result<(), Fail> {
         }
         let row = row_of(rt.alloc(), (mode, &text, usize::MAX, usize::MAX), NEVER);
         same(&rt, counts_of(&row), wanted, "reads, writes and flushes");
+    }
+    Ok(())
+}
+
+// Each line has 100 lists in one another, and 40,905 bytes of output. Those of 26 lines are 1 MiB and more.
+#[test]
+fn long_outputs_of_a_read_are_written_on_the_way(rt: HostRuntime) -> Result<(), Fail> {
+    let mut line = vec![in rt.alloc(); b'['; 100]?;
+    line.extend_from_slice(b"x, y")?;
+    line.resize(204, b']')?;
+    line.push(b'\n')?;
+    for (lines, writes) in [(1, 1), (25, 1), (26, 1), (27, 2), (52, 2), (80, 4)] {
+        let mut text = Vec::new(rt.alloc());
+        for _ in 0..lines {
+            text.extend_from_slice(&line)?;
+        }
+        let run = (Mode::Pretty, text.as_slice(), usize::MAX, usize::MAX);
+        let row = row_of(rt.alloc(), run, NEVER);
+        same(
+            &rt,
+            counts_of(&row),
+            (2, writes, writes),
+            "reads, writes and flushes",
+        );
     }
     Ok(())
 }

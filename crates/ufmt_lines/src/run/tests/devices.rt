@@ -11,8 +11,11 @@ const PLAIN: &[u8] = b"got [1, 2]\n\nx\nS { a: b, c: d }\nend {c, d}";
 const PRETTY: &[u8] =
     b"got [\n    1,\n    2,\n]\n\nx\nS {\n    a: b,\n    c: d,\n}\nend {\n    c,\n    d,\n}";
 
-// How many bytes there are of each up to the end of a line of the first, and of its output.
-const ENDS: [(usize, usize); 4] = [(11, 22), (12, 23), (14, 25), (31, 51)];
+// How many bytes there are of the first up to the end of a line, and of its output.
+const PLAIN_ENDS: [(usize, usize); 4] = [(11, 22), (12, 23), (14, 25), (31, 51)];
+
+// How many bytes of the second are read when a group of it has ended, and how many there are of its output.
+const PRETTY_ENDS: [(usize, usize); 5] = [(6, 4), (22, 11), (23, 12), (25, 14), (51, 31)];
 
 // The input of a run, and its output.
 fn texts(mode: Mode) -> (&'static [u8], &'static [u8]) {
@@ -22,20 +25,25 @@ fn texts(mode: Mode) -> (&'static [u8], &'static [u8]) {
     }
 }
 
-// The same numbers for the input and the output of a run.
-fn ends(mode: Mode) -> [(usize, usize); 4] {
+// These numbers for a run.
+fn ends(mode: Mode) -> &'static [(usize, usize)] {
     match mode {
-        Mode::Pretty => ENDS,
-        Mode::Plain => ENDS.map(|(plain, pretty)| (pretty, plain)),
+        Mode::Pretty => &PLAIN_ENDS,
+        Mode::Plain => &PRETTY_ENDS,
     }
+}
+
+// How many bytes of output there are for the groups that end before the last.
+fn written_first(mode: Mode) -> usize {
+    written_for(mode, usize::MAX)
 }
 
 // How many bytes of output there are for the lines that end within this many bytes of the input.
 fn written_for(mode: Mode, read: usize) -> usize {
     let mut count = 0;
     for (input, output) in ends(mode) {
-        if input <= read {
-            count = output;
+        if *input <= read {
+            count = *output;
         }
     }
     count
@@ -74,14 +82,14 @@ fn a_reader_that_fails_loses_no_line_before(rt: HostRuntime) {
     }
 }
 
-// A writer takes a byte a call, and each of the five outputs is flushed.
+// A writer takes a byte a call. It is flushed before the second read.
 #[test]
 fn a_writer_that_fails_has_a_prefix(rt: HostRuntime) {
     for mode in MODES {
         let (input, output) = texts(mode);
         let mut calls = 0usize;
         for taken in 0..output.len() {
-            let is_flushed = ends(mode).iter().any(|(_, end)| *end == taken);
+            let is_flushed = taken == written_first(mode);
             calls = calls.saturating_add(1 + usize::from(is_flushed));
             let source = Source::new(input, WHOLE, NEVER);
             let sink = Sink::new(rt.alloc(), 1, calls, false);
@@ -101,7 +109,7 @@ fn a_writer_that_fails_has_a_prefix(rt: HostRuntime) {
 fn a_writer_that_takes_nothing_or_fails_at_the_flush_ends_the_run(rt: HostRuntime) {
     for mode in MODES {
         let (input, output) = texts(mode);
-        let first = &output[..ends(mode)[0].1.min(output.len())];
+        let first = &output[..written_first(mode).min(output.len())];
         let rows: [(usize, bool, &[u8]); 3] = [
             (0, false, b""),
             (1, true, first),

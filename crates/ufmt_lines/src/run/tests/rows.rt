@@ -189,7 +189,7 @@ const BY_LENGTH: [(&[u8], &[u8]); 12] = [
 ];
 
 // Groups of lines, and the same with pretty texts made plain.
-const GROUPS: [(&[u8], &[u8]); 22] = [
+const GROUPS: [(&[u8], &[u8]); 27] = [
     (b"a [\n    1,\n]\nb", b"a [1]\nb"),
     (b"[\n    1,\n]\n[\n    2,\n]", b"[1]\n[2]"),
     (b"\n(\n    1,\n)\n\n", b"\n(1,)\n\n"),
@@ -221,6 +221,20 @@ const GROUPS: [(&[u8], &[u8]); 22] = [
         b"Some(\n    [\n        1,\n    ],\n) [1, 2] (\n    2,\n)",
         b"Some([1]) [1, 2] (2,)",
     ),
+    (
+        b"a {\nb {\nc(\nS {\n    d: e,\n}\n",
+        b"a {\nb {\nc(\nS { d: e }\n",
+    ),
+    (
+        b"x [\n    1,\n] b [\n    2,\n](\n    3,\n)",
+        b"x [1] b [2](3,)",
+    ),
+    (
+        b"a [\n    b {\nS {\n    c: [\n        1,\n    ],\n}\n",
+        b"a [\n    b {\nS { c: [1] }\n",
+    ),
+    (b"  a [\n    1,\n]\n  b(\n    2,\n)", b"  a [1]\n  b(2)"),
+    (b"x: {\n    a: b,\n}\nx  {\n    a,\n}", b"x: {a: b}\nx  {a}"),
 ];
 
 // Groups of lines that stay as they are.

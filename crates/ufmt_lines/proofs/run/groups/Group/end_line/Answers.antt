@@ -1,20 +1,37 @@
-use Rattle.std.proofs.Common.{◌∙◌, sym}
-use Rattle.ufmt_lines.proofs.Fronts.{group_ended, group_in_part, nothing_written}
-use Rattle.ufmt_lines.proofs.Groups.{in_group_next}
+use Rattle.std.proofs.Common.{◌∙◌, ◌++◌, ap, refl, sym, length}
+use Rattle.std.proofs.lemmas.List.{take_rest}
+use Rattle.ufmt_lines.specs.Private.Group.{gathered, group_bytes}
+use Rattle.ufmt_lines.proofs.Fronts.{nothing_gathered}
+use Rattle.ufmt_lines.proofs.Outcomes.{on_ok_both}
+use Rattle.ufmt_lines.proofs.Readings.{group_gathered, line_ended, line_ends_group, line_open, reading_lines, rest_read}
 use Rattle.ufmt_lines.proofs.run.groups.Group.end_line.Goals as goal
 
-pub returns-then-continues-clause-ok : goal.returns-then-continues-clause-ok
-returns-then-continues-clause-ok g c = rw c.in_ok-extend_from_slice.ensures.items (nothing_written c.args.conversion _ _)
+pub end_of_group-requires : goal.end_of_group-requires
+end_of_group-requires c =
+    rw (take_rest, c.deref.ensures.value, c.in_ok-extend_from_slice.ensures.items)
+    (line_ended c.args.conversion.to c.args.self.now c.args.bytes.now c.requires.reading c.requires.line)
 
-pub returns-then-continues-clause-in_group : goal.returns-then-continues-clause-in_group
-returns-then-continues-clause-in_group g c =
-    rw c.in_ok-extend_from_slice.ensures.items (in_group_next c.args.conversion.to _ c.requires.in_group (rw c.deref.ensures.value at (sym c.continues.ensures ∙ c.if-continues.true)))
+pub returns-in_default-clause-reading : goal.returns-in_default-clause-reading
+returns-in_default-clause-reading c =
+    let found = rw (take_rest, c.deref.ensures.value, c.in_ok-extend_from_slice.ensures.items) at c.in_default.ensures in
+    reading_lines c.args.conversion.to c.begin_line.new.self (group_bytes c.args.self.now ++ c.args.bytes.now) (c.begin_line.ensures.bytes ∙ c.in_ok-extend_from_slice.ensures.items)
+    (c.begin_line.ensures.line ∙ ap length (sym c.begin_line.ensures.bytes)) (line_open c.args.conversion.to c.args.self.now c.args.bytes.now c.requires.reading c.requires.line _ refl found)
+
+pub returns-in_default-clause-ok : goal.returns-in_default-clause-ok
+returns-in_default-clause-ok c =
+    rw (c.begin_line.ensures.bytes, c.in_ok-extend_from_slice.ensures.items, c.begin_line.ensures.same)
+    (nothing_gathered c.args.conversion (group_bytes c.args.self.now ++ c.args.bytes.now) (gathered c.args.self.now))
+
+pub returns-clause-reading : goal.returns-clause-reading
+returns-clause-reading c =
+    let found = rw (take_rest, c.deref.ensures.value, c.in_ok-extend_from_slice.ensures.items) at c.in-Some.ensures in
+    let ends = line_ends_group c.args.conversion.to c.args.self.now c.args.bytes.now c.requires.reading c.requires.line _ c.in-Some.size refl found in
+    on_ok_both c.end_group.result (λ bytes line. rest_read c.args.conversion c.args.self.now c.args.bytes.now c.requires.reading c.requires.line c.in-Some.size ends c.end_group.new.self bytes line)
+    (rw c.in_ok-extend_from_slice.ensures.items at c.end_group.ensures.bytes) c.end_group.ensures.line
 
 pub returns-clause-ok : goal.returns-clause-ok
-returns-clause-ok g c =
-    group_ended c.args.conversion _ _ _ c.requires.in_group (rw c.deref.ensures.value at (sym c.continues.ensures ∙ c.if-continues.false))
-    c.write.result _ c.write.ensures.ok c.write.ensures.next
-
-pub returns-clause-cannot_write : goal.returns-clause-cannot_write
-returns-clause-cannot_write g c = λ failed.
-    group_in_part c.args.conversion _ _ _ c.requires.in_group (rw c.deref.ensures.value at (sym c.continues.ensures ∙ c.if-continues.false)) (c.write.ensures.cannot_write failed)
+returns-clause-ok c =
+    let found = rw (take_rest, c.deref.ensures.value, c.in_ok-extend_from_slice.ensures.items) at c.in-Some.ensures in
+    let ends = line_ends_group c.args.conversion.to c.args.self.now c.args.bytes.now c.requires.reading c.requires.line _ c.in-Some.size refl found in
+    on_ok_both c.end_group.result (λ bytes more. group_gathered c.args.conversion c.args.self.now c.args.bytes.now c.requires.reading c.requires.line c.in-Some.size ends _ _ _ bytes more)
+    (rw c.in_ok-extend_from_slice.ensures.items at c.end_group.ensures.bytes) (rw c.in_ok-extend_from_slice.ensures.items at c.end_group.ensures.ok)

@@ -1,34 +1,52 @@
-use Rattle.std.proofs.Common.{◌++◌, rules}
-use Rattle.ufmt_lines.specs.Private.Group.{group_bytes}
-use Rattle.ufmt_lines.proofs.Fronts.{line_ended, line_in_part, nothing_written}
-use Rattle.ufmt_lines.proofs.Groups.{in_group_more}
+use Rattle.std.proofs.Common.{◌∙◌, ◌++◌, rules, subst, sym, []}
+use Rattle.std.proofs.lemmas.Result.{on_ok_weaker}
+use Rattle.ufmt_lines.specs.Private.Group.{Gathers, group_bytes}
+use Rattle.ufmt_lines.proofs.Fronts.{all_written, line_gathered, nothing_gathered, nothing_written, written_if_full, written_in_part}
+use Rattle.ufmt_lines.proofs.Outcomes.{holds_of_error}
+use Rattle.ufmt_lines.proofs.Readings.{reading_more, reading_same}
 use Rattle.ufmt_lines.proofs.run.groups.Group.write_ended.Goals as goal
 
-pub loop-first-init : goal.loop-first-init
-loop-first-init g c = record {
+pub loop-line-init : goal.loop-line-init
+loop-line-init g c = record {
   works = c.requires.works;
-  in_group = c.requires.in_group;
+  reading = c.requires.reading;
+  middle = group_bytes c.args.self.now ++ c.args.bytes.now;
   so_far = nothing_written c.args.conversion (group_bytes c.args.self.now ++ c.args.bytes.now) _;
+  gathers = subst (Gathers c.args.conversion _ _ []) (sym c.requires.none) (nothing_gathered c.args.conversion (group_bytes c.args.self.now ++ c.args.bytes.now) []);
 }
 
-pub end_line-requires-clause-in_group : goal.end_line-requires-clause-in_group
-end_line-requires-clause-in_group g c =
-    rw c.in_ok-extend_from_slice.ensures.items (in_group_more c.args.conversion.to _ c.in-Some.first.now c.loop-first.invariant.in_group c.in-Some.ensures.0)
-
-pub loop-first-preserved : goal.loop-first-preserved
-loop-first-preserved g c =
-    let ended = c.in_ok-end_line.ensures in
+pub loop-line-preserved : goal.loop-line-preserved
+loop-line-preserved g c =
+    let ended = c.in_ok-end_line.ensures in let full = c.in_ok-write_if_full.ensures in let so_far = c.loop-line.invariant in
+    let line = line_gathered c.args.conversion so_far.middle _ c.in-Some.line.now c.in-Some.after.now _ _ [] _ _ c.in-Some.ensures.1 so_far.gathers ended.ok in
+    let all = written_if_full c.args.conversion _ so_far.middle _ _ _ _ _ _ so_far.so_far line full.ok in
     record {
       works = search rules;
-      in_group = ended.in_group;
-      so_far = line_ended c.args.conversion _ _ c.in-Some.first.now c.in-Some.after.now _ _ _ _ c.in-Some.ensures.1 c.loop-first.invariant.so_far _
-          (rw c.in_ok-extend_from_slice.ensures.items at ended.ok);
+      reading = reading_same c.args.conversion.to _ _ c.write_if_full.ensures.same c.write_if_full.ensures.line ended.reading;
+      middle = all.0;
+      so_far = all.1;
+      gathers = rw c.write_if_full.ensures.same all.2;
     }
 
-pub returns-clause-in_group : goal.returns-clause-in_group
-returns-clause-in_group g c = rw c.in_ok-extend_from_slice-2.ensures.items (in_group_more c.args.conversion.to _ c.loop-first.rest.now c.loop-first.invariant.in_group c.in_default.ensures)
+pub returns-in_err-write_if_full-clause-cannot_write : goal.returns-in_err-write_if_full-clause-cannot_write
+returns-in_err-write_if_full-clause-cannot_write g c = λ failed.
+    let so_far = c.loop-line.invariant in
+    let line = line_gathered c.args.conversion so_far.middle _ c.in-Some.line.now c.in-Some.after.now _ _ [] _ _ c.in-Some.ensures.1 so_far.gathers c.in_ok-end_line.ensures.ok in
+    written_in_part c.args.conversion _ so_far.middle _ _ _ _ _ so_far.so_far line c.in_err-write_if_full.ensures.cannot_write
 
-pub returns-in_err-end_line-clause-cannot_write : goal.returns-in_err-end_line-clause-cannot_write
-returns-in_err-end_line-clause-cannot_write g c = λ failed.
-    line_in_part c.args.conversion _ _ c.in-Some.first.now c.in-Some.after.now _ _ _ _ c.in-Some.ensures.1 c.loop-first.invariant.so_far
-    (rw c.in_ok-extend_from_slice.ensures.items at (c.in_err-end_line.ensures.cannot_write (search rules)))
+pub returns-clause-ok : goal.returns-clause-ok
+returns-clause-ok g c =
+    let so_far = c.loop-line.invariant in
+    rw (c.write_gathered.ensures.same, c.in_ok-extend_from_slice.ensures.items)
+    (on_ok_weaker c.write_gathered.result (λ written. all_written c.args.conversion _ so_far.middle _ _ _ _ _ so_far.so_far so_far.gathers written) c.write_gathered.ensures.ok)
+
+pub returns-clause-reading : goal.returns-clause-reading
+returns-clause-reading g c =
+    on_ok_weaker c.write_gathered.result (λ written.
+    reading_more c.args.conversion.to c.loop-line.self c.write_gathered.new.self c.loop-line.rest.now (c.write_gathered.ensures.same ∙ c.in_ok-extend_from_slice.ensures.items)
+    c.write_gathered.ensures.line c.in_default.ensures c.loop-line.invariant.reading) c.write_gathered.ensures.ok
+
+pub returns-clause-cannot_write : goal.returns-clause-cannot_write
+returns-clause-cannot_write g c = λ failed.
+    let so_far = c.loop-line.invariant in
+    written_in_part c.args.conversion _ so_far.middle _ _ _ _ _ so_far.so_far so_far.gathers (holds_of_error c.write_gathered.result _ _ failed c.write_gathered.ensures.cannot_write)
