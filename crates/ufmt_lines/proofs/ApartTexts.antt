@@ -1,9 +1,10 @@
--- What follows a byte of no name, that is no space, is converted as if nothing were before it.
-use Rattle.std.proofs.Common.{◌≡◌, ◌⊎◌, inl, inr, ◌∙◌, refl, ap, sym, ℕ, zero, suc, ◌+◌, ◌||◌, Bool, true, List, [], ◌∷◌, ◌++◌, append_assoc, Option, Some, None, drop, take, length, length-append}
-use Rattle.std.proofs.Math.Seq.{drop-append-add, take-append-add}
+-- What follows a byte of no name is converted as if nothing were before it; so is what follows a space, but for a brace.
+use Rattle.std.proofs.Common.{◌≡◌, ◌⊎◌, inl, inr, ◌∙◌, refl, ap, sym, ℕ, zero, suc, ◌+◌, ◌==◌, ◌||◌, Bool, true, false, List, [], ◌∷◌, ◌++◌, append_assoc, Option, Some, None, drop, take, length, length-append, arith}
+use Rattle.std.proofs.Math.Seq.{drop-append-add, get_or-append_seam, take-append-add}
 use Rattle.std.specs.Prelude.{nat_le}
 use Rattle.ufmt.specs.Document.{Document}
-use Rattle.ufmt.specs.Leaves.{is_opening}
+use Rattle.ufmt.specs.Bytes.{opening_brace, space}
+use Rattle.ufmt.specs.Leaves.{begins_with, is_name_byte, is_opening}
 use Rattle.ufmt_lines.proofs.ConvertedSteps.{convert, given_text, no_bracket, no_value, value_step}
 use Rattle.ufmt_lines.proofs.FirstBrackets.{FirstBracket, Without, first_bracket, without_append}
 use Rattle.ufmt_lines.proofs.ValueStarts.{Apart, could_be_later, from_bracket, start_after, start_is, start_later}
@@ -11,11 +12,12 @@ use Rattle.ufmt_lines.specs.Values.{convert_from, if_pretty, is_in_struct, stays
 use Rattle.ufmt_lines.specs.declared.run.conversion.Conversion.{Conversion}
 use Rattle.ufmt_scan.specs.Fronts.{has_one_leaf}
 
-module _ (conversion : Conversion) (y : List ℕ) (c : ℕ) (none : Without is_opening (y ++ c ∷ [])) (apart : Apart c) where
+module _ (conversion : Conversion) (y : List ℕ) (c : ℕ) (none : Without is_opening (y ++ c ∷ [])) (no_name : is_name_byte c ≡ false) where
   abbrev front : List ℕ
   front = y ++ c ∷ []
 
-  module _ (z : List ℕ) (k : ℕ) (r : List ℕ) (before : Without is_opening z) (opens : is_opening k ≡ true) where
+  module _ (z : List ℕ) (k : ℕ) (r : List ℕ) (before : Without is_opening z) (opens : is_opening k ≡ true)
+      (spaced : (k == opening_brace) ≡ true → length z ≡ 0 → (c == space) ≡ false) where
     abbrev inside : Bool
     inside = is_in_struct conversion.to r
 
@@ -24,7 +26,7 @@ module _ (conversion : Conversion) (y : List ℕ) (c : ℕ) (none : Without is_o
         sym (start_is conversion.to (front ++ z) k r)
         ∙ ap (λ t. value_start conversion.to t 0 (length (front ++ z))) (append_assoc front z (k ∷ r))
         ∙ ap (value_start conversion.to (front ++ (z ++ k ∷ r)) 0) (length-append front z)
-        ∙ start_later conversion.to y c (z ++ k ∷ r) (length z) apart
+        ∙ start_later conversion.to y c (z ++ k ∷ r) (length z) no_name (λ brace. spaced (ap (λ b. b == opening_brace) (sym (get_or-append_seam z k r 0)) ∙ brace))
         ∙ ap (λ n. length front + n) (start_is conversion.to z k r)
 
     same_from : from_bracket conversion.to (front ++ z) k r ≡ from_bracket conversion.to z k r
@@ -32,7 +34,7 @@ module _ (conversion : Conversion) (y : List ℕ) (c : ℕ) (none : Without is_o
         ap (λ n. drop n (front ++ z) ++ k ∷ r) start_apart ∙ ap (λ t. t ++ k ∷ r) (drop-append-add front z (start_after k z inside))
 
     same_stays : (d : Document) (size : ℕ) → stays conversion ((front ++ z) ++ k ∷ r) 0 (length (front ++ z)) d size ≡ stays conversion (z ++ k ∷ r) 0 (length z) d size
-    same_stays d size = ap (λ b. if_pretty conversion.to (nat_le size conversion.longer_than || has_one_leaf d || b)) (could_be_later y c z k r apart)
+    same_stays d size = ap (λ b. if_pretty conversion.to (nat_le size conversion.longer_than || has_one_leaf d || b)) (could_be_later y c z k r no_name spaced)
 
     bracket_apart : (n : ℕ) → convert conversion (suc n) (front ++ (z ++ k ∷ r)) ≡ front ++ convert conversion (suc n) (z ++ k ∷ r)
     bracket_apart n = ap (convert conversion (suc n)) (sym (append_assoc front z (k ∷ r))) ∙ go (value_from conversion.to (from_bracket conversion.to z k r)) refl
@@ -57,15 +59,27 @@ module _ (conversion : Conversion) (y : List ℕ) (c : ℕ) (none : Without is_o
             ∙ append_assoc front (take s z) after
             ∙ ap (λ t. front ++ t) (sym (value_step conversion n z k r before opens x.0 x.1 is))
 
-  pub converted_apart : (n : ℕ) (text : List ℕ) → convert conversion n ((y ++ c ∷ []) ++ text) ≡ (y ++ c ∷ []) ++ convert conversion n text
+  brace_first : (z : List ℕ) (k : ℕ) (r : List ℕ) → (k == opening_brace) ≡ true → length z ≡ 0 → begins_with opening_brace (z ++ k ∷ r) ≡ true
+  brace_first [] k r brace empty = brace
+  brace_first (b ∷ z) k r brace empty = absurd (omega (arith, empty))
+
+  pub converted_after : (n : ℕ) (text : List ℕ) → (begins_with opening_brace text ≡ true → (c == space) ≡ false)
+      → convert conversion n ((y ++ c ∷ []) ++ text) ≡ (y ++ c ∷ []) ++ convert conversion n text
   unfolding convert_from
-  converted_apart zero text = refl
-  converted_apart (suc n) text = go (first_bracket text)
+  converted_after zero text spaced = refl
+  converted_after (suc n) text spaced = go (first_bracket text)
     where
       go : Without is_opening text ⊎ FirstBracket text → convert conversion (suc n) (front ++ text) ≡ front ++ convert conversion (suc n) text
       go (inl without) =
           no_bracket conversion (suc n) (front ++ text) (without_append is_opening front text none without)
           ∙ ap (λ t. front ++ t) (sym (no_bracket conversion (suc n) text without))
       go (inr f) =
-          ap (λ t. convert conversion (suc n) (front ++ t)) f.is ∙ bracket_apart f.before f.bracket f.after f.none f.opens n
+          ap (λ t. convert conversion (suc n) (front ++ t)) f.is
+          ∙ bracket_apart f.before f.bracket f.after f.none f.opens
+          (λ brace empty. spaced (ap (begins_with opening_brace) f.is ∙ brace_first f.before f.bracket f.after brace empty)) n
           ∙ ap (λ t. front ++ convert conversion (suc n) t) (sym f.is)
+
+-- a byte that is no space either
+pub converted_apart : (conversion : Conversion) (y : List ℕ) (c : ℕ) → Without is_opening (y ++ c ∷ []) → Apart c → (n : ℕ) (text : List ℕ)
+    → convert conversion n ((y ++ c ∷ []) ++ text) ≡ (y ++ c ∷ []) ++ convert conversion n text
+converted_apart conversion y c none apart n text = converted_after conversion y c none apart.no_name n text (λ brace. apart.no_space)

@@ -7,6 +7,7 @@ use Rattle.ufmt.specs.Document.{Document}
 use Rattle.ufmt.specs.Layout.{layout, setting}
 use Rattle.ufmt.specs.Leaves.{is_opening}
 use Rattle.ufmt_core.specs.declared.layout.Mode.TheVariants.{Plain, Pretty}
+use Rattle.ufmt_core.specs.declared.layout.Setting.{Setting}
 use Rattle.ufmt_grammar.proofs.ReadingComplete.{block_read, pretty_no_address}
 use Rattle.ufmt_grammar.proofs.ReadingSound.{Found, read_sound}
 use Rattle.ufmt_grammar.specs.declared.class.Class.TheVariants.{Debug}
@@ -24,7 +25,7 @@ use Rattle.ufmt_lines.specs.Values.{convert_from, could_be_struct, is_after_name
 use Rattle.ufmt_scan.specs.Fronts.{begins_with_field, has_entries, has_one_leaf}
 
 -- a document that was found, with entries, is read again from its pretty text, whatever follows it
-pretty_read : (to_text rest : List ℕ) (s : _) (d : Document) → Found Debug s 255 to_text d rest → has_entries d ≡ true → (u : List ℕ) → value_from Plain (layout (setting Pretty 0) d ++ u) ≡ Some (d, u)
+pub pretty_read : (to_text rest : List ℕ) (s : Setting) (d : Document) → Found Debug s 255 to_text d rest → has_entries d ≡ true → (u : List ℕ) → value_from Plain (layout (setting Pretty 0) d ++ u) ≡ Some (d, u)
 pretty_read to_text rest s d found entries u =
     front_value Plain (layout (setting Pretty 0) d ++ u) d u
     (block_read Debug 255 (setting Pretty 0) d u found.tokens (entries_block d entries) found.nests (omega arith) (pretty_no_address Debug 0 d u) ∙ ap (λ e. Some (e, u)) found.is_normal) entries

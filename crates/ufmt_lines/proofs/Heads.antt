@@ -110,7 +110,7 @@ name_no_opening c h = go (is_opening c) refl
     go false e = e
     go true e = let none = opening_no_name c e in absurd (cc (none, h))
 
-name_no_ender : (c : ℕ) → is_name_byte c ≡ true → is_ender c ≡ false
+pub name_no_ender : (c : ℕ) → is_name_byte c ≡ true → is_ender c ≡ false
 name_no_ender c h = go (is_ender c) refl
   where
     go : (b : Bool) → is_ender c ≡ b → is_ender c ≡ false

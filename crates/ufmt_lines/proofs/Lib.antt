@@ -28,3 +28,6 @@ pub mod ApartTexts
 pub mod PlainLines
 pub mod ReadLines
 pub mod LinesApart
+pub mod PlainCuts
+pub mod GroupParts
+pub mod WholeOutputs

@@ -20,7 +20,7 @@ use Rattle.ufmt_lines.specs.Values.{convert_from, is_in_struct, stays, value_fro
 -- ---- lists
 
 -- one of two fronts is the other and more
-two_fronts : (a b c e : List ℕ) → a ++ b ≡ c ++ e → ((x : List ℕ) × (a ≡ c ++ x) × (e ≡ x ++ b)) ⊎ ((x : List ℕ) × (c ≡ a ++ x) × (b ≡ x ++ e))
+pub two_fronts : (a b c e : List ℕ) → a ++ b ≡ c ++ e → ((x : List ℕ) × (a ≡ c ++ x) × (e ≡ x ++ b)) ⊎ ((x : List ℕ) × (c ≡ a ++ x) × (b ≡ x ++ e))
 two_fronts [] b c e is = inr (c, refl, is)
 two_fronts (j ∷ a) b [] e is = inl (j ∷ a, refl, sym is)
 two_fronts (j ∷ a) b (k ∷ c) e is = go (two_fronts a b c e (ap (drop 1) is))
@@ -37,8 +37,17 @@ no_end : (c x : List ℕ) → c ++ x ≡ [] → x ≡ []
 no_end [] x is = is
 no_end (b ∷ c) x is = absurd (cc)
 
+-- two texts that are equal end alike
+pub last_same : (a f : List ℕ) (e l : ℕ) → a ++ e ∷ [] ≡ f ++ l ∷ [] → e ≡ l
+last_same [] [] e l is = ap (λ t. get_or t 0 0) is
+last_same [] (b ∷ []) e l is = absurd (cc)
+last_same [] (b ∷ c ∷ f) e l is = absurd (cc)
+last_same (b ∷ []) [] e l is = absurd (cc)
+last_same (b ∷ c ∷ a) [] e l is = absurd (cc)
+last_same (b ∷ a) (c ∷ f) e l is = last_same a f e l (ap (drop 1) is)
+
 -- a part at the end that isn't empty ends alike
-last_of : (c x f : List ℕ) (l : ℕ) → c ++ x ≡ f ++ l ∷ [] → x ≢ [] → (y : List ℕ) × (x ≡ y ++ l ∷ [])
+pub last_of : (c x f : List ℕ) (l : ℕ) → c ++ x ≡ f ++ l ∷ [] → x ≢ [] → (y : List ℕ) × (x ≡ y ++ l ∷ [])
 last_of [] x f l is some = (f, is)
 last_of (b ∷ c) x [] l is some = absurd (some (no_end c x (ap (drop 1) is)))
 last_of (b ∷ c) x (a ∷ f) l is some = last_of c x f l (ap (drop 1) is) some

@@ -50,7 +50,7 @@ after_name_some text low bracket is = go (nat_lt low bracket) refl is
     go false less h = absurd (cc)
 
 module _ (front rest : List ℕ) where
-  byte_moved : (i : ℕ) → get_or (front ++ rest) (length front + i) 0 ≡ get_or rest i 0
+  pub byte_moved : (i : ℕ) → get_or (front ++ rest) (length front + i) 0 ≡ get_or rest i 0
   byte_moved i = get_or-append-add front rest i 0
 
   run_moved : (low end : ℕ) → run_start (front ++ rest) (length front + low) (length front + end) ≡ length front + run_start rest low end

@@ -8,7 +8,7 @@ use Rattle.ufmt.specs.Bytes.{colon, opening_brace, opening_parenthesis, space}
 use Rattle.ufmt.specs.Leaves.{is_name_byte}
 use Rattle.ufmt_core.specs.declared.layout.Mode.{Mode}
 use Rattle.ufmt_grammar.specs.declared.class.Class.TheVariants.{Debug}
-use Rattle.ufmt_lines.proofs.Rests.{after_name_moved, after_name_some, name_before, run_within, start_moved}
+use Rattle.ufmt_lines.proofs.Rests.{after_name_moved, byte_moved, after_name_some, name_before, run_within, start_moved}
 use Rattle.ufmt_lines.specs.Values.{brace_start, could_be_struct, is_after_name, is_in_struct, is_named, run_start, tuple_start, value_start}
 use Rattle.ufmt_scan.specs.Fronts.{begins_with_field}
 
@@ -102,7 +102,7 @@ pub record Apart (c : ℕ) : Type 0 where
   pub no_name : is_name_byte c ≡ false
   pub no_space : (c == space) ≡ false
 
-module _ (text : List ℕ) (l : ℕ) (apart : Apart (get_or text l 0)) where
+module _ (text : List ℕ) (l : ℕ) (no_name : is_name_byte (get_or text l 0) ≡ false) where
   run_low : (end : ℕ) → suc l ≤ end → run_start text 0 end ≡ run_start text (suc l) end
   run_low zero less = absurd (omega (arith, less))
   run_low (suc n) less = go (nat_le (suc l) n) refl (run_low n)
@@ -117,14 +117,14 @@ module _ (text : List ℕ) (l : ℕ) (apart : Apart (get_or text l 0)) where
           let low : nat_le 0 n ≡ true = grind (arith, nat_tests) in
           let more : n ≤ l = grind (arith, nat_tests) in
           let same : n ≡ l = omega (arith, more, less) in
-          let other : is_name_byte (get_or text n 0) ≡ false = ap (λ i. is_name_byte (get_or text i 0)) same ∙ apart.no_name in
+          let other : is_name_byte (get_or text n 0) ≡ false = ap (λ i. is_name_byte (get_or text i 0)) same ∙ no_name in
           ap (λ b. cond (b && is_name_byte (get_or text n 0)) (run_start text 0 n) (suc n)) low
           ∙ ap (λ b. cond b (run_start text 0 n) (suc n)) other
           ∙ ap (λ b. cond (b && is_name_byte (get_or text n 0)) (run_start text (suc l) n) (suc n)) (sym is)
 
   module _ (bracket : ℕ) (past : suc l ≤ bracket) where
-    after_low : is_after_name text 0 bracket ≡ is_after_name text (suc l) bracket
-    after_low = ap (λ b. name_before b text 0 (bracket - 1)) some ∙ go (nat_lt (suc l) bracket) refl
+    after_low : (bracket ≡ suc l → (get_or text l 0 == space) ≡ false) → is_after_name text 0 bracket ≡ is_after_name text (suc l) bracket
+    after_low spaced = ap (λ b. name_before b text 0 (bracket - 1)) some ∙ go (nat_lt (suc l) bracket) refl
       where
         some : nat_lt 0 bracket ≡ true
         some = grind (arith, nat_tests)
@@ -137,16 +137,15 @@ module _ (text : List ℕ) (l : ℕ) (apart : Apart (get_or text l 0)) where
         go false is =
             let more : bracket ≤ suc l = grind (arith, nat_tests) in
             let same : bracket - 1 ≡ l = omega (arith, more, past) in
-            let other : (get_or text (bracket - 1) 0 == space) ≡ false = ap (λ i. get_or text i 0 == space) same ∙ apart.no_space in
+            let other : (get_or text (bracket - 1) 0 == space) ≡ false = ap (λ i. get_or text i 0 == space) same ∙ spaced (omega (arith, more, past)) in
             ap (λ b. b && is_named text (run_start text 0 (bracket - 1)) (bracket - 1)) other
             ∙ ap (λ b. name_before b text (suc l) (bracket - 1)) (sym is)
 
-    start_low : (to : Mode) → value_start to text 0 bracket ≡ value_start to text (suc l) bracket
-    start_low to =
-        let c = get_or text bracket 0 in
-        ap (λ b. cond (c == opening_brace) (cond (b && is_in_struct to (drop (bracket + 1) text)) (run_start text 0 (bracket - 1)) bracket) (cond (c == opening_parenthesis) (tuple_start text 0 bracket) bracket)) after_low
-        ∙ ap (λ s. cond (c == opening_brace) s (cond (c == opening_parenthesis) (tuple_start text 0 bracket) bracket)) (go (is_after_name text (suc l) bracket) refl (is_in_struct to (drop (bracket + 1) text)))
-        ∙ ap (λ s. cond (c == opening_brace) (brace_start to text (suc l) bracket) (cond (c == opening_parenthesis) (cond (is_named text s bracket) s bracket) bracket)) (run_low bracket past)
+    start_low : (to : Mode) → ((get_or text bracket 0 == opening_brace) ≡ true → bracket ≡ suc l → (get_or text l 0 == space) ≡ false)
+        → value_start to text 0 bracket ≡ value_start to text (suc l) bracket
+    start_low to spaced =
+        brace (get_or text bracket 0 == opening_brace) spaced
+        ∙ ap (λ s. cond (get_or text bracket 0 == opening_brace) (brace_start to text (suc l) bracket) (cond (get_or text bracket 0 == opening_parenthesis) (cond (is_named text s bracket) s bracket) bracket)) (run_low bracket past)
       where
         go : (named : Bool) → is_after_name text (suc l) bracket ≡ named → (inside : Bool)
             → cond (named && inside) (run_start text 0 (bracket - 1)) bracket ≡ cond (named && inside) (run_start text (suc l) (bracket - 1)) bracket
@@ -155,31 +154,55 @@ module _ (text : List ℕ) (l : ℕ) (apart : Apart (get_or text l 0)) where
             ap (λ s. cond inside s bracket) (run_low (bracket - 1) (omega (arith, less)))
         go false is inside = refl
 
--- after such a byte, a value begins where it would without what is before
-pub start_later : (to : Mode) (y : List ℕ) (c : ℕ) (rest : List ℕ) (bracket : ℕ) → Apart c
+        brace : (b : Bool) → (b ≡ true → bracket ≡ suc l → (get_or text l 0 == space) ≡ false)
+            → cond b (brace_start to text 0 bracket) (cond (get_or text bracket 0 == opening_parenthesis) (tuple_start text 0 bracket) bracket)
+            ≡ cond b (brace_start to text (suc l) bracket) (cond (get_or text bracket 0 == opening_parenthesis) (tuple_start text 0 bracket) bracket)
+        brace true apart =
+            ap (λ b. cond (b && is_in_struct to (drop (bracket + 1) text)) (run_start text 0 (bracket - 1)) bracket) (after_low (apart refl))
+            ∙ go (is_after_name text (suc l) bracket) refl (is_in_struct to (drop (bracket + 1) text))
+        brace false apart = refl
+
+-- after such a byte, a value begins where it would without what is before; after a space too, but for a brace right after it
+pub start_later : (to : Mode) (y : List ℕ) (c : ℕ) (rest : List ℕ) (bracket : ℕ) → is_name_byte c ≡ false
+    → ((get_or rest bracket 0 == opening_brace) ≡ true → bracket ≡ 0 → (c == space) ≡ false)
     → value_start to ((y ++ c ∷ []) ++ rest) 0 (length (y ++ c ∷ []) + bracket) ≡ length (y ++ c ∷ []) + value_start to rest 0 bracket
-start_later to y c rest bracket apart =
+start_later to y c rest bracket no_name spaced =
     let front = y ++ c ∷ [] in
     let size : length front ≡ suc (length y) = length-append y (c ∷ []) ∙ omega arith in
     let last : get_or (front ++ rest) (length y) 0 ≡ c =
     get_or_append_left front rest 0 (length y) (omega (arith, size)) ∙ get_or-append_seam y c [] 0 in
     let low : suc (length y) ≡ length front + 0 = omega (arith, size) in
-    start_low (front ++ rest) (length y) (subst Apart (sym last) apart) (length front + bracket) (omega (arith, size)) to
+    let here : get_or (front ++ rest) (length front + bracket) 0 ≡ get_or rest bracket 0 = byte_moved front rest bracket in
+    start_low (front ++ rest) (length y) (ap is_name_byte last ∙ no_name) (length front + bracket) (omega (arith, size)) to
+    (λ brace at. ap (λ b. b == space) last ∙ spaced (ap (λ b. b == opening_brace) (sym here) ∙ brace) (omega (arith, size, at)))
     ∙ ap (λ n. value_start to (front ++ rest) n (length front + bracket)) low
     ∙ start_moved front rest to 0 bracket
 
 -- and whether it could be a struct is as without that
-pub could_be_later : (y : List ℕ) (c : ℕ) (z : List ℕ) (k : ℕ) (r : List ℕ) → Apart c
+pub could_be_later : (y : List ℕ) (c : ℕ) (z : List ℕ) (k : ℕ) (r : List ℕ) → is_name_byte c ≡ false → ((k == opening_brace) ≡ true → length z ≡ 0 → (c == space) ≡ false)
     → could_be_struct (((y ++ c ∷ []) ++ z) ++ k ∷ r) 0 (length ((y ++ c ∷ []) ++ z)) ≡ could_be_struct (z ++ k ∷ r) 0 (length z)
-could_be_later y c z k r apart =
-    let front = y ++ c ∷ [] in
-    let size : length front ≡ suc (length y) = length-append y (c ∷ []) ∙ omega arith in
-    let whole = length-append front z in
-    let last : get_or (front ++ z) (length y) 0 ≡ c = get_or_append_left front z 0 (length y) (omega (arith, size)) ∙ get_or-append_seam y c [] 0 in
-    let low : suc (length y) ≡ length front + 0 = omega (arith, size) in
-    let named : is_after_name (front ++ z) 0 (length (front ++ z)) ≡ is_after_name z 0 (length z) =
-    ap (is_after_name (front ++ z) 0) whole
-    ∙ after_low (front ++ z) (length y) (subst Apart (sym last) apart) (length front + length z) (omega (arith, size))
-    ∙ ap (λ n. is_after_name (front ++ z) n (length front + length z)) low
-    ∙ after_name_moved front z 0 (length z) in
-    could_be_is (front ++ z) k r ∙ ap (λ b. (k == opening_brace) && b && begins_with_field Debug r) named ∙ sym (could_be_is z k r)
+could_be_later y c z k r no_name spaced = could_be_is ((y ++ c ∷ []) ++ z) k r ∙ go (k == opening_brace) spaced ∙ sym (could_be_is z k r)
+  where
+    front : List ℕ
+    front = y ++ c ∷ []
+
+    size : length (y ++ c ∷ []) ≡ suc (length y)
+    size = length-append y (c ∷ []) ∙ omega arith
+
+    last : get_or ((y ++ c ∷ []) ++ z) (length y) 0 ≡ c
+    last = let long = size in get_or_append_left (y ++ c ∷ []) z 0 (length y) (omega (arith, long)) ∙ get_or-append_seam y c [] 0
+
+    named : (length z ≡ 0 → (c == space) ≡ false) → is_after_name ((y ++ c ∷ []) ++ z) 0 (length ((y ++ c ∷ []) ++ z)) ≡ is_after_name z 0 (length z)
+    named apart =
+        let long = size in
+        let low : suc (length y) ≡ length (y ++ c ∷ []) + 0 = omega (arith, long) in
+        ap (is_after_name ((y ++ c ∷ []) ++ z) 0) (length-append (y ++ c ∷ []) z)
+        ∙ after_low ((y ++ c ∷ []) ++ z) (length y) (ap is_name_byte last ∙ no_name) (length (y ++ c ∷ []) + length z) (omega (arith, long))
+        (λ at. ap (λ b. b == space) last ∙ apart (omega (arith, long, at)))
+        ∙ ap (λ n. is_after_name ((y ++ c ∷ []) ++ z) n (length (y ++ c ∷ []) + length z)) low
+        ∙ after_name_moved (y ++ c ∷ []) z 0 (length z)
+
+    go : (b : Bool) → (b ≡ true → length z ≡ 0 → (c == space) ≡ false)
+        → (b && is_after_name ((y ++ c ∷ []) ++ z) 0 (length ((y ++ c ∷ []) ++ z)) && begins_with_field Debug r) ≡ (b && is_after_name z 0 (length z) && begins_with_field Debug r)
+    go true apart = ap (λ b. b && begins_with_field Debug r) (named (apart refl))
+    go false apart = refl
