@@ -21,6 +21,7 @@ module _ (conversion : Conversion) (y : List ℕ) (c : ℕ) (none : Without is_o
     abbrev inside : Bool
     inside = is_in_struct conversion.to r
 
+    -- a value begins as many bytes later as the front has
     start_apart : start_after k (front ++ z) inside ≡ length front + start_after k z inside
     start_apart =
         sym (start_is conversion.to (front ++ z) k r)
@@ -29,13 +30,16 @@ module _ (conversion : Conversion) (y : List ℕ) (c : ℕ) (none : Without is_o
         ∙ start_later conversion.to y c (z ++ k ∷ r) (length z) no_name (λ brace. spaced (ap (λ b. b == opening_brace) (sym (get_or-append_seam z k r 0)) ∙ brace))
         ∙ ap (λ n. length front + n) (start_is conversion.to z k r)
 
+    -- so the same text begins there
     same_from : from_bracket conversion.to (front ++ z) k r ≡ from_bracket conversion.to z k r
     same_from =
         ap (λ n. drop n (front ++ z) ++ k ∷ r) start_apart ∙ ap (λ t. t ++ k ∷ r) (drop-append-add front z (start_after k z inside))
 
+    -- and a value stays if it would without the front
     same_stays : (d : Document) (size : ℕ) → stays conversion ((front ++ z) ++ k ∷ r) 0 (length (front ++ z)) d size ≡ stays conversion (z ++ k ∷ r) 0 (length z) d size
     same_stays d size = ap (λ b. if_pretty conversion.to (nat_le size conversion.longer_than || has_one_leaf d || b)) (could_be_later y c z k r no_name spaced)
 
+    -- at a bracket, both go on alike
     bracket_apart : (n : ℕ) → convert conversion (suc n) (front ++ (z ++ k ∷ r)) ≡ front ++ convert conversion (suc n) (z ++ k ∷ r)
     bracket_apart n = ap (convert conversion (suc n)) (sym (append_assoc front z (k ∷ r))) ∙ go (value_from conversion.to (from_bracket conversion.to z k r)) refl
       where
@@ -63,6 +67,7 @@ module _ (conversion : Conversion) (y : List ℕ) (c : ℕ) (none : Without is_o
   brace_first [] k r brace empty = brace
   brace_first (b ∷ z) k r brace empty = absurd (omega (arith, empty))
 
+  -- what follows is converted as if nothing were before it
   pub converted_after : (n : ℕ) (text : List ℕ) → (begins_with opening_brace text ≡ true → (c == space) ≡ false)
       → convert conversion n ((y ++ c ∷ []) ++ text) ≡ (y ++ c ∷ []) ++ convert conversion n text
   unfolding convert_from

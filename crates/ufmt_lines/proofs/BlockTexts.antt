@@ -37,6 +37,7 @@ pub record EndsClosed (text : List ℕ) : Type 0 where
   pub ender : is_ender last ≡ true
   pub apart : Apart last
 
+-- a text ends as its last part does
 ends_after : (a : List ℕ) {b : List ℕ} → EndsClosed b → EndsClosed (a ++ b)
 ends_after a h = record {
   front = a ++ h.front;
@@ -55,6 +56,7 @@ with_brace a = record { front = a; last = closing_brace; is = refl; ender = refl
 with_parenthesis : (a : List ℕ) → EndsClosed (a ++ closing_parenthesis ∷ [])
 with_parenthesis a = record { front = a; last = closing_parenthesis; is = refl; ender = refl; apart = record { no_name = refl; no_space = refl } }
 
+-- a block's closing ends with a bracket
 closing_ends : (kind : Kind) (mode : Mode) (count : Count) → EndsClosed ((frame mode kind).closing (next count))
 closing_ends Brackets mode count = with_bracket []
 closing_ends Braces mode count = with_brace []
@@ -72,6 +74,7 @@ module _ (kind : Kind) (s : Setting) where
   ending_ends : (count : Count) → EndsClosed (ending (frame s.mode kind) s (next count))
   ending_ends count = ends_after (if_any (next count) (line_start s.mode s.depth)) (closing_ends kind s.mode count)
 
+  -- so does the rest of a block
   tail_ends : (count : Count) (ts : List (List ℕ)) → EndsClosed (block_tail (frame s.mode kind) s (next count) ts)
   tail_ends count [] = ending_ends count
   tail_ends count (text ∷ ts) = ends_after (lead (frame s.mode kind) (inside s) (next count)) (ends_after text (ends_after (trail s.mode) (tail_ends (next count) ts)))
@@ -83,6 +86,7 @@ module _ (kind : Kind) (s : Setting) where
 dots_end : (s : Setting) → EndsClosed (last_dots s)
 dots_end s = ends_after _ (ending_ends Struct s Zero)
 
+-- and that of a struct that ends in dots
 dotted_ends : (s : Setting) (count : Count) (ts : List (List ℕ)) → EndsClosed (rest_text (frame s.mode Struct) s (last_dots s) (next count) ts true)
 dotted_ends s count [] = ends_after (lead (frame s.mode Struct) (inside s) (next count)) (dots_end s)
 dotted_ends s count (text ∷ ts) = ends_after (lead (frame s.mode Struct) (inside s) (next count)) (ends_after text (ends_after (trail s.mode) (dotted_ends s (next count) ts)))
@@ -112,6 +116,7 @@ pub record BlockTexts (d : Document) : Type 0 where
       → begins_with space (plain_tail ++ u) ≡ begins_with_field Debug ((text ++ (trail Pretty ++ left)) ++ v)
   pub ends : (mode : Mode) → EndsClosed (layout (setting mode 0) d)
 
+-- the first entry, its comma and the rest of the block are steep
 entry_steep : (text left : List ℕ) → IsSteep text → BeginsLine (left ++ []) → Steep (left ++ []) → Steep (text ++ (trail Pretty ++ left))
 entry_steep text left entry next rest =
     entry (trail Pretty ++ left) (trail_in_line left) (steep_trail left (subst BeginsLine (append-nil left) next) (subst Steep (append-nil left) rest))
@@ -119,6 +124,7 @@ entry_steep text left entry next rest =
 keyed_assoc : (a b c u : List ℕ) → ((a ++ (codes ": " ++ b)) ++ c) ++ u ≡ a ++ (codes ": " ++ (b ++ (c ++ u)))
 keyed_assoc a b c u = simp append_assoc
 
+-- no space is at the front of such a text
 solid_no_space : {a : List ℕ} → BeginsSolid a → (u : List ℕ) → begins_with space (a ++ u) ≡ false
 solid_no_space h u = ap (λ t. begins_with space (t ++ u)) h.is ∙ h.solid.no_space
 
@@ -296,6 +302,7 @@ dotted_texts name field value fs h =
           (ends_after name (ends_after (lead (frame mode Struct) (inside (setting mode 0)) Zero) (ends_after (field ++ (codes ": " ++ layout (inside (setting mode 0)) value)) (ends_after (trail mode) (dotted_ends (setting mode 0) Zero (field_texts (inside (setting mode 0)) fs))))));
     }
 
+-- each block with entries has such texts
 pub block_texts : (d : Document) → IsBuilt Debug d → IsBlock d → BlockTexts d
 block_texts (leaf text) h block = absurd block
 block_texts (joined ds) h block = absurd block

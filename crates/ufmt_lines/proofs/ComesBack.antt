@@ -36,6 +36,7 @@ neither true b c h = absurd (cc)
 neither false true c h = absurd (cc)
 neither false false c h = h
 
+-- an opening bracket is no name's byte, and no space
 opening_apart : (c : ℕ) → is_opening c ≡ true → Apart c
 opening_apart c opens = record { no_name = opening_no_name c opens; no_space = opening_no_space c opens }
 
@@ -54,6 +55,7 @@ module _ (limit : ℕ) where
     abbrev from : List ℕ
     from = drop (start_after k z (is_in_struct Plain (w ++ text))) z ++ k ∷ w
 
+    -- there the text that is made pretty has these bytes first
     from_made : from_bracket Plain z k made ≡ from ++ convert (pretty_with limit) n text
     from_made =
         ap (λ b. drop (start_after k z b) z ++ k ∷ made) (same_struct limit w n text)
@@ -93,6 +95,7 @@ module _ (limit : ℕ) where
     abbrev after : List ℕ
     after = convert (pretty_with limit) n text
 
+    -- without a bracket, or with one as the last byte, they come back
     last_back : (y : List ℕ) → Without is_opening y → Still limit ((y ++ c ∷ []) ++ text) → (b : Bool) → is_opening c ≡ b → Back ((y ++ c ∷ []) ++ after) ((y ++ c ∷ []) ++ text)
     last_back y none still true opens =
         subst (λ t. Back t ((y ++ c ∷ []) ++ text)) (sym (append_assoc y (c ∷ []) after))
@@ -140,6 +143,7 @@ module _ (limit : ℕ) where
     abbrev later : List ℕ
     later = convert (pretty_with limit) n rest
 
+    -- the document is one of the class, in normal form
     found : Found Debug (setting Plain 0) 255 (from_bracket Pretty z k r) d rest
     found = read_sound Debug 255 (setting Plain 0) (from_bracket Pretty z k r) d rest (value_read Pretty (from_bracket Pretty z k r) d rest is)
 
@@ -149,6 +153,7 @@ module _ (limit : ℕ) where
     b : BlockTexts d
     b = block_of (pretty_with limit) z k r d rest is
 
+    -- the text is what is before the value, the value and the rest
     whole : z ++ k ∷ r ≡ y ++ (plain ++ rest)
     whole = value_whole (pretty_with limit) n z k r none opens d rest is
 
@@ -178,14 +183,17 @@ module _ (limit : ℕ) where
     abbrev lines : List ℕ
     lines = first_line b ++ later
 
+    -- the bracket, and what follows it in the pretty text, are in the value's pretty text
     pretty_from : drop start z ++ k ∷ lines ≡ pretty ++ later
     pretty_from =
         ap (λ t. t ++ k ∷ lines) cut.0 ∙ ap (λ c. b.head ++ c ∷ lines) cut.1 ∙ sym (append_assoc b.head (b.bracket ∷ first_line b) later) ∙ ap (λ t. t ++ later) (sym b.pretty)
 
+    -- the text that is made pretty has the same bytes up to the bracket
     made_is : y ++ (pretty ++ later) ≡ z ++ k ∷ lines
     made_is = ap (λ t. y ++ t) (sym pretty_from) ∙ sym (append_assoc y (drop start z) (k ∷ lines)) ∙ ap (λ t. t ++ k ∷ lines) (take-append-drop start z)
 
     module _ (changed : stays (pretty_with limit) (z ++ k ∷ r) 0 (length z) d (length plain) ≡ false) where
+      -- after a name and a brace there is no field's name
       no_field : (k == opening_brace) ≡ true → is_after_name z 0 (length z) ≡ true → begins_with_field Debug r ≡ false
       no_field brace named =
           ap (λ a. a && begins_with_field Debug r) (sym named) ∙ ap (λ a. a && is_after_name z 0 (length z) && begins_with_field Debug r) (sym brace)
@@ -197,6 +205,7 @@ module _ (limit : ℕ) where
           let bracket : b.bracket ≡ opening_brace = sym cut.1 ∙ eqb-true k opening_brace brace in
           sym (b.same_kind rest later bracket (ap (begins_with_field Debug) (sym cut.2) ∙ no_field brace named)) ∙ ap (is_in_struct Pretty) (sym cut.2))
 
+      -- so the pretty text is found there
       pretty_there : value_from Plain (from_bracket Plain z k lines) ≡ Some (d, later)
       pretty_there =
           ap (λ s. value_from Plain (drop s z ++ k ∷ lines)) same_start ∙ ap (value_from Plain) pretty_from ∙ pretty_read _ _ _ d found entries later
@@ -222,11 +231,13 @@ module _ (limit : ℕ) where
 
   module _ (n : ℕ) (more : (text : List ℕ) → Still limit text → Back (convert (pretty_with limit) n text) text) (z : List ℕ) (k : ℕ) (r : List ℕ) (none : Without is_opening z) (opens : is_opening k ≡ true)
       (still : Still limit (z ++ k ∷ r)) where
+    -- whether a value stays or not, the text comes back
     value_back : (d : Document) (rest : List ℕ) (is : value_from Pretty (from_bracket Pretty z k r) ≡ Some (d, rest)) (s : Bool) → stays (pretty_with limit) (z ++ k ∷ r) 0 (length z) d (length (layout (setting Plain 0) d)) ≡ s
         → Back (take (start_after k z (is_in_struct Pretty r)) z ++ (value_text s Pretty (layout (setting Plain 0) d) d ++ convert (pretty_with limit) n rest)) (z ++ k ∷ r)
     value_back d rest is true kept = kept_back n z k r none opens still d rest is (more rest (still_after n z k r none opens still d rest is))
     value_back d rest is false changed = changed_back n z k r none opens still d rest is changed (more rest (still_after n z k r none opens still d rest is))
 
+    -- so does a text with a bracket
     at_bracket : (o : Option (Document × List ℕ)) → value_from Pretty (from_bracket Pretty z k r) ≡ o → Back (convert (pretty_with limit) (suc n) (z ++ k ∷ r)) (z ++ k ∷ r)
     at_bracket None is =
         let rest = (still_at limit z k r none opens still).1 in
@@ -235,6 +246,7 @@ module _ (limit : ℕ) where
         let s = stays (pretty_with limit) (z ++ k ∷ r) 0 (length z) x.0 (length (layout (setting Plain 0) x.0)) in
         subst (λ t. Back t (z ++ k ∷ r)) (sym (value_step (pretty_with limit) n z k r none opens x.0 x.1 is)) (value_back x.0 x.1 is s refl)
 
+  -- a text that stays as it is made plain comes back from pretty
   comes_back : (n : ℕ) (text : List ℕ) → Still limit text → Back (convert (pretty_with limit) n text) text
   unfolding convert_from
   comes_back zero text still = λ m long. still_same limit m text still

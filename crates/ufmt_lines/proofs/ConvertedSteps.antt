@@ -26,6 +26,7 @@ module _ (conversion : Conversion) where
   abbrev pub given_text : Document → List ℕ
   given_text d = layout (setting (other_mode conversion.to) 0) d
 
+  -- a text without a bracket stays
   pub no_bracket : (n : ℕ) (text : List ℕ) → Without is_opening text → convert n text ≡ text
   no_bracket n text none =
       let place = before_none text none in
@@ -47,6 +48,7 @@ module _ (conversion : Conversion) where
     abbrev from_start : List ℕ
     from_start = from_bracket conversion.to z k r
 
+    -- a value would begin with the same bytes in the whole text
     from_is : drop start text ≡ from_start
     from_is = drop-append-le start z (k ∷ r) (start_within k z (is_in_struct conversion.to r))
 
@@ -77,6 +79,7 @@ module _ (conversion : Conversion) where
       abbrev v : List ℕ
       v = given_text d
 
+      -- what was read is a document of the class
       pub found_there : Found Debug (setting (other_mode conversion.to) 0) 255 (from_bracket conversion.to z k r) d rest
       found_there = read_sound Debug 255 (setting (other_mode conversion.to) 0) from_start d rest (value_read conversion.to from_start d rest is)
 
@@ -126,6 +129,7 @@ module _ (conversion : Conversion) where
   -- so any two numbers of brackets that suffice give the same
   module _ (m n : ℕ) (z : List ℕ) (k : ℕ) (r : List ℕ) (none : Without is_opening z) (opens : is_opening k ≡ true)
       (more : (t : List ℕ) → length t < length (z ++ k ∷ r) → convert m t ≡ convert n t) where
+    -- at a bracket, both numbers do the same
     enough_at : (o : Option (Document × List ℕ)) → value_from conversion.to (from_bracket conversion.to z k r) ≡ o → convert (suc m) (z ++ k ∷ r) ≡ convert (suc n) (z ++ k ∷ r)
     enough_at None is =
         let long = length-append z (k ∷ r) in
@@ -135,6 +139,7 @@ module _ (conversion : Conversion) where
         ∙ ap (λ t. take (start_after k z (is_in_struct conversion.to r)) z ++ (value_text (stays conversion (z ++ k ∷ r) 0 (length z) x.0 (length (given_text x.0))) conversion.to (given_text x.0) x.0 ++ t)) (more x.1 (value_shorter z k r x.0 x.1 is))
         ∙ sym (value_step n z k r none opens x.0 x.1 is)
 
+  -- so do they on each text
   pub enough : (m n : ℕ) (text : List ℕ) → length text ≤ m → length text ≤ n → convert m text ≡ convert n text
   enough zero n [] first second = no_bracket zero [] tt ∙ sym (no_bracket n [] tt)
   enough zero n (c ∷ text) first second = absurd (omega (arith, first))

@@ -31,6 +31,7 @@ pub record Field (t : List ℕ) : Type 0 where
 abbrev has_colon : List ℕ × List ℕ → Bool
 has_colon x = is_some (strip (codes ": ") x.1)
 
+-- then a field is found at the front
 pub field_there : (t : List ℕ) → Field t → begins_with_field Debug t ≡ true
 field_there t f =
     ap (begins_with_field Debug) f.is
@@ -48,12 +49,14 @@ outside_front (c ∷ w) u named is =
     go byte more None e k = absurd (cc)
     go byte more (Some next) e k = more (subst (λ p. leaf_from p (w ++ (colon ∷ space ∷ closing_brace ∷ u)) ≡ w) (name_step c (w ++ (colon ∷ space ∷ closing_brace ∷ u)) next byte e) (ap (drop 1) k))
 
+-- the same of a whole leaf
 beginning_front : (w u : List ℕ) → has_name_bytes w ≡ true → leaf_from beginning (w ++ (colon ∷ space ∷ closing_brace ∷ u)) ≡ w → ⊥
 beginning_front [] u named is = absurd (cc)
 beginning_front (c ∷ w) u named is =
     let parts = both (is_name_byte c) (has_name_bytes w) named in
     outside_front (c ∷ w) u named (ap (λ o. choose o (λ next. c ∷ leaf_from next (w ++ (colon ∷ space ∷ closing_brace ∷ u))) []) (sym (name_begins c (w ++ (colon ∷ space ∷ closing_brace ∷ u)) parts.0)) ∙ is)
 
+-- a name that is read is the longest leaf at the front
 name_is_front : (front rest : List ℕ) (x : List ℕ × List ℕ) → if_name Debug front rest ≡ Some x → front ≡ x.0
 name_is_front [] rest x h = absurd (cc)
 name_is_front (c ∷ front) rest x h = go (is_whole Debug (c ∷ front) && is_name Debug (c ∷ front)) h
@@ -62,6 +65,7 @@ name_is_front (c ∷ front) rest x h = go (is_whole Debug (c ∷ front) && is_na
     go true k = (same_parts {A = List ℕ} {B = List ℕ} (c ∷ front, rest) x k).0
     go false k = absurd (cc)
 
+-- so no closing brace comes after the space of a field
 no_brace_after : (w r : List ℕ) → has_name_bytes w ≡ true → leaf_from beginning (w ++ (colon ∷ space ∷ r)) ≡ w → begins_with closing_brace r ≡ false
 no_brace_after w [] named is = refl
 no_brace_after w (c ∷ u) named is = go (c == closing_brace) refl
@@ -70,6 +74,7 @@ no_brace_after w (c ∷ u) named is = go (c == closing_brace) refl
     go false e = e
     go true e = absurd (beginning_front w u named (subst (λ b. leaf_from beginning (w ++ (colon ∷ space ∷ b ∷ u)) ≡ w) (eqb-true c closing_brace e) is))
 
+-- a field that is found is there
 pub field_found : (t : List ℕ) → begins_with_field Debug t ≡ true → Field t
 field_found t h = go (read_name Debug t) refl h
   where
@@ -90,6 +95,7 @@ field_found t h = go (read_name Debug t) refl h
 
 -- ---- what follows a bracket
 
+-- two tests are equal if each implies the other
 pub same_answer : (a b : Bool) → (a ≡ true → b ≡ true) → (b ≡ true → a ≡ true) → a ≡ b
 same_answer true b there back = sym (there refl)
 same_answer false true there back = back refl
@@ -99,6 +105,7 @@ first_same : (y : List ℕ) (c : ℕ) (r v : List ℕ) → begins_with closing_b
 first_same [] c r v = refl
 first_same (b ∷ y) c r v = refl
 
+-- a field before a bracket is one whatever follows the bracket
 field_kept : (z : List ℕ) (c : ℕ) (r v : List ℕ) → is_opening c ≡ true → begins_with_field Debug (z ++ c ∷ r) ≡ true → begins_with_field Debug (z ++ c ∷ v) ≡ true
 field_kept z c r v opens h =
     let f = field_found (z ++ c ∷ r) h in
@@ -113,9 +120,11 @@ field_kept z c r v opens h =
       unclosed = first_same cut.0 c r v ∙ ap (begins_with closing_brace) (sym cut.2) ∙ f.unclosed;
     })
 
+-- so a text has a field at its front or not, whatever follows a bracket
 pub field_by_front : (z : List ℕ) (c : ℕ) (r v : List ℕ) → is_opening c ≡ true → begins_with_field Debug (z ++ c ∷ r) ≡ begins_with_field Debug (z ++ c ∷ v)
 field_by_front z c r v opens = same_answer _ _ (field_kept z c r v opens) (field_kept z c v r opens)
 
+-- the same after other bytes
 stripped_by_front : (p z : List ℕ) (c : ℕ) (r v : List ℕ) → Without is_opening p → is_opening c ≡ true
     → choose (strip p (z ++ c ∷ r)) (begins_with_field Debug) false ≡ choose (strip p (z ++ c ∷ v)) (begins_with_field Debug) false
 stripped_by_front [] z c r v none opens = field_by_front z c r v opens
@@ -137,6 +146,7 @@ struct_by_front z c r v opens = stripped_by_front (codes "\n    ") z c r v (refl
 
 -- ---- a document at the front
 
+-- a leaf at the front is a field's name if it is a name and a colon follows
 leaf_field : (text u : List ℕ) → IsDebugLeaf text → IsDebugFollower u → begins_with_field Debug (text ++ u) ≡ (is_name Debug text && is_some (strip (codes ": ") u))
 leaf_field [] u h follows = absurd (h.some refl)
 leaf_field (c ∷ t) u h follows =

@@ -37,6 +37,7 @@ pub record FirstBracket (text : List ℕ) : Type 0 where
   pub opens : is_opening bracket ≡ true
   pub is : text ≡ before ++ bracket ∷ after
 
+-- each text has a first bracket, or none
 pub first_bracket : (text : List ℕ) → Without is_opening text ⊎ FirstBracket text
 first_bracket [] = inl tt
 first_bracket (c ∷ t) = go (is_opening c) refl (first_bracket t)
@@ -88,10 +89,12 @@ front_before test (c ∷ p) u (b ∷ z) k r none passes is =
     let inner = front_before test p u z k r none.1 passes (ap (drop 1) is) in
     (inner.0, ap (λ x. x ∷ z) (sym head) ∙ ap (λ t. c ∷ t) inner.1, inner.2)
 
+-- without a bracket, all bytes come before one
 pub before_none : (z : List ℕ) → Without is_opening z → before_bracket z ≡ length z
 before_none [] none = refl
 before_none (c ∷ z) none = ap (λ b. cond b 0 (suc (before_bracket z))) none.0 ∙ ap suc (before_none z none.1)
 
+-- else those before the first
 pub before_first : (z : List ℕ) (k : ℕ) (r : List ℕ) → Without is_opening z → is_opening k ≡ true → before_bracket (z ++ k ∷ r) ≡ length z
 before_first [] k r none opens = ap (λ b. cond b 0 (suc (before_bracket r))) opens
 before_first (c ∷ z) k r none opens = ap (λ b. cond b 0 (suc (before_bracket (z ++ k ∷ r)))) none.0 ∙ ap suc (before_first z k r none.1 opens)

@@ -3,7 +3,7 @@ use Rattle.std.proofs.Common.{◌≡◌, ◌≢◌, ◌⊎◌, inl, inr, ◌∙�
 use Rattle.std.proofs.Math.Seq.{get_or-append_seam}
 use Rattle.std.proofs.lemmas.Bool.{true≢false}
 use Rattle.std.proofs.lemmas.Bool.Decides.{nat_tests}
-use Rattle.std.proofs.lemmas.List.{get_or-append-add, get_or-drop, get_or_append_left, length-take-le, take-append-drop}
+use Rattle.std.proofs.lemmas.List.{get_or-append-add, get_or-drop, length-take-le, take-append-drop}
 use Rattle.std.proofs.lemmas.List.Elements.{All-head, All-tail}
 use Rattle.std.specs.Prelude.{nat_le, nat_lt}
 use Rattle.ufmt.specs.Bytes.{line_feed, opening_brace, space}
@@ -66,10 +66,12 @@ both_true false b h = absurd (cc)
 
 -- ---- line feeds
 
+-- no line has a line feed
 no_feed : (a b : List ℕ) → IsInLine (a ++ line_feed ∷ b) → ⊥
 no_feed [] b within = All-head (λ c. c ≢ line_feed) line_feed b within refl
 no_feed (c ∷ a) b within = no_feed a b (All-tail (λ c. c ≢ line_feed) c (a ++ line_feed ∷ b) within)
 
+-- an opening bracket is no line feed
 no_opening_feed : (k : ℕ) → is_opening k ≡ true → k ≡ line_feed → ⊥
 no_opening_feed k opens same = true≢false (sym opens ∙ ap is_opening same)
 
@@ -84,6 +86,7 @@ no_last : (f : List ℕ) (c : ℕ) → [] ≡ f ++ c ∷ [] → ⊥
 no_last [] c is = absurd (cc)
 no_last (b ∷ f) c is = absurd (cc)
 
+-- the last byte of lines is a line feed
 last_is_feed : (lines f : List ℕ) (c : ℕ) → EndsLine lines → lines ≡ f ++ c ∷ [] → c ≡ line_feed
 last_is_feed lines f c (inl empty) is = absurd (no_last f c (sym empty ∙ is))
 last_is_feed lines f c (inr ended) is = last_same f ended.0 c line_feed (sym is ∙ ended.1)
@@ -114,6 +117,7 @@ module _ (lines piece : List ℕ) (line : EndsLine lines) (a : List ℕ) (k : �
 -- ---- a line that isn't cut
 
 module _ (x : List ℕ) (k : ℕ) (opening : is_opening k ≡ true) where
+  -- a line with a bracket before its line feed ends with one
   opens_is : opens (x ++ k ∷ line_feed ∷ []) ≡ true
   opens_is =
       let size = length-append x (k ∷ line_feed ∷ []) in
@@ -143,6 +147,7 @@ begins : (piece : List ℕ) → is_indented piece ≡ false → piece ≢ [] →
 begins [] edge some = absurd (some refl)
 begins (c ∷ t) edge some = (c, t, edge, refl)
 
+-- a piece that isn't indented begins a line with no space
 turned : (x piece : List ℕ) → EndsLine x → is_indented piece ≡ false → piece ≢ [] → (b : List ℕ) → b ≡ x ++ piece → Turns b
 turned x piece line edge some b is =
     let first = begins piece edge some in
@@ -187,6 +192,7 @@ module _ (lines line more : List ℕ) (ends : EndsLine lines) (ended : IsEndedLi
   before : s ≤ bracket
   before = word_within line bracket
 
+  -- the front has no line feed
   front_line : IsInLine front
   front_line = front_in_line line s is before ended
 
@@ -198,6 +204,7 @@ module _ (lines line more : List ℕ) (ends : EndsLine lines) (ended : IsEndedLi
       go ([], within, same) = let size = length-drop s line in let one = ap length same in let all = long in let low = before in absurd (omega (arith, size, one, all, low))
       go (c ∷ t, within, same) = (c, t ++ line_feed ∷ [], All-head (λ b. b ≢ line_feed) c t within, same)
 
+  -- it is the one where the word begins
   first_byte : get_or line s 0 ≡ rest_line.0
   first_byte =
       let place : s + 0 ≡ s = omega arith in
@@ -212,6 +219,7 @@ module _ (lines line more : List ℕ) (ends : EndsLine lines) (ended : IsEndedLi
       let size = sym (length-take-le s line short) ∙ ap length same ∙ length-append y (c ∷ []) in
       (size ∙ omega arith, ap (λ t. get_or t (length y) 0) (sym (take-append-drop s line) ∙ ap (λ t. t ++ rest) same ∙ append_assoc y (c ∷ []) rest) ∙ get_or-append_seam y c rest 0)
 
+  -- where the word begins, by whether a space comes before a brace
   by_word : (spaced : Bool) → is_spaced_brace line bracket ≡ spaced → (i : ℕ) → i ≡ cond spaced (bracket - 1) bracket → s ≡ run_start line 0 i
   by_word spaced kind i at = ap (λ b. run_start line 0 (cond b (bracket - 1) bracket)) kind ∙ ap (run_start line 0) (sym at)
 
@@ -293,6 +301,7 @@ module _ (lines line more : List ℕ) (ends : EndsLine lines) (ended : IsEndedLi
   at_front [] some h e = absurd (omega (arith, some))
   at_front (c ∷ t) some h e = (h, e)
 
+  -- if nothing is before the word, the line begins with no space and no ender
   anew : front ≡ [] → BeginsAnew (rest ++ more)
   anew empty = subst (λ n. BeginsAnew (drop n line ++ more)) (sym none) (at_front line long edge (word_no_ender none))
     where

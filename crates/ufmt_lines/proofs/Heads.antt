@@ -46,6 +46,7 @@ leaf_no_space c t next h = go (c == space) refl
     go false e = e
     go true e = let at = subst (λ b. place_after beginning b t ≡ Some next) (eqb-true c space e) h in absurd (cc)
 
+-- a leaf does so
 leaf_solid : (text : List ℕ) → IsDebugLeaf text → BeginsSolid text
 leaf_solid [] h = absurd (h.some refl)
 leaf_solid (c ∷ t) h = record {
@@ -64,6 +65,7 @@ brace_solid = record { no_ender = refl; no_space = refl; no_line_feed = λ e. om
 parenthesis_solid : Solid opening_parenthesis
 parenthesis_solid = record { no_ender = refl; no_space = refl; no_line_feed = λ e. omega (arith, e) }
 
+-- a name does so
 pub name_solid : (name : List ℕ) → IsName Debug name → BeginsSolid name
 name_solid name h = leaf_solid name h.whole
 
@@ -100,9 +102,11 @@ opening_no_name c h = each_opening (λ b. is_name_byte b ≡ false) refl refl re
 pub opening_no_space : (c : ℕ) → is_opening c ≡ true → (c == space) ≡ false
 opening_no_space c h = each_opening (λ b. (b == space) ≡ false) refl refl refl c h
 
+-- and no ender
 pub opening_no_ender : (c : ℕ) → is_opening c ≡ true → is_ender c ≡ false
 opening_no_ender c h = each_opening (λ b. is_ender b ≡ false) refl refl refl c h
 
+-- no name has an opening bracket
 name_no_opening : (c : ℕ) → is_name_byte c ≡ true → is_opening c ≡ false
 name_no_opening c h = go (is_opening c) refl
   where
@@ -110,6 +114,7 @@ name_no_opening c h = go (is_opening c) refl
     go false e = e
     go true e = let none = opening_no_name c e in absurd (cc (none, h))
 
+-- and none has an ender
 pub name_no_ender : (c : ℕ) → is_name_byte c ≡ true → is_ender c ≡ false
 name_no_ender c h = go (is_ender c) refl
   where
@@ -151,6 +156,7 @@ pub record HasHead (d : Document) : Type 0 where
   pub tail : Setting → List ℕ
   pub is : (s : Setting) → layout s d ≡ head ++ bracket ∷ tail s
 
+-- each document has one or the other
 pub leaf_or_head : (d : Document) → IsBuilt Debug d → IsLeafText d ⊎ HasHead d
 leaf_or_head (leaf text) h = inl (record { text = text; leaf = h; is = λ s. refl })
 leaf_or_head (joined ds) h = absurd h

@@ -31,3 +31,4 @@ pub mod LinesApart
 pub mod PlainCuts
 pub mod GroupParts
 pub mod WholeOutputs
+pub mod WorkedOutputs

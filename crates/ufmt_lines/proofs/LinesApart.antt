@@ -1,5 +1,5 @@
 -- A text is made pretty line by line.
-use Rattle.std.proofs.Common.{◌≡◌, ◌⊎◌, inl, inr, ◌∙◌, refl, ap, sym, subst, ℕ, zero, suc, ◌+◌, ◌<◌, ◌≤◌, ◌==◌, ◌&&◌, ◌||◌, Bool, true, false, cond, List, [], ◌∷◌, ◌++◌, append_assoc, Option, Some, None, drop, take, length, length-append, arith}
+use Rattle.std.proofs.Common.{◌≡◌, ◌⊎◌, inl, inr, ◌∙◌, refl, ap, sym, subst, ℕ, zero, suc, ◌+◌, ◌<◌, ◌≤◌, ◌==◌, ◌&&◌, ◌||◌, true, List, [], ◌∷◌, ◌++◌, append_assoc, Option, Some, None, drop, take, length, length-append, arith}
 use Rattle.std.proofs.lemmas.List.{drop-append-le}
 use Rattle.std.specs.Prelude.{nat_le}
 use Rattle.ufmt.specs.Bytes.{line_feed, opening_brace, space}
@@ -14,12 +14,13 @@ use Rattle.ufmt_lines.proofs.ReadLines.{field_in_line, no_value_in_line, value_i
 use Rattle.ufmt_lines.proofs.ValueStarts.{Apart, could_be_is, from_bracket, start_after, start_within}
 use Rattle.ufmt_lines.specs.OutputLaws.{pretty_with}
 use Rattle.ufmt_lines.specs.Private.LineLen.{is_line_feed}
-use Rattle.ufmt_lines.specs.Values.{convert_from, if_pretty, is_after_name, is_in_struct, output_of, stays, value_from, value_text}
-use Rattle.ufmt_scan.specs.Fronts.{begins_with_field, has_one_leaf}
+use Rattle.ufmt_lines.specs.Values.{if_pretty, is_after_name, is_in_struct, output_of, stays, value_from, value_text}
+use Rattle.ufmt_scan.specs.Fronts.{has_one_leaf}
 
 line_feed_apart : Apart line_feed
 line_feed_apart = record { no_name = refl; no_space = refl }
 
+-- whether a space comes first doesn't depend on what follows a line feed
 space_in_line : (r rest : List ℕ) → begins_with space (r ++ line_feed ∷ rest) ≡ begins_with space r
 space_in_line [] rest = refl
 space_in_line (c ∷ r) rest = refl
@@ -37,11 +38,13 @@ module _ (limit : ℕ) where
     abbrev more : List ℕ
     more = r ++ line_feed ∷ rest
 
+    -- what begins before a bracket of the line does so before the line feed too
     from_more : from_bracket Pretty z k more ≡ from_bracket Pretty z k r ++ line_feed ∷ rest
     from_more =
         ap (λ b. drop (start_after k z b) z ++ k ∷ more) (space_in_line r rest)
         ∙ sym (append_assoc (drop start z) (k ∷ r) (line_feed ∷ rest))
 
+    -- it has no line feed in the line
     from_in_line : Without is_line_feed (from_bracket Pretty z k r)
     from_in_line =
         subst (Without is_line_feed) (drop-append-le start z (k ∷ r) (start_within k z (is_in_struct Pretty r))) (without_drop is_line_feed start (z ++ k ∷ r) in_line)
@@ -49,12 +52,14 @@ module _ (limit : ℕ) where
     rest_in_line : Without is_line_feed r
     rest_in_line = (without_after is_line_feed z (k ∷ r) in_line).1
 
+    -- a value of the line stays, or doesn't, whatever follows the line
     same_stays : (d : Document) (size : ℕ) → stays (pretty_with limit) (z ++ k ∷ more) 0 (length z) d size ≡ stays (pretty_with limit) (z ++ k ∷ r) 0 (length z) d size
     same_stays d size =
         ap (λ b. if_pretty Pretty (nat_le size limit || has_one_leaf d || b))
         (could_be_is z k more ∙ ap (λ b. (k == opening_brace) && is_after_name z 0 (length z) && b) (field_in_line r rest) ∙ sym (could_be_is z k r))
 
     module _ (m n p : ℕ) where
+      -- at a bracket of the line, both go on alike
       at_bracket : ((line : List ℕ) → length line < length (z ++ k ∷ r) → Without is_line_feed line → AreApart line rest) → length (z ++ k ∷ more) ≤ suc m → length (z ++ k ∷ r) ≤ suc n → length rest ≤ p
           → (o : Option (Document × List ℕ)) → value_from Pretty (from_bracket Pretty z k r) ≡ o
           → convert (pretty_with limit) (suc m) (z ++ k ∷ more) ≡ convert (pretty_with limit) (suc n) (z ++ k ∷ r) ++ line_feed ∷ convert (pretty_with limit) p rest
@@ -92,6 +97,7 @@ module _ (limit : ℕ) where
     abbrev AllApart : ℕ → Type 0
     AllApart most = (line : List ℕ) → length line ≤ most → Without is_line_feed line → AreApart line rest
 
+    -- a line without a bracket
     without_bracket : (line : List ℕ) → Without is_opening line → AreApart line rest
     without_bracket line none = λ m n p long short last.
         let parts = length-append line (line_feed ∷ rest) in
@@ -101,6 +107,7 @@ module _ (limit : ℕ) where
         ∙ ap (λ t. line ++ line_feed ∷ t) (enough (pretty_with limit) m p rest (omega (arith, long, parts)) last)
         ∙ ap (λ t. t ++ line_feed ∷ convert (pretty_with limit) p rest) (sym (no_bracket (pretty_with limit) n line none))
 
+    -- a line with one
     with_bracket : (most : ℕ) → AllApart most → (z : List ℕ) (k : ℕ) (r : List ℕ) → Without is_opening z → is_opening k ≡ true → length (z ++ k ∷ r) ≤ suc most → Without is_line_feed (z ++ k ∷ r) → AreApart (z ++ k ∷ r) rest
     with_bracket most all z k r none opens within in_line = λ m n p long short last.
         ap (convert (pretty_with limit) m) (append_assoc z (k ∷ r) (line_feed ∷ rest)) ∙ go m n p (subst (λ t. length t ≤ m) (append_assoc z (k ∷ r) (line_feed ∷ rest)) long) short last
@@ -119,6 +126,7 @@ module _ (limit : ℕ) where
             let whole = size in
             at_bracket z k r rest none opens in_line m n p (λ line shorter without. all line (omega (arith, whole, within, shorter)) without) long short last _ refl
 
+    -- each line
     lines_apart : (most : ℕ) → AllApart most
     lines_apart zero [] within in_line = without_bracket [] tt
     lines_apart zero (c ∷ line) within in_line = absurd (omega (arith, within))

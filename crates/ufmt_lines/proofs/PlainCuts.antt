@@ -1,5 +1,5 @@
 -- Where a text may be cut, so that each part is made plain by itself: no pretty text is across the cut.
-use Rattle.std.proofs.Common.{◌≡◌, ◌≢◌, ◌⊎◌, inl, inr, ◌∙◌, refl, ap, sym, subst, ℕ, zero, suc, ◌+◌, ◌<◌, ◌≤◌, ◌==◌, Bool, true, false, cond, List, [], ◌∷◌, ◌++◌, append_assoc, append-nil, Option, Some, None, codes, drop, take, get_or, length, length-append, eqb-true, arith}
+use Rattle.std.proofs.Common.{◌≡◌, ◌⊎◌, inl, inr, ◌∙◌, refl, ap, sym, subst, ℕ, zero, suc, ◌+◌, ◌≤◌, ◌==◌, Bool, true, false, cond, List, [], ◌∷◌, ◌++◌, append_assoc, append-nil, Option, Some, None, codes, drop, take, get_or, length, length-append, eqb-true, arith}
 use Rattle.std.proofs.lemmas.Bool.{true≢false}
 use Rattle.std.specs.Prelude.{⊤}
 use Rattle.ufmt.specs.Bytes.{line_feed, opening_brace, space}
@@ -13,8 +13,8 @@ use Rattle.ufmt_grammar.specs.declared.class.Class.TheVariants.{Debug}
 use Rattle.ufmt_lines.proofs.ApartTexts.{converted_after}
 use Rattle.ufmt_lines.proofs.BlockTexts.{BlockTexts, block_texts, entries_block}
 use Rattle.ufmt_lines.proofs.ComesBack.{pretty_read}
-use Rattle.ufmt_lines.proofs.ConvertedSteps.{convert, enough, found_there, no_bracket, no_value, value_shorter, value_step, value_whole}
-use Rattle.ufmt_lines.proofs.FirstBrackets.{FirstBracket, Without, first_bracket, one_first, without_append, without_drop}
+use Rattle.ufmt_lines.proofs.ConvertedSteps.{convert, enough, no_bracket, no_value, value_shorter, value_step, value_whole}
+use Rattle.ufmt_lines.proofs.FirstBrackets.{FirstBracket, Without, first_bracket, one_first, without_drop}
 use Rattle.ufmt_lines.proofs.FoundValues.{value_entries, value_read}
 use Rattle.ufmt_lines.proofs.PrettyInside.{first_line, last_same, line_steep, two_fronts}
 use Rattle.ufmt_lines.proofs.ReadLines.{field_in_line}
@@ -22,7 +22,7 @@ use Rattle.ufmt_lines.proofs.SteepTexts.{BeginsLine, InLine, Steep, steep_after}
 use Rattle.ufmt_lines.proofs.ValueStarts.{from_bracket, start_after}
 use Rattle.ufmt_lines.specs.OutputLaws.{plain_with}
 use Rattle.ufmt_lines.specs.Private.LineLen.{is_line_feed}
-use Rattle.ufmt_lines.specs.Values.{convert_from, is_in_struct, output_of, value_from}
+use Rattle.ufmt_lines.specs.Values.{is_in_struct, output_of, value_from}
 use Rattle.ufmt_scan.specs.Fronts.{begins_with_field, has_entries}
 
 -- ---- cuts
@@ -65,6 +65,7 @@ parts_after p front back h = record {
 abbrev field_after : List ℕ → List ℕ → Bool
 field_after p text = choose (strip p text) (begins_with_field Debug) false
 
+-- whether a field comes in a line doesn't depend on what follows the line
 feed_kept : (p line u : List ℕ) → Without is_line_feed p → field_after p (line ++ line_feed ∷ u) ≡ field_after p line
 feed_kept [] line u none = field_in_line line u
 feed_kept (b ∷ p) [] u none = ap (λ s. choose (cond s (strip p u) None) (begins_with_field Debug) false) none.0
@@ -87,6 +88,7 @@ spaces_in_line : Without is_line_feed (codes "    ")
 spaces_in_line = (refl, (refl, (refl, (refl, tt))))
 
 module _ (back : List ℕ) where
+  -- so what follows the front doesn't change whether one comes in it
   line_kept : (b : List ℕ) → Turns b ⊎ (EndsLine b × BeginsAnew back) → field_after (codes "    ") (b ++ back) ≡ field_after (codes "    ") b
   line_kept b (inl t) = ap (λ u. field_after (codes "    ") (u ++ back)) t.is ∙ go t.line ∙ ap (field_after (codes "    ")) (sym t.is)
     where
@@ -116,6 +118,7 @@ module _ (back : List ℕ) where
       ∙ sym (feed_kept (codes "    ") ended.0 [] spaces_in_line)
       ∙ ap (field_after (codes "    ")) (sym ended.1)
 
+  -- no struct goes on without a line feed
   no_struct : (t : List ℕ) → InLine t → is_in_struct Plain t ≡ false
   no_struct [] line = refl
   no_struct (b ∷ t) line = go (10 == b) refl
@@ -188,12 +191,14 @@ module _ (back : List ℕ) where
     abbrev from : List ℕ
     from = from_bracket Plain z k r
 
+    -- a value in the front is found in the whole
     value_kept : (d : Document) (x : List ℕ) → value_from Plain from ≡ Some (d, x) → value_from Plain (from ++ back) ≡ Some (d, x ++ back)
     value_kept d x is =
         let found = read_sound Debug 255 (setting Pretty 0) from d x (value_read Plain from d x is) in
         ap (λ t. value_from Plain (t ++ back)) found.whole ∙ ap (value_from Plain) (append_assoc (layout (setting Pretty 0) d) x back)
         ∙ pretty_read from x (setting Pretty 0) d found (value_entries Plain from d x is) (x ++ back)
 
+    -- and if none is found in the front, none is in the whole
     none_kept : value_from Plain from ≡ None → value_from Plain (from ++ back) ≡ None
     none_kept is = go (value_from Plain (from ++ back)) refl
       where
@@ -214,6 +219,7 @@ module _ (back : List ℕ) where
             let found = read_sound Debug 255 (setting Pretty 0) (from ++ back) x.0 x.1 (value_read Plain (from ++ back) x.0 x.1 e) in
             absurd (at x.0 x.1 found (value_entries Plain (from ++ back) x.0 x.1 e) (two_fronts from back (layout (setting Pretty 0) x.0) x.1 found.whole))
 
+    -- what begins before a bracket of the front does so in the whole
     from_more : from_bracket Plain z k (r ++ back) ≡ from ++ back
     from_more =
         ap (λ b. drop (start_after k z b) z ++ k ∷ (r ++ back)) (struct_kept k r opens h)
@@ -221,6 +227,7 @@ module _ (back : List ℕ) where
 
 -- ---- each part by itself
 
+-- the last byte of a text
 last_part : (c : ℕ) (t : List ℕ) → (f : List ℕ) × (x : ℕ) × (c ∷ t ≡ f ++ x ∷ [])
 last_part c [] = ([], c, refl)
 last_part c (b ∷ t) = let inner = last_part b t in (c ∷ inner.0, inner.1, ap (λ u. c ∷ u) inner.2)
@@ -233,6 +240,7 @@ module _ (limit : ℕ) (back : List ℕ) where
   abbrev AllCut : ℕ → Type 0
   AllCut most = (front : List ℕ) → length front ≤ most → Parts front back → IsCut front
 
+  -- a front without a bracket
   without_bracket : (front : List ℕ) → Without is_opening front → Parts front back → IsCut front
   without_bracket [] none h = λ m n p long short last.
       enough (plain_with limit) m p back long last ∙ ap (λ t. t ++ convert (plain_with limit) p back) (sym (no_bracket (plain_with limit) n [] tt))
@@ -256,6 +264,7 @@ module _ (limit : ℕ) (back : List ℕ) where
     longer : length (z ++ k ∷ (r ++ back)) ≡ length z + suc (length (r ++ back))
     longer = length-append z (k ∷ (r ++ back))
 
+    -- at a bracket of the front, both go on alike
     at_bracket : (m n p : ℕ) → length (z ++ k ∷ (r ++ back)) ≤ suc m → length (z ++ k ∷ r) ≤ suc n → length back ≤ p → (o : Option (Document × List ℕ)) → value_from Plain (from_bracket Plain z k r) ≡ o
         → convert (plain_with limit) (suc m) (z ++ k ∷ (r ++ back)) ≡ convert (plain_with limit) (suc n) (z ++ k ∷ r) ++ convert (plain_with limit) p back
     at_bracket m n p long short last None is =
@@ -285,6 +294,7 @@ module _ (limit : ℕ) (back : List ℕ) where
         parts : (a b c e : List ℕ) → a ++ (b ++ (c ++ e)) ≡ (a ++ (b ++ c)) ++ e
         parts a b c e = simp append_assoc
 
+    -- a front with one
     with_bracket : IsCut (z ++ k ∷ r)
     with_bracket = λ m n p long short last.
         ap (convert (plain_with limit) m) (append_assoc z (k ∷ r) back) ∙ go m n p (subst (λ t. length t ≤ m) (append_assoc z (k ∷ r) back) long) short last
@@ -295,6 +305,7 @@ module _ (limit : ℕ) (back : List ℕ) where
         go (suc m) zero p long short last = let whole = size in absurd (omega (arith, whole, short))
         go (suc m) (suc n) p long short last = at_bracket m n p long short last _ refl
 
+  -- each front
   all_cut : (most : ℕ) → AllCut most
   all_cut zero [] within h = without_bracket [] tt h
   all_cut zero (c ∷ front) within h = absurd (omega (arith, within))

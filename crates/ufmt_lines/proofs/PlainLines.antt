@@ -21,6 +21,7 @@ use Rattle.ufmt_lines.proofs.FirstBrackets.{Without, without_append}
 use Rattle.ufmt_lines.proofs.SteepTexts.{name_in_line}
 use Rattle.ufmt_lines.specs.Private.LineLen.{is_line_feed}
 
+-- a text of one line has no line feed
 one_line : (text : List ℕ) → IsOneLine text → Without is_line_feed text
 one_line [] h = tt
 one_line (c ∷ text) h = (go (c == line_feed) refl, one_line text h.1)
@@ -29,6 +30,7 @@ one_line (c ∷ text) h = (go (c == line_feed) refl, one_line text h.1)
     go false e = e
     go true e = absurd (h.0 (eqb-true c line_feed e))
 
+-- nor has a name
 pub name_line : (name : List ℕ) → IsName Debug name → Without is_line_feed name
 name_line name h = one_line name (name_in_line name h)
 
@@ -41,6 +43,7 @@ keyed a b first second = without_append is_line_feed a (codes ": " ++ b) first (
 
 -- ---- the rest of a block
 
+-- nor has what comes before an entry
 lead_line : (kind : Kind) (k : ℕ) (count : Count) → Without is_line_feed (lead (frame Plain kind) (setting Plain k) count)
 lead_line Brackets k Zero = tt
 lead_line Braces k Zero = tt
@@ -50,6 +53,7 @@ lead_line Unnamed k Zero = (refl, tt)
 lead_line kind k One = (refl, (refl, tt))
 lead_line kind k Several = (refl, (refl, tt))
 
+-- nor has what ends a block
 ending_line : (kind : Kind) (k : ℕ) (count : Count) → Without is_line_feed (ending (frame Plain kind) (setting Plain k) count)
 ending_line Brackets k Zero = (refl, tt)
 ending_line Brackets k One = (refl, tt)
@@ -67,6 +71,7 @@ ending_line Unnamed k Zero = tt
 ending_line Unnamed k One = (refl, (refl, tt))
 ending_line Unnamed k Several = (refl, tt)
 
+-- nor has the rest of a block
 rest_line : (kind : Kind) (k : ℕ) (close : List ℕ) (b : Bool) → Without is_line_feed close → (count : Count) (ts : List (List ℕ)) → AreLines ts
     → Without is_line_feed (rest_text (frame Plain kind) (setting Plain k) close count ts b)
 rest_line kind k close false ends count [] h = ending_line kind k count
@@ -81,6 +86,7 @@ tail_line kind k ts h = subst (Without is_line_feed) (rest_text-false (frame Pla
 -- ---- documents
 
 mutual
+  -- nor has the plain text of a document
   pub plain_line : (k : ℕ) (d : Document) → IsBuilt Debug d → Without is_line_feed (layout (setting Plain k) d)
   plain_line k (leaf text) h = one_line text (IsBuilt-HasNoLineFeed Debug (leaf text) h)
   plain_line k (joined ds) h = absurd h

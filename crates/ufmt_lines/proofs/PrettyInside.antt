@@ -58,6 +58,7 @@ last_of (b ∷ c) x (a ∷ f) l is some = last_of c x f l (ap (drop 1) is) some
 abbrev pub first_line : {d : Document} → BlockTexts d → List ℕ
 first_line b = line_feed ∷ (indentation 1 ++ (b.text ++ (trail Pretty ++ b.left)))
 
+-- it is steep
 pub line_steep : {d : Document} (b : BlockTexts d) → Steep (first_line b)
 line_steep b = steep_feed _ (inl refl) (steep_indentation 1 _ b.steep)
 
@@ -73,6 +74,7 @@ module _ {d e : Document} (b : BlockTexts d) (inner : BlockTexts e) where
   abbrev opening : List ℕ
   opening = inner.head ++ inner.bracket ∷ line_feed ∷ (indentation 1 ++ inner.begins.first ∷ [])
 
+  -- a pretty text is that and more
   after_opening : (x : List ℕ) → layout (setting Pretty 0) e ++ x ≡ opening ++ (inner.begins.tail ++ ((trail Pretty ++ inner.left) ++ x))
   after_opening x =
       ap (λ t. t ++ x) inner.pretty ∙ ap (λ t. (inner.head ++ inner.bracket ∷ line_feed ∷ (indentation 1 ++ (t ++ (trail Pretty ++ inner.left)))) ++ x) inner.begins.is
@@ -81,6 +83,7 @@ module _ {d e : Document} (b : BlockTexts d) (inner : BlockTexts e) where
       parts : (h : List ℕ) (k f : ℕ) (t l x : List ℕ) → (h ++ k ∷ line_feed ∷ (indentation 1 ++ ((f ∷ t) ++ l))) ++ x ≡ (h ++ k ∷ line_feed ∷ (indentation 1 ++ f ∷ [])) ++ (t ++ (l ++ x))
       parts h k f t l x = simp append_assoc
 
+  -- nothing in it is an ender
   no_ender_in : Without is_ender opening
   no_ender_in = without_append is_ender inner.head _ inner.no_ender (opening_no_ender inner.bracket inner.opens, (refl, (refl, (refl, (refl, (refl, (inner.begins.solid.no_ender, tt)))))))
 
@@ -124,6 +127,7 @@ value_assoc w y v t = simp append_assoc
 
 module _ (limit : ℕ) where
   module _ (n : ℕ) (z : List ℕ) (k : ℕ) (r : List ℕ) (none : Without is_opening z) (opens : is_opening k ≡ true) where
+    -- with a bracket, both have it after the same bytes
     alike_at : (o : Option (Document × List ℕ)) → value_from Pretty (from_bracket Pretty z k r) ≡ o → Alike (convert (pretty_with limit) (suc n) (z ++ k ∷ r)) (z ++ k ∷ r)
     alike_at None is = record { before = z; bracket = k; opens = opens; first = convert (pretty_with limit) n r; second = r; first_is = no_value (pretty_with limit) n z k r none opens is; second_is = refl }
     alike_at (Some x) is =
@@ -197,6 +201,7 @@ module _ (limit : ℕ) where
     WasThere n = (w text rest : List ℕ) → FirstBracket w → w ++ convert (pretty_with limit) n text ≡ layout (setting Pretty 0) d ++ rest → IsAtFront (w ++ text)
 
     module _ (n : ℕ) (more : WasThere n) (z : List ℕ) (k : ℕ) (r : List ℕ) (none : Without is_opening z) (opens : is_opening k ≡ true) (w rest : List ℕ) (first : FirstBracket w) where
+      -- at a value before which the pretty text has a bracket
       at_value : (e : Document) (left y : List ℕ) → BlockTexts e → (s : Bool)
           → w ++ (y ++ (value_text s Pretty (layout (setting Plain 0) e) e ++ convert (pretty_with limit) n left)) ≡ layout (setting Pretty 0) d ++ rest → IsAtFront (w ++ (y ++ (layout (setting Plain 0) e ++ left)))
       at_value e left y inner true is =
@@ -204,6 +209,7 @@ module _ (limit : ℕ) where
           subst IsAtFront (value_assoc w y v left) (more (w ++ (y ++ v)) left rest (with_more first (y ++ v)) (value_assoc w y v (convert (pretty_with limit) n left) ∙ is))
       at_value e left y inner false is = ends_before inner w y (convert (pretty_with limit) n left) rest (layout (setting Plain 0) e ++ left) first is
 
+      -- at any bracket
       at_bracket : w ++ convert (pretty_with limit) (suc n) (z ++ k ∷ r) ≡ layout (setting Pretty 0) d ++ rest
           → (o : Option (Document × List ℕ)) → value_from Pretty (from_bracket Pretty z k r) ≡ o → IsAtFront (w ++ (z ++ k ∷ r))
       at_bracket is None found =

@@ -1,7 +1,6 @@
 -- What is read at the front of a line is read there before a line feed too.
-use Rattle.std.proofs.Common.{◌≡◌, ◌∙◌, refl, ap, sym, subst, ℕ, zero, suc, ◌==◌, ◌&&◌, Bool, true, false, cond, List, [], ◌∷◌, ◌++◌, append_assoc, Option, Some, None, codes, arith}
+use Rattle.std.proofs.Common.{◌≡◌, ◌∙◌, refl, ap, sym, ℕ, zero, suc, ◌==◌, ◌&&◌, Bool, true, false, cond, List, [], ◌∷◌, ◌++◌, append_assoc, Option, Some, None}
 use Rattle.std.proofs.lemmas.Bool.{false≢true}
-use Rattle.std.specs.Prelude.{⊤}
 use Rattle.ufmt.specs.Bytes.{closing_brace, closing_bracket, colon, line_feed, opening_bracket, space}
 use Rattle.ufmt.specs.Document.{Document, leaf, joined, list_of, set_of, map_of, struct_of, non_exhaustive_of, tuple_of, pretty_part, no_documents, first_document}
 use Rattle.ufmt.specs.Layout.{frame, setting, inside, block_tail, layout, texts}
@@ -17,7 +16,7 @@ use Rattle.ufmt_grammar.specs.Reading.{Parse, after_leaf, is_whole, leaf_from, r
 use Rattle.ufmt_grammar.specs.declared.class.Class.TheVariants.{Debug}
 use Rattle.ufmt_lines.proofs.BlockTexts.{entries_block}
 use Rattle.ufmt_lines.proofs.FieldsAhead.{field_found, field_there, same_answer}
-use Rattle.ufmt_lines.proofs.FirstBrackets.{Without, front_before, without_after, without_append}
+use Rattle.ufmt_lines.proofs.FirstBrackets.{front_before, without_append}
 use Rattle.ufmt_lines.proofs.FoundValues.{front_value, value_entries, value_read}
 use Rattle.ufmt_lines.proofs.PlainLines.{name_line, plain_line}
 use Rattle.ufmt_lines.specs.Private.LineLen.{is_line_feed}
@@ -42,6 +41,7 @@ port_in_line c (b ∷ []) rest = go (c == closing_bracket) (b == colon)
     go false named = refl
 port_in_line c (b ∷ d ∷ w) rest = refl
 
+-- so what is past the bytes of a name is a port in the line, or isn't
 past_in_line : (w rest : List ℕ) → is_port (past is_name_byte (w ++ line_feed ∷ rest)) ≡ is_port (past is_name_byte w)
 past_in_line [] [] = refl
 past_in_line [] (b ∷ []) = refl
@@ -53,6 +53,7 @@ past_in_line (c ∷ w) rest = go (is_name_byte c) (past_in_line w rest)
     go true more = more
     go false more = port_in_line c w rest
 
+-- and an address is closed in the line, or isn't
 address_in_line : (w rest : List ℕ) → is_address_closed (w ++ line_feed ∷ rest) ≡ is_address_closed w
 address_in_line [] rest = refl
 address_in_line (c ∷ w) rest = ap (λ b. is_name_byte c && b) (past_in_line w rest)
@@ -66,6 +67,7 @@ leaf_only : (b : Bool) (text rest : List ℕ) (d : Document) (u : List ℕ) → 
 leaf_only true text rest d u h = sym (ap has_entries (same_parts {A = Document} {B = List ℕ} (leaf text, rest) (d, u) h).0)
 leaf_only false text rest d u h = absurd (cc)
 
+-- so no block is read there
 address_read : (n : ℕ) (s : Setting) (t : List ℕ) → is_address_closed t ≡ true → (d : Document) (u : List ℕ) → read Debug s n (opening_bracket ∷ t) ≡ Some (d, u) → has_entries d ≡ false
 unfolding read
 address_read zero s t closed d u h = leaf_only _ _ _ d u (sym (address_with s (λ v. None) t closed) ∙ h)
@@ -135,6 +137,7 @@ module _ (line rest : List ℕ) where
   first_end [] = refl
   first_end (b ∷ y) = refl
 
+  -- a field at the front of a line is one before a line feed too, and the other way around
   pub field_in_line : begins_with_field Debug (line ++ line_feed ∷ rest) ≡ begins_with_field Debug line
   field_in_line = same_answer _ _ shorter longer
     where

@@ -50,9 +50,11 @@ after_name_some text low bracket is = go (nat_lt low bracket) refl is
     go false less h = absurd (cc)
 
 module _ (front rest : List ℕ) where
+  -- a byte of the rest
   pub byte_moved : (i : ℕ) → get_or (front ++ rest) (length front + i) 0 ≡ get_or rest i 0
   byte_moved i = get_or-append-add front rest i 0
 
+  -- a run of bytes of a name
   run_moved : (low end : ℕ) → run_start (front ++ rest) (length front + low) (length front + end) ≡ length front + run_start rest low end
   run_moved low zero = run_stops (front ++ rest) (length front + low) (length front + 0) (omega arith)
   run_moved low (suc n) =
@@ -68,6 +70,7 @@ module _ (front rest : List ℕ) where
       go true moved = moved
       go false moved = omega arith
 
+  -- whether it is a name
   named_moved : (start end : ℕ) → is_named (front ++ rest) (length front + start) (length front + end) ≡ is_named rest start end
   named_moved start end = go (nat_lt start end) refl
     where
@@ -90,6 +93,7 @@ module _ (front rest : List ℕ) where
       ∙ ap (λ s. (get_or rest end 0 == space) && is_named (front ++ rest) s (length front + end)) (run_moved low end)
       ∙ ap (λ b. (get_or rest end 0 == space) && b) (named_moved (run_start rest low end) end)
 
+  -- whether a name and a space come before
   pub after_name_moved : (low bracket : ℕ) → is_after_name (front ++ rest) (length front + low) (length front + bracket) ≡ is_after_name rest low bracket
   after_name_moved low bracket = go (nat_lt low bracket) refl
     where
@@ -112,6 +116,7 @@ module _ (front rest : List ℕ) where
       let next : (length front + i) + 1 ≡ length front + (i + 1) = omega arith in
       ap (λ n. drop n (front ++ rest)) next ∙ drop-append-add front rest (i + 1)
 
+  -- where a tuple begins
   tuple_moved : (low bracket : ℕ) → tuple_start (front ++ rest) (length front + low) (length front + bracket) ≡ length front + tuple_start rest low bracket
   tuple_moved low bracket =
       ap (λ s. cond (is_named (front ++ rest) s (length front + bracket)) s (length front + bracket)) (run_moved low bracket)
@@ -119,6 +124,7 @@ module _ (front rest : List ℕ) where
       ∙ moved_choice (is_named rest (run_start rest low bracket) bracket) (length front) (run_start rest low bracket) bracket
 
   module _ (to : Mode) (low bracket : ℕ) where
+    -- where a value with a brace begins
     brace_moved : brace_start to (front ++ rest) (length front + low) (length front + bracket) ≡ length front + brace_start to rest low bracket
     brace_moved =
         ap (λ b. cond (b && is_in_struct to (drop ((length front + bracket) + 1) (front ++ rest))) (run_start (front ++ rest) (length front + low) ((length front + bracket) - 1)) (length front + bracket)) (after_name_moved low bracket)
@@ -146,18 +152,21 @@ module _ (front rest : List ℕ) where
         ∙ ap (λ s. cond (c == opening_brace) (length front + brace_start to rest low bracket) s) (moved_choice (c == opening_parenthesis) (length front) (tuple_start rest low bracket) bracket)
         ∙ moved_choice (c == opening_brace) (length front) (brace_start to rest low bracket) (cond (c == opening_parenthesis) (tuple_start rest low bracket) bracket)
 
+  -- whether a map could be a struct
   could_be_moved : (low bracket : ℕ) → could_be_struct (front ++ rest) (length front + low) (length front + bracket) ≡ could_be_struct rest low bracket
   could_be_moved low bracket =
       ap (λ c. (c == opening_brace) && is_after_name (front ++ rest) (length front + low) (length front + bracket) && begins_with_field Debug (drop ((length front + bracket) + 1) (front ++ rest))) (byte_moved bracket)
       ∙ ap (λ b. (get_or rest bracket 0 == opening_brace) && b && begins_with_field Debug (drop ((length front + bracket) + 1) (front ++ rest))) (after_name_moved low bracket)
       ∙ ap (λ t. (get_or rest bracket 0 == opening_brace) && is_after_name rest low bracket && begins_with_field Debug t) (rest_moved bracket)
 
+  -- the bytes from one place to another
   between_moved : (start end : ℕ) → bytes_between (front ++ rest) (length front + start) (length front + end) ≡ bytes_between rest start end
   between_moved start end =
       let size : (length front + end) - (length front + start) ≡ end - start = omega arith in
       ap (λ n. take n (drop (length front + start) (front ++ rest))) size ∙ ap (take (end - start)) (drop-append-add front rest start)
 
   module _ (conversion : Conversion) where
+    -- whether a value stays
     stays_moved : (low bracket : ℕ) (d : Document) (size : ℕ) → stays conversion (front ++ rest) (length front + low) (length front + bracket) d size ≡ stays conversion rest low bracket d size
     stays_moved low bracket d size = ap (λ b. if_pretty conversion.to (nat_le size conversion.longer_than || has_one_leaf d || b)) (could_be_moved low bracket)
 
@@ -167,6 +176,7 @@ module _ (front rest : List ℕ) where
       value_then more text low place from d end =
           bytes_between text low from ++ (value_text (stays conversion text low place d (end - from)) conversion.to (bytes_between text from end) d ++ more end)
 
+      -- what comes of a value
       ended_moved : (d : Document) (end : ℕ) → value_then next (front ++ rest) (length front + at) (length front + bracket) (length front + start) d (length front + end) ≡ value_then after rest at bracket start d end
       ended_moved d end =
           let size : (length front + end) - (length front + start) ≡ end - start = omega arith in
@@ -176,6 +186,7 @@ module _ (front rest : List ℕ) where
           ∙ ap (λ t. bytes_between rest at start ++ (value_text (stays conversion rest at bracket d (end - start)) conversion.to t d ++ next (length front + end))) (between_moved start end)
           ∙ ap (λ t. bytes_between rest at start ++ (value_text (stays conversion rest at bracket d (end - start)) conversion.to (bytes_between rest start end) d ++ t)) (same end)
 
+      -- what comes of a bracket
       value_moved : (o : Option (Document × List ℕ)) → ((x : Document × List ℕ) → o ≡ Some x → length x.1 ≤ length rest)
           → convert_value conversion next (front ++ rest) (length front + at) (length front + bracket) (length front + start) o ≡ convert_value conversion after rest at bracket start o
       value_moved None fewer =

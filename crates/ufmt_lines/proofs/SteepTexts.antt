@@ -38,6 +38,7 @@ Steep (c ∷ t) = (is_opening c ≡ true → DeepAfter t) × (c ≡ line_feed �
 abbrev pub InLine : List ℕ → Type 0
 InLine t = (v : List ℕ) → t ≢ line_feed ∷ v
 
+-- any other byte may come first
 pub in_line : (c : ℕ) (t : List ℕ) → c ≢ line_feed → InLine (c ∷ t)
 in_line c t other = λ v is. other (ap (λ l. get_or l 0 0) is)
 
@@ -50,6 +51,7 @@ steep_after (c ∷ a) b h = steep_after a b h.2
 pub steep_byte : (c : ℕ) (t : List ℕ) → is_opening c ≡ false → c ≢ line_feed → Steep t → Steep (c ∷ t)
 steep_byte c t other same h = (λ opens. absurd (true≢false (sym opens ∙ other)), λ feed. absurd (same feed), h)
 
+-- a line feed may come before what begins a line
 pub steep_feed : (t : List ℕ) → BeginsLine t → Steep t → Steep (line_feed ∷ t)
 steep_feed t next h = (λ opens. absurd (true≢false (sym opens)), λ feed. next, h)
 
@@ -62,12 +64,14 @@ steep_line (c ∷ w) u line first h = (λ opens. deep w line.1, λ feed. absurd 
     deep [] line = λ v is. absurd (first v is)
     deep (b ∷ w) line = λ v is. absurd (line.0 (ap (λ l. get_or l 0 0) is))
 
+-- so may spaces
 pub steep_indentation : (k : ℕ) (u : List ℕ) → Steep u → Steep (indentation k ++ u)
 steep_indentation zero u h = h
 steep_indentation (suc k) u h =
     let other : space ≢ line_feed = λ e. omega (arith, e) in
     steep_byte 32 _ refl other (steep_byte 32 _ refl other (steep_byte 32 _ refl other (steep_byte 32 _ refl other (steep_indentation k u h))))
 
+-- they begin a line
 begins_indented : (k : ℕ) (u : List ℕ) → 1 ≤ k → BeginsLine (indentation k ++ u)
 begins_indented zero u some = absurd (omega (arith, some))
 begins_indented (suc k) u some = inl refl
@@ -110,6 +114,7 @@ steep_keyed a b first second = λ u line h.
 
 -- ---- the rest of a block
 
+-- an ending may
 closed : (j c : ℕ) (u : List ℕ) → is_opening c ≡ false → c ≢ line_feed → Steep u → Steep ((indentation j ++ (c ∷ [])) ++ u)
 closed j c u other same h = subst Steep (sym (append_assoc (indentation j) (c ∷ []) u)) (steep_indentation j (c ∷ u) (steep_byte c u other same h))
 
@@ -117,6 +122,7 @@ closed j c u other same h = subst Steep (sym (append_assoc (indentation j) (c �
 abbrev pub IsInsideOrLast : ℕ → List ℕ → Type 0
 IsInsideOrLast j u = (1 ≤ j) ⊎ (u ≡ [])
 
+-- it begins a line too
 begins_closed : (j c : ℕ) (u : List ℕ) → IsInsideOrLast j u → BeginsLine ((indentation j ++ (c ∷ [])) ++ u)
 begins_closed zero c u (inl some) = absurd (omega (arith, some))
 begins_closed zero c u (inr last) = inr last
@@ -156,6 +162,7 @@ steep_ending kind j Zero u h = (steep_end kind j u h).0
 steep_ending kind j One u h = (steep_end kind j u h).1
 steep_ending kind j Several u h = (steep_end kind j u h).1
 
+-- what comes before an entry may
 steep_lead : (f : Frame) (j : ℕ) (count : Count) (u : List ℕ) → Steep u → Steep (lead f (setting Pretty j) (next count) ++ u)
 steep_lead f j Zero u h = steep_indentation j u h
 steep_lead f j One u h = steep_indentation j u h
@@ -174,6 +181,7 @@ module _ (kind : Kind) (j : ℕ) (close : List ℕ) (b : Bool) (ends : (u : List
       subst BeginsLine (sym (entry_assoc (lead f (inside (setting Pretty j)) (next count)) text (trail Pretty) (rest_text f (setting Pretty j) close (next (next count)) ts b) u))
       (begins_lead f (inside (setting Pretty j)).depth count _ (entries_indented j))
 
+  -- the rest of a block is steep before what is
   pub steep_rest : (count : Count) (ts : List (List ℕ)) (u : List ℕ) → IsInsideOrLast j u → AreSteep ts → Steep u → Steep (rest_text (frame Pretty kind) (setting Pretty j) close (next count) ts b ++ u)
   steep_rest count [] u last h steep = go b
     where
@@ -191,10 +199,12 @@ pub steep_tail : (kind : Kind) (j : ℕ) (ts : List (List ℕ)) (u : List ℕ) �
 steep_tail kind j ts u last h steep =
     subst (λ t. Steep (t ++ u)) (rest_text-false (frame Pretty kind) (setting Pretty j) [] One ts) (steep_rest kind j [] false (λ v l k. k) Zero ts u last h steep)
 
+-- a line begins with it
 pub begins_tail : (kind : Kind) (j : ℕ) (ts : List (List ℕ)) (u : List ℕ) → IsInsideOrLast j u → BeginsLine (block_tail (frame Pretty kind) (setting Pretty j) One ts ++ u)
 begins_tail kind j ts u last =
     subst (λ t. BeginsLine (t ++ u)) (rest_text-false (frame Pretty kind) (setting Pretty j) [] One ts) (begins_rest kind j [] false (λ v l k. k) Zero ts u last)
 
+-- dots and an ending may come first
 dots_steep : (j : ℕ) (u : List ℕ) → IsInsideOrLast j u → Steep u → Steep (last_dots (setting Pretty j) ++ u)
 dots_steep j u last h =
     let other : 46 ≢ line_feed = λ e. omega (arith, e) in
@@ -204,9 +214,11 @@ dots_steep j u last h =
 pub steep_dotted : (j : ℕ) (ts : List (List ℕ)) (u : List ℕ) → IsInsideOrLast j u → AreSteep ts → Steep u → Steep (rest_text (frame Pretty Struct) (setting Pretty j) (last_dots (setting Pretty j)) One ts true ++ u)
 steep_dotted j ts u last h steep = steep_rest Struct j (last_dots (setting Pretty j)) true (dots_steep j) Zero ts u last h steep
 
+-- a line begins with them
 pub begins_dotted : (j : ℕ) (ts : List (List ℕ)) (u : List ℕ) → IsInsideOrLast j u → BeginsLine (rest_text (frame Pretty Struct) (setting Pretty j) (last_dots (setting Pretty j)) One ts true ++ u)
 begins_dotted j ts u last = begins_rest Struct j (last_dots (setting Pretty j)) true (dots_steep j) Zero ts u last
 
+-- no name has a line feed
 pub name_in_line : (name : List ℕ) → IsName Debug name → IsOneLine name
 name_in_line name h = (IsBuilt-HasNoLineFeed Debug (struct_of name no_fields) (h, tt)).0
 
@@ -228,10 +240,12 @@ entries_deep j deep = omega (arith, deep)
 entries_inside : (j : ℕ) → 1 ≤ j → 1 ≤ min (j + 1) 255
 entries_inside j deep = omega (arith, deep)
 
+-- a name is steep
 pub name_steep : (name : List ℕ) → IsName Debug name → IsSteep name
 name_steep name h = λ u first rest. steep_line name u (name_in_line name h) first rest
 
 mutual
+  -- the text of a document inside of a block is steep
   pub document_steep : (j : ℕ) → 1 ≤ j → (d : Document) → IsBuilt Debug d → IsSteep (layout (setting Pretty j) d)
   document_steep j deep (leaf text) h = λ u first rest. steep_line text u (IsBuilt-HasNoLineFeed Debug (leaf text) h) first rest
   document_steep j deep (joined ds) h = absurd h
@@ -274,6 +288,7 @@ mutual
       (document_steep (min (j + 1) 255) (entries_inside j deep) d h.1) (begins_tail Tuple j _ u (inl deep)) (steep_tail Tuple j _ u (inl deep) (documents_steep (min (j + 1) 255) (entries_inside j deep) ds h.2) rest))
   document_steep j deep (pretty_part d) h = absurd h
 
+  -- so are those of entries, of pairs and of fields
   pub documents_steep : (j : ℕ) → 1 ≤ j → (ds : Documents) → AreBuilt Debug ds → AreSteep (texts (setting Pretty j) ds)
   documents_steep j deep no_documents h = tt
   documents_steep j deep (first_document d ds) h = (document_steep j deep d h.0, documents_steep j deep ds h.1)

@@ -1,6 +1,5 @@
 -- Texts that stay as they are made plain: no pretty value is in them, and none is in what follows a byte of no name.
 use Rattle.std.proofs.Common.{◌≡◌, ◌⊎◌, inl, inr, ◌∙◌, refl, ap, sym, subst, ℕ, zero, suc, ◌+◌, ◌≤◌, Bool, true, false, List, [], ◌∷◌, ◌++◌, append_assoc, Option, Some, None, drop, take, length, length-append, arith}
-use Rattle.std.proofs.Math.Seq.{drop-append-add, take-append-add}
 use Rattle.std.proofs.lemmas.List.{append_cancel_left}
 use Rattle.ufmt.specs.Bytes.{line_feed}
 use Rattle.ufmt.specs.Document.{Document}
@@ -14,9 +13,9 @@ use Rattle.ufmt_lines.proofs.BlockTexts.{BlockTexts, block_texts, entries_block}
 use Rattle.ufmt_lines.proofs.ConvertedSteps.{convert, no_bracket, no_value, value_step, value_whole}
 use Rattle.ufmt_lines.proofs.FirstBrackets.{FirstBracket, Without, first_bracket, without_append}
 use Rattle.ufmt_lines.proofs.FoundValues.{value_entries, value_read}
-use Rattle.ufmt_lines.proofs.ValueStarts.{Apart, from_bracket, start_after, start_is, start_later}
+use Rattle.ufmt_lines.proofs.ValueStarts.{Apart, from_bracket, start_after}
 use Rattle.ufmt_lines.specs.OutputLaws.{plain_with}
-use Rattle.ufmt_lines.specs.Values.{convert_from, is_in_struct, value_from, value_start}
+use Rattle.ufmt_lines.specs.Values.{convert_from, is_in_struct, value_from}
 use Rattle.ufmt_lines.specs.declared.run.conversion.Conversion.{Conversion}
 use Rattle.ufmt_scan.specs.Texts.{other_mode}
 
@@ -87,6 +86,7 @@ module _ (limit : ℕ) where
   cut_assoc z k r e t = simp append_assoc
 
   module _ (c : ℕ) (text : List ℕ) (apart : Apart c) where
+    -- without a bracket before the byte, or at the byte
     after_last : (y : List ℕ) → Without is_opening y → Still ((y ++ c ∷ []) ++ text) → (b : Bool) → is_opening c ≡ b → Still text
     after_last y none h true opens = (still_at y c text none opens (subst Still (append_assoc y (c ∷ []) text) h)).1
     after_last y none h false other =

@@ -1,5 +1,5 @@
 -- Where a value begins, by the bytes before its bracket, and that what is before a byte of no name doesn't count.
-use Rattle.std.proofs.Common.{◌≡◌, ◌∙◌, refl, ap, sym, subst, ℕ, zero, suc, ◌+◌, ◌-◌, ◌<◌, ◌≤◌, ◌==◌, ◌&&◌, not, Bool, true, false, cond, List, [], ◌∷◌, ◌++◌, drop, length, length-append, get_or, arith}
+use Rattle.std.proofs.Common.{◌≡◌, ◌∙◌, refl, ap, sym, ℕ, zero, suc, ◌+◌, ◌-◌, ◌<◌, ◌≤◌, ◌==◌, ◌&&◌, not, Bool, true, false, cond, List, [], ◌∷◌, ◌++◌, drop, length, length-append, get_or, arith}
 use Rattle.std.proofs.Math.Seq.{drop-append-add, get_or-append_seam}
 use Rattle.std.proofs.lemmas.Bool.Decides.{nat_tests}
 use Rattle.std.proofs.lemmas.List.{get_or_append_left}
@@ -14,12 +14,14 @@ use Rattle.ufmt_scan.specs.Fronts.{begins_with_field}
 
 -- ---- what follows the bracket doesn't count
 
+-- where a run begins
 run_before : (z u : List ℕ) (low end : ℕ) → end ≤ length z → run_start (z ++ u) low end ≡ run_start z low end
 run_before z u low zero within = refl
 run_before z u low (suc n) within =
     ap (λ c. cond (nat_le low n && is_name_byte c) (run_start (z ++ u) low n) (suc n)) (get_or_append_left z u 0 n (omega (arith, within)))
     ∙ ap (λ s. cond (nat_le low n && is_name_byte (get_or z n 0)) s (suc n)) (run_before z u low n (omega (arith, within)))
 
+-- whether it is a name
 named_before : (z u : List ℕ) (start end : ℕ) → end ≤ length z → is_named (z ++ u) start end ≡ is_named z start end
 named_before z u start end within = go (nat_lt start end) refl
   where
@@ -30,6 +32,7 @@ named_before z u start end within = go (nat_lt start end) refl
     go false is =
         ap (λ b. b && not (get_or (z ++ u) (end - 1) 0 == colon)) is ∙ ap (λ b. b && not (get_or z (end - 1) 0 == colon)) (sym is)
 
+-- whether a name and a space come before
 after_before : (z u : List ℕ) (low bracket : ℕ) → bracket ≤ length z → is_after_name (z ++ u) low bracket ≡ is_after_name z low bracket
 after_before z u low bracket within = go (nat_lt low bracket) refl
   where
@@ -52,6 +55,7 @@ start_after k z inside =
 abbrev pub from_bracket : Mode → List ℕ → ℕ → List ℕ → List ℕ
 from_bracket to z k r = drop (start_after k z (is_in_struct to r)) z ++ k ∷ r
 
+-- where the definition says that a value begins
 pub start_is : (to : Mode) (z : List ℕ) (k : ℕ) (r : List ℕ) → value_start to (z ++ k ∷ r) 0 (length z) ≡ start_after k z (is_in_struct to r)
 start_is to z k r =
     let n = length z in
@@ -87,6 +91,7 @@ start_same k z i j same = go (k == opening_brace) (is_after_name z 0 (length z))
     go true false alike = refl
     go false named alike = refl
 
+-- whether it could be a struct, by what follows the bracket
 pub could_be_is : (z : List ℕ) (k : ℕ) (r : List ℕ) → could_be_struct (z ++ k ∷ r) 0 (length z) ≡ ((k == opening_brace) && is_after_name z 0 (length z) && begins_with_field Debug r)
 could_be_is z k r =
     let n = length z in
@@ -103,6 +108,7 @@ pub record Apart (c : ℕ) : Type 0 where
   pub no_space : (c == space) ≡ false
 
 module _ (text : List ℕ) (l : ℕ) (no_name : is_name_byte (get_or text l 0) ≡ false) where
+  -- a run doesn't go past such a byte
   run_low : (end : ℕ) → suc l ≤ end → run_start text 0 end ≡ run_start text (suc l) end
   run_low zero less = absurd (omega (arith, less))
   run_low (suc n) less = go (nat_le (suc l) n) refl (run_low n)
@@ -123,6 +129,7 @@ module _ (text : List ℕ) (l : ℕ) (no_name : is_name_byte (get_or text l 0) �
           ∙ ap (λ b. cond (b && is_name_byte (get_or text n 0)) (run_start text (suc l) n) (suc n)) (sym is)
 
   module _ (bracket : ℕ) (past : suc l ≤ bracket) where
+    -- so a name before the bracket begins after it
     after_low : (bracket ≡ suc l → (get_or text l 0 == space) ≡ false) → is_after_name text 0 bracket ≡ is_after_name text (suc l) bracket
     after_low spaced = ap (λ b. name_before b text 0 (bracket - 1)) some ∙ go (nat_lt (suc l) bracket) refl
       where
@@ -141,6 +148,7 @@ module _ (text : List ℕ) (l : ℕ) (no_name : is_name_byte (get_or text l 0) �
             ap (λ b. b && is_named text (run_start text 0 (bracket - 1)) (bracket - 1)) other
             ∙ ap (λ b. name_before b text (suc l) (bracket - 1)) (sym is)
 
+    -- and so does a value
     start_low : (to : Mode) → ((get_or text bracket 0 == opening_brace) ≡ true → bracket ≡ suc l → (get_or text l 0 == space) ≡ false)
         → value_start to text 0 bracket ≡ value_start to text (suc l) bracket
     start_low to spaced =

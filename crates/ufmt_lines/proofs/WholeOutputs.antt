@@ -1,5 +1,5 @@
 -- The outputs for the groups of a text, put together, are the output for the text.
-use Rattle.std.proofs.Common.{◌≡◌, ◌≢◌, ◌⊎◌, inl, inr, ◌∙◌, refl, ap, sym, subst, ℕ, zero, suc, ◌<◌, ◌≤◌, ◌-◌, ◌==◌, ◌||◌, ◌&&◌, Bool, true, false, List, [], ◌∷◌, ◌++◌, append_assoc, drop, take, length, length-append, eqb-true, arith}
+use Rattle.std.proofs.Common.{◌≡◌, ◌≢◌, ◌⊎◌, inl, inr, ◌∙◌, refl, ap, sym, ℕ, zero, suc, ◌≤◌, ◌-◌, ◌==◌, ◌||◌, ◌&&◌, Bool, true, false, List, [], ◌∷◌, ◌++◌, append_assoc, drop, take, length, length-append, eqb-true, arith}
 use Rattle.std.proofs.lemmas.Bool.Decides.{eqb_tells, nat_tests}
 use Rattle.std.proofs.lemmas.List.{take-append-drop}
 use Rattle.std.proofs.lemmas.List.Elements.{All-cons, All-head, All-nil, All-tail}
@@ -23,7 +23,6 @@ use Rattle.ufmt_lines.specs.OutputLaws.{OutputsAreTheOutput, PlainLogsComeBack, 
 use Rattle.ufmt_lines.specs.Private.Group.{IsEndedLine, IsOpen}
 use Rattle.ufmt_lines.specs.Private.LineLen.{is_line_feed}
 use Rattle.ufmt_lines.specs.Values.{output_of}
-use Rattle.ufmt_lines.specs.declared.run.conversion.Conversion.{Conversion}
 
 -- the first line of a text, if it has a line feed
 record FirstLine (text : List ℕ) : Type 0 where
@@ -32,6 +31,7 @@ record FirstLine (text : List ℕ) : Type 0 where
   pub within : IsInLine line
   pub is : text ≡ line ++ line_feed ∷ more
 
+-- each text has one, or no line feed
 first_line : (text : List ℕ) → IsInLine text ⊎ FirstLine text
 first_line [] = inl (All-nil (λ b. b ≢ line_feed))
 first_line (c ∷ t) = go (eqb_tells c line_feed) (first_line t)
@@ -41,6 +41,7 @@ first_line (c ∷ t) = go (eqb_tells c line_feed) (first_line t)
     go (inr h) (inl within) = inl (All-cons (λ b. b ≢ line_feed) c t h.1 within)
     go (inr h) (inr f) = inr (record { line = c ∷ f.line; more = f.more; within = All-cons (λ b. b ≢ line_feed) c f.line h.1 f.within; is = ap (λ u. c ∷ u) f.is })
 
+-- no byte of a line is a line feed, by the test
 in_line : (text : List ℕ) → IsInLine text → Without is_line_feed text
 in_line [] within = tt
 in_line (c ∷ t) within = (go (c == line_feed) refl, in_line t (All-tail (λ b. b ≢ line_feed) c t within))
@@ -52,6 +53,7 @@ in_line (c ∷ t) within = (go (c == line_feed) refl, in_line t (All-tail (λ b.
 module _ (limit : ℕ) where
   -- ---- pretty
 
+  -- the outputs for a line with its line feed and for the rest
   ended_line : (line more : List ℕ) → IsInLine line
       → output_of (pretty_with limit) (line ++ line_feed ∷ []) ++ output_of (pretty_with limit) more ≡ output_of (pretty_with limit) (line ++ line_feed ∷ more)
   ended_line line more within =
@@ -60,6 +62,7 @@ module _ (limit : ℕ) where
       ∙ append_assoc out (line_feed ∷ []) (output_of (pretty_with limit) more)
       ∙ sym (pretty_line limit line more (in_line line within))
 
+  -- the outputs for lines are the output for the text
   by_lines : (most : ℕ) (text : List ℕ) → length text ≤ most → outputs_of (pretty_with limit) text ≡ output_of (pretty_with limit) text
   by_lines zero [] short = outputs_one (pretty_with limit) [] (groups_only Pretty [] [] (nothing_open Pretty) (All-nil (λ b. b ≢ line_feed)))
   by_lines zero (c ∷ text) short = absurd (omega (arith, short))
@@ -117,9 +120,11 @@ module _ (limit : ℕ) where
 
     -- the line is in one group
     module _ (one : pieces_in Plain ended ≡ ended ∷ []) where
+      -- the group continues after it
       goes_on : continues Plain lines ended ≡ true → Same
       goes_on on = all (lines ++ ended) more short (line_continues Plain lines ended is_open is_ended one on) (inr (lines ++ line, sym (append_assoc lines line (line_feed ∷ []))))
 
+      -- or it ends there
       ends_there : continues Plain lines ended ≡ false → Same
       ends_there off =
           outputs_cut (plain_with limit) (if_any (lines ++ ended)) (lines ++ ended) [] (line_ends Plain lines ended is_open is_ended one off) more
@@ -144,11 +149,13 @@ module _ (limit : ℕ) where
       in_one true on = goes_on on
       in_one false off = ends_there off
 
+    -- after each line, the outputs are those of the whole
     at_line : (o i : Bool) → opens ended ≡ o → is_indented ended ≡ i → Same
     at_line true false is edge = at_word is edge
     at_line true true is indented = in_one (rw (is, indented) refl) (continues Plain lines ended) refl
     at_line false i none indented = in_one (rw none refl) (continues Plain lines ended) refl
 
+  -- the outputs for groups are the output for the text
   by_groups : (most : ℕ) → AllGroups most
   by_groups zero lines [] short is_open ends = outputs_one (plain_with limit) (lines ++ []) (groups_only Plain lines [] is_open (All-nil (λ b. b ≢ line_feed)))
   by_groups zero lines (c ∷ more) short is_open ends = absurd (omega (arith, short))
@@ -167,13 +174,16 @@ module _ (limit : ℕ) where
 
 -- ---- both
 
+-- in each mode
 whole_output : (to : Mode) (limit : ℕ) (text : List ℕ) → outputs_of (record { to = to; longer_than = limit }) text ≡ output_of (record { to = to; longer_than = limit }) text
 whole_output Plain limit text = by_groups limit (length text) [] text (omega arith) (nothing_open Plain) (inl refl)
 whole_output Pretty limit text = by_lines limit (length text) text (omega arith)
 
+-- the law on outputs
 pub outputs_are_the_output : OutputsAreTheOutput
 outputs_are_the_output = λ conversion text. whole_output conversion.to conversion.longer_than text
 
+-- the law on logs
 pub plain_logs_come_back : PlainLogsComeBack
 plain_logs_come_back = λ limit log same.
     whole_output Plain limit (outputs_of (pretty_with limit) log) ∙ ap (output_of (plain_with limit)) (whole_output Pretty limit log)
