@@ -161,7 +161,7 @@ word_fronts w u h stops = record {
 }
 
 -- a leaf's bytes, if no colon at its end is before a space
-text_fronts : (w u : List ℕ) → IsDebugLeaf w → StopsLeaf u → (ends_in_colon w ≡ true → is_spaced u ≡ false) → IsFront Debug w u
+pub text_fronts : (w u : List ℕ) → IsDebugLeaf w → StopsLeaf u → (ends_in_colon w ≡ true → is_spaced u ≡ false) → IsFront Debug w u
 text_fronts w u h stops seam = record {
   front = leaf_from-append beginning w u (some_begun beginning w h.some) h.pieces stops seam;
   after = after_leaf-append beginning w u (some_begun beginning w h.some) h.pieces stops seam;

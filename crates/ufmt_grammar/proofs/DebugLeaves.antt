@@ -232,7 +232,7 @@ port_more c [] u h = absurd (cc)
 port_more c (b ∷ []) u h = absurd (cc)
 port_more c (b ∷ d ∷ t) u h = h
 
-both : (a b : Bool) → a && b ≡ true → (a ≡ true) × (b ≡ true)
+pub both : (a b : Bool) → a && b ≡ true → (a ≡ true) × (b ≡ true)
 both true b h = (refl, h)
 both false b h = absurd (cc)
 

@@ -38,7 +38,7 @@ port_search : IsSearch is_name_byte is_port
 port_search = record { named = λ c h. h; none = no_port }
 
 -- a byte of a name stays outside of quotes
-name_step : (c : ℕ) (t : List ℕ) (next : Place) → is_name_byte c ≡ true → place_outside c t ≡ Some next → next ≡ outside
+pub name_step : (c : ℕ) (t : List ℕ) (next : Place) → is_name_byte c ≡ true → place_outside c t ≡ Some next → next ≡ outside
 name_step c t next named h = go (outside_step c t next h)
   where
     go : OutsideStep c t next → next ≡ outside
@@ -48,7 +48,7 @@ name_step c t next named h = go (outside_step c t next h)
     go (inr (inr (inr step))) = let opens = subst (λ b. is_name_byte b ≡ true) step.0 named in absurd (cc)
 
 -- at a leaf's start too
-name_begins : (c : ℕ) (t : List ℕ) → is_name_byte c ≡ true → place_after beginning c t ≡ place_outside c t
+pub name_begins : (c : ℕ) (t : List ℕ) → is_name_byte c ≡ true → place_after beginning c t ≡ place_outside c t
 name_begins c t named = go (c == opening_parenthesis) (c == opening_bracket) refl refl
   where
     go : (parenthesis bracket : Bool) → (c == opening_parenthesis) ≡ parenthesis → (c == opening_bracket) ≡ bracket

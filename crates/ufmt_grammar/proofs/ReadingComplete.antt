@@ -1,10 +1,12 @@
 -- Reading is complete: the text of a document of a class, before what may follow, is read as its normal form.
 use Rattle.std.proofs.Common.{◌≡◌, ◌∙◌, refl, ap, sym, ℕ, zero, suc, ◌<◌, ◌≤◌, Bool, true, false, List, [], ◌∷◌, ◌++◌, Some, None, codes, append_assoc, append-nil, arith}
+use Rattle.std.specs.Prelude.{⊤}
 use Rattle.ufmt_core.specs.Bytes.{closing_brace, closing_bracket, closing_parenthesis}
 use Rattle.ufmt_core.specs.Document.{Document, leaf, joined, list_of, set_of, map_of, struct_of, non_exhaustive_of, tuple_of, pretty_part, Documents, no_documents, first_document, Pairs, no_pairs, first_pair, Fields, no_fields, first_field, nest, nest_all, nest_pairs, nest_fields}
-use Rattle.ufmt_core.specs.Layout.{frame, inside, new_line, lead, trail, block_tail, layout, texts, pair_texts, field_texts}
+use Rattle.ufmt_core.specs.Layout.{frame, setting, inside, new_line, lead, trail, block_tail, layout, texts, pair_texts, field_texts}
 use Rattle.ufmt_core.specs.declared.layout.Setting.{Setting}
 use Rattle.ufmt_core.specs.declared.layout.Kind.TheVariants.{Brackets, Braces, Struct, Tuple, Unnamed}
+use Rattle.ufmt_core.specs.declared.layout.Mode.TheVariants.{Pretty}
 use Rattle.ufmt_core.specs.declared.layout.Count.TheVariants.{Zero, One}
 use Rattle.ufmt_grammar.specs.Token.{Class, Token, Debug, MayEndInDots, OrEmpty, IsName, IsBuilt, AreBuilt, PairsAreBuilt, FieldsAreBuilt, normal, normal_all, normal_pairs, normal_fields, MayFollow}
 use Rattle.ufmt_grammar.specs.Reading.{Parse, choose, strip, strip_dots, strip_only_dots, last_dots, list_with, set_with, map_with, tuple_with, struct_with, read_name, read_pair, read_tuple, read_struct, read_named, read_with, read}
@@ -15,7 +17,7 @@ use Rattle.ufmt_grammar.proofs.FramesClose.{Fits, fits_inside, fits_less, ender_
 use Rattle.ufmt_core.proofs.ListedDocuments.{listed, documents-listed, listed_pairs, pairs_of-listed_pairs, listed_fields, fields_of-listed_fields}
 use Rattle.ufmt_grammar.proofs.NoStarts.{list_no_address, tuple_no_word, no_entry_no_address}
 use Rattle.ufmt_grammar.proofs.TextsBegin.{document_begins}
-use Rattle.ufmt_grammar.proofs.ClassLeaves.{Begins, Begins-append, name_begins, name_some, name_leaf, leaf_complete, follower_ends_front, stops_at_parenthesis, stops_at_space, colon_follows, read_name_complete, at_bracket, at_brace, at_parenthesis, no_symbol, name_leads}
+use Rattle.ufmt_grammar.proofs.ClassLeaves.{Begins, Begins-append, name_begins, name_some, name_leaf, leaf_complete, follower_ends_front, IsNoAddress, stops_at_parenthesis, stops_at_space, colon_follows, read_name_complete, at_bracket, at_brace, at_parenthesis, no_symbol, name_leads}
 
 -- a struct that has only dots is read after its name
 only_dots_read : (class : Class) (s : Setting) (p : Parse Document) (name u : List ℕ) → MayEndInDots class
@@ -23,6 +25,24 @@ only_dots_read : (class : Class) (s : Setting) (p : Parse Document) (name u : Li
 only_dots_read Token s p name u may = absurd may
 only_dots_read Debug s p [] u may = refl
 only_dots_read Debug s p (c ∷ name) u may = refl
+
+-- a block with entries
+abbrev pub IsBlock : Document → Type 0
+IsBlock (leaf text) = ⊥
+IsBlock (joined ds) = ⊥
+IsBlock (list_of no_documents) = ⊥
+IsBlock (list_of (first_document d ds)) = ⊤
+IsBlock (set_of no_documents) = ⊥
+IsBlock (set_of (first_document d ds)) = ⊤
+IsBlock (map_of no_pairs) = ⊥
+IsBlock (map_of (first_pair key value ps)) = ⊤
+IsBlock (struct_of name no_fields) = ⊥
+IsBlock (struct_of name (first_field field_name value fs)) = ⊤
+IsBlock (non_exhaustive_of name no_fields) = ⊥
+IsBlock (non_exhaustive_of name (first_field field_name value fs)) = ⊤
+IsBlock (tuple_of name no_documents) = ⊥
+IsBlock (tuple_of name (first_document d ds)) = ⊤
+IsBlock (pretty_part d) = ⊥
 
 module _ (class : Class) where
   -- at this mode and depth, `p` reads each document that is nested less than n deep
@@ -70,13 +90,14 @@ module _ (class : Class) where
 
   -- a list with entries is read
   list_complete : (s : Setting) (p : Parse Document) (n : ℕ) → ReadsBelow p (inside s) n → Fits s n
-      → (d : Document) (ds : Documents) (u : List ℕ) → IsBuilt class d → AreBuilt class ds → nest (list_of (first_document d ds)) ≤ n → MayFollow class u
+      → (d : Document) (ds : Documents) (u : List ℕ) → IsBuilt class d → AreBuilt class ds → nest (list_of (first_document d ds)) ≤ n
+      → IsNoAddress class (block_tail (frame s.mode Brackets) s Zero (texts (inside s) (first_document d ds)) ++ u)
       → read_with class s p (layout s (list_of (first_document d ds)) ++ u) ≡ Some (normal (list_of (first_document d ds)), u)
-  list_complete s p n below fits d ds u h hs less follows =
+  list_complete s p n below fits d ds u h hs less none =
       let first : IsRead class p (normal d) (layout (inside s) d) = below.reads d h (omega arith) in
       let more : AreRead class p (listed (normal_all ds)) (texts (inside s) ds) = documents_complete p (inside s) n below ds hs (omega arith) in
       let close = closes class s Brackets (fits_less s 1 n (omega arith) fits) in
-      at_bracket class s p (block_tail (frame s.mode Brackets) s Zero (texts (inside s) (first_document d ds)) ++ u) (list_no_address class s d (texts (inside s) ds) u h follows)
+      at_bracket class s p (block_tail (frame s.mode Brackets) s Zero (texts (inside s) (first_document d ds)) ++ u) none
       ∙ rw (ender_begins_none closing_bracket [] refl (entries_begin s first.begins (trail s.mode ++ block_tail (frame s.mode Brackets) s One (texts (inside s) ds)) u))
       (rw (block_complete class p (frame s.mode Brackets) s list_with close (normal d) (listed (normal_all ds))
       (layout (inside s) d) (texts (inside s) ds) u first more)
@@ -227,7 +248,7 @@ module _ (class : Class) where
   read_with_complete s p n below fits (leaf text) u h less follows = leaf_complete class s p text u h follows
   read_with_complete s p n below fits (joined ds) u h less follows = absurd h
   read_with_complete s p n below fits (list_of no_documents) u h less follows = at_bracket class s p (closing_bracket ∷ u) (no_entry_no_address class u)
-  read_with_complete s p n below fits (list_of (first_document d ds)) u h less follows = list_complete s p n below fits d ds u h.0 h.1 less follows
+  read_with_complete s p n below fits (list_of (first_document d ds)) u h less follows = list_complete s p n below fits d ds u h.0 h.1 less (list_no_address class s d (texts (inside s) ds) u h.0 follows)
   read_with_complete s p n below fits (set_of no_documents) u h less follows = at_brace class s p (closing_brace ∷ u)
   read_with_complete s p n below fits (set_of (first_document d ds)) u h less follows = set_complete s p n below fits d ds u h.0 h.1 less
   read_with_complete s p n below fits (map_of no_pairs) u h less follows = at_brace class s p (closing_brace ∷ u)
@@ -254,3 +275,69 @@ module _ (class : Class) where
           reads = λ v after. read_complete n (inside s) e v w (omega arith) (fits_inside s n fits) after;
         };
       }) fits d u h less follows
+
+  -- before this text, a list with entries is no address
+  abbrev pub NoAddressIn : Setting → Document → List ℕ → Type 0
+  NoAddressIn s (leaf text) u = ⊤
+  NoAddressIn s (joined ds) u = ⊤
+  NoAddressIn s (list_of no_documents) u = ⊤
+  NoAddressIn s (list_of (first_document d ds)) u = IsNoAddress class (block_tail (frame s.mode Brackets) s Zero (texts (inside s) (first_document d ds)) ++ u)
+  NoAddressIn s (set_of ds) u = ⊤
+  NoAddressIn s (map_of ps) u = ⊤
+  NoAddressIn s (struct_of name fs) u = ⊤
+  NoAddressIn s (non_exhaustive_of name fs) u = ⊤
+  NoAddressIn s (tuple_of name ds) u = ⊤
+  NoAddressIn s (pretty_part d) u = ⊤
+
+  -- a block with entries is read if its entries are, whatever follows it, but for what makes a list an address
+  block_with_complete : (s : Setting) (p : Parse Document) (n : ℕ) → ReadsBelow p (inside s) n → Fits s n → (d : Document) (u : List ℕ)
+      → IsBuilt class d → IsBlock d → nest d ≤ n → NoAddressIn s d u → read_with class s p (layout s d ++ u) ≡ Some (normal d, u)
+  block_with_complete s p n below fits (leaf text) u h block less none = absurd block
+  block_with_complete s p n below fits (joined ds) u h block less none = absurd block
+  block_with_complete s p n below fits (list_of no_documents) u h block less none = absurd block
+  block_with_complete s p n below fits (list_of (first_document d ds)) u h block less none = list_complete s p n below fits d ds u h.0 h.1 less none
+  block_with_complete s p n below fits (set_of no_documents) u h block less none = absurd block
+  block_with_complete s p n below fits (set_of (first_document d ds)) u h block less none = set_complete s p n below fits d ds u h.0 h.1 less
+  block_with_complete s p n below fits (map_of no_pairs) u h block less none = absurd block
+  block_with_complete s p n below fits (map_of (first_pair key value ps)) u h block less none = map_complete s p n below fits key value ps u h.0 h.1 h.2 less
+  block_with_complete s p n below fits (struct_of name no_fields) u h block less none = absurd block
+  block_with_complete s p n below fits (struct_of name (first_field field_name value fs)) u h block less none =
+      struct_complete s p n below fits name field_name value fs u h.0 h.1.0 h.1.1 h.1.2 less
+  block_with_complete s p n below fits (tuple_of name no_documents) u h block less none = absurd block
+  block_with_complete s p n below fits (tuple_of name (first_document d ds)) u h block less none = tuple_complete s p n below fits name d ds u h.0 h.1 h.2 less
+  block_with_complete s p n below fits (non_exhaustive_of name no_fields) u h block less none = absurd block
+  block_with_complete s p n below fits (non_exhaustive_of name (first_field field_name value fs)) u h block less none =
+      dotted_complete s p n below fits name (first_field field_name value fs) u h.0 h.1 h.2 less
+  block_with_complete s p n below fits (pretty_part d) u h block less none = absurd block
+
+  -- a block with entries is read as its normal form so
+  pub block_read : (n : ℕ) (s : Setting) (d : Document) (u : List ℕ) → IsBuilt class d → IsBlock d → nest d ≤ n → Fits s n → NoAddressIn s d u
+      → read class s n (layout s d ++ u) ≡ Some (normal d, u)
+  unfolding read
+  block_read zero s d u h block less fits none =
+      block_with_complete s (λ t. None) zero (record { reads = λ e w below. absurd (omega arith) }) fits d u h block less none
+  block_read (suc n) s d u h block less fits none =
+      block_with_complete s (read class (inside s) n) (suc n)
+      (record {
+        reads = λ e w under. record {
+          begins = document_begins class (inside s) e w;
+          reads = λ v after. read_complete n (inside s) e v w (omega arith) (fits_inside s n fits) after;
+        };
+      }) fits d u h block less none
+
+  -- in pretty mode a line feed comes after a list's bracket
+  pub pretty_no_address : (k : ℕ) (d : Document) (u : List ℕ) → NoAddressIn (setting Pretty k) d u
+  pretty_no_address k (leaf text) u = tt
+  pretty_no_address k (joined ds) u = tt
+  pretty_no_address k (list_of no_documents) u = tt
+  pretty_no_address k (list_of (first_document d ds)) u = go class
+    where
+      go : (class : Class) → IsNoAddress class (block_tail (frame Pretty Brackets) (setting Pretty k) Zero (texts (inside (setting Pretty k)) (first_document d ds)) ++ u)
+      go Token = tt
+      go Debug = refl
+  pretty_no_address k (set_of ds) u = tt
+  pretty_no_address k (map_of ps) u = tt
+  pretty_no_address k (struct_of name fs) u = tt
+  pretty_no_address k (non_exhaustive_of name fs) u = tt
+  pretty_no_address k (tuple_of name ds) u = tt
+  pretty_no_address k (pretty_part d) u = tt

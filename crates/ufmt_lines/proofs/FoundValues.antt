@@ -1,9 +1,10 @@
 -- A value that is found, and its text in the other mode.
-use Rattle.std.proofs.Common.{◌≡◌, ◌∙◌, refl, ap, sym, subst, ℕ, List, [], ◌∷◌, ◌++◌, Bool, true, false, Option, Some, None, option_and_then, option_map, Ok, Err, is_some, ◌+◌, ◌-◌, ◌<◌, ◌≤◌, length, length-append, length-drop, cond, take, drop, arith}
+use Rattle.std.proofs.Common.{◌≡◌, ◌∙◌, refl, ap, sym, ℕ, List, ◌++◌, Bool, true, false, Option, Some, None, option_and_then, option_map, Ok, Err, is_some, ◌<◌, ◌≤◌, length, length-append, length-drop, cond, take, drop, arith}
 use Rattle.std.proofs.lemmas.Bool.{false≢true}
-use Rattle.std.proofs.Math.Seq.{drop-append_seam, take-append_seam}
+use Rattle.std.proofs.Math.Seq.{take-append_seam}
 use Rattle.std.specs.Prelude.{⊤}
 use Rattle.ufmt_grammar.proofs.NormalForms.{layout-normal}
+use Rattle.ufmt_grammar.proofs.Parsing.{same_parts}
 use Rattle.ufmt_grammar.proofs.ReadingSound.{read_sound, Found}
 use Rattle.ufmt_grammar.proofs.ReadingTurns.{read_takes}
 use Rattle.ufmt_grammar.proofs.ReadingWhole.{reads_each_text, reads_only_texts}
@@ -14,12 +15,12 @@ use Rattle.ufmt.specs.Reading.{read_text}
 use Rattle.ufmt.specs.Token.{IsDebugDocument, normal}
 use Rattle.ufmt_core.specs.declared.layout.Mode.{Mode}
 use Rattle.ufmt_lines.specs.Private.Converted.{converted}
-use Rattle.ufmt_lines.specs.Private.FoundValues.{IsFoundValue, IsValue}
+use Rattle.ufmt_lines.specs.Private.FoundValues.{IsFoundValue}
 use Rattle.ufmt_lines.specs.Private.GroupOutput.{output_bytes, output_seen}
 use Rattle.ufmt_lines.specs.Values.{if_entries, value_from}
 use Rattle.ufmt_lines.specs.declared.run.output.GroupOutput.{GroupOutput}
 use Rattle.ufmt_scan.specs.Fronts.{IsFront, has_entries, read_front}
-use Rattle.ufmt_scan.specs.Texts.{ConvertsTo, IsConverted, IsNormalForm, NoDocumentPrints, other_mode}
+use Rattle.ufmt_scan.specs.Texts.{ConvertsTo, IsConverted, other_mode}
 use Rattle.ufmt_scan.specs.declared.scan.event.ScanError.TheVariants.{NotText}
 use Rattle.ufmt_scan.specs.declared.text.FrontText.{FrontText}
 
@@ -47,7 +48,7 @@ pub is_converted : (mode : Mode) (text other : List ℕ) → converted mode text
 unfolding converted
 is_converted mode text other h = converted_from mode text _ other refl h
 
-some_from : {A : Type 0} (o : Option A) → is_some o ≡ true → (x : A) × (o ≡ Some x)
+pub some_from : {A : Type 0} (o : Option A) → is_some o ≡ true → (x : A) × (o ≡ Some x)
 some_from None h = absurd (false≢true h)
 some_from (Some x) h = (x, refl)
 
@@ -132,3 +133,20 @@ module _ (to : Mode) (text : List ℕ) where
 
 pub same_text : (a b : List ℕ) → Some a ≡ Some b → a ≡ b
 same_text a b h = cc
+
+-- a value has entries
+module _ (to : Mode) (text : List ℕ) (d : Document) (rest : List ℕ) where
+  entries_from : (o : Option (Document × List ℕ)) → option_and_then if_entries o ≡ Some (d, rest) → has_entries d ≡ true
+  entries_from None h = absurd (cc)
+  entries_from (Some x) h = go (has_entries x.0) refl h
+    where
+      go : (b : Bool) → has_entries x.0 ≡ b → cond b (Some x) None ≡ Some (d, rest) → has_entries d ≡ true
+      go true is k = ap has_entries (sym (same_parts x (d, rest) k).0) ∙ is
+      go false is k = absurd (cc)
+
+  pub value_entries : value_from to text ≡ Some (d, rest) → has_entries d ≡ true
+  value_entries h = entries_from (read_front Debug (other_mode to) text) h
+
+  -- and what is read with entries is a value
+  pub front_value : read_front Debug (other_mode to) text ≡ Some (d, rest) → has_entries d ≡ true → value_from to text ≡ Some (d, rest)
+  front_value read entries = ap (option_and_then if_entries) read ∙ ap (λ b. cond b (Some (d, rest)) None) entries

@@ -1,11 +1,13 @@
 """What a run of ufmt_lines costs on logs of each shape: steps, memory, reads and writes.
 
 Steps are counted on a log of 32 KiB, with a bound for each byte. With one step more for each pair of bytes, each byte
-would cost 16,384 steps more. Memory, reads and writes are those of a longer log.
+would cost 16,384 steps more. Memory, reads and writes are those of longer logs.
 """
+import os
 import re
 import shutil
 import subprocess
+import tempfile
 from typing import Callable, NamedTuple
 
 from lib.log_model import log_model, devices
@@ -13,7 +15,7 @@ from lib.log_model.log_model import Block, plain, pretty, quoted
 from lib.log_model.logs import CHUNK
 
 SIZE = 32 * 1024
-# How much longer a log is whose reads and writes are counted, and that must pass in the memory of the short one.
+# How much longer a log is whose reads and writes are counted, and that must pass in the memory of one half as long.
 LONGER = 8
 # How many bytes of memory the longer log may take more, and how many for each byte of its longest line or group and of its longest write.
 SLACK = 16 * 1024
@@ -152,6 +154,12 @@ class Meter:
                 low = middle + 1
         return low * PAGE
 
+    def size(self, path, mode):
+        """How many bytes a run writes."""
+        with open(path, "rb") as log, tempfile.TemporaryFile() as output:
+            subprocess.run([self.program.path, *self.arguments[mode]], stdin=log, stdout=output, check=True, timeout=SECONDS)
+            return os.fstat(output.fileno()).st_size
+
     def calls(self, path, mode):
         """How a run ends, and its reads and writes."""
         with open(path, "rb") as log:
@@ -169,9 +177,9 @@ def wrong_steps(meter, shape, nothing):
 
 
 def ended(shape, log):
-    """How many bytes the groups have that end in a read, for each read in which some do, and for the end. Their outputs are one write.
+    """How many bytes the groups have that end in a read, for each read in which some do, and for the end.
 
-    No output of these shapes is so long that the outputs for a read are written in parts.
+    Their outputs are one write, or more if they are long.
     """
     sizes = {}
     for read, group in log_model.groups(shape.mode, log):
@@ -181,12 +189,19 @@ def ended(shape, log):
 
 
 def wrong_calls(meter, shape):
-    """One read takes each chunk, and one more the end. One write has the outputs for the groups that end in a chunk, or at the end."""
+    """One read takes each chunk, and one more the end. One write has the outputs for the groups that end in a chunk, or at the end.
+
+    If they are long, they are written in parts of LEAST bytes and more.
+    """
     log = shape.log(SIZE * LONGER)
-    given = meter.calls(meter.put(shape.name, log), shape.mode)
-    wanted = devices.Ended(0, -(-len(log) // CHUNK) + 1, len(ended(shape, log)))
-    if given.reads is not None and given != wanted:
-        return "%s: %s, not %s" % (shape.name, given, wanted)
+    path = meter.put(shape.name, log)
+    given = meter.calls(path, shape.mode)
+    if given.reads is None:
+        return None
+    least = len(ended(shape, log))
+    most = least + meter.size(path, shape.mode) // log_model.LEAST
+    if given[:2] != (0, -(-len(log) // CHUNK) + 1) or not least <= given.writes <= most:
+        return "%s: %s, not %d reads and %d to %d writes" % (shape.name, given, -(-len(log) // CHUNK) + 1, least, most)
     return None
 
 
@@ -196,8 +211,8 @@ def kept(shape, log):
 
 
 def wrong_memory(meter, shape):
-    """The longer log passes in the memory of the short one, and some more for a line, group or write that is longer."""
-    short, long = shape.log(SIZE), shape.log(SIZE * LONGER)
+    """The longer log passes in the memory of one half as long, and some more for a line, group or write that is longer."""
+    short, long = shape.log(SIZE * LONGER // 2), shape.log(SIZE * LONGER)
     least = meter.least(meter.put(shape.name, short), shape.mode)
     most = least + SLACK + MEMORY * (kept(shape, long) - kept(shape, short))
     if not meter.passes(meter.put(shape.name, long), shape.mode, most):

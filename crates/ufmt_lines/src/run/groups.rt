@@ -28,6 +28,8 @@ pub(super) struct Group {
     bytes: Vec<u8>,
     // Where the line begins that hasn't ended. The group continues after the lines before it.
     line: usize,
+    // Room for what is left of a line in which a group ends.
+    left: Vec<u8>,
     outputs: GroupOutput,
 }
 
@@ -42,6 +44,7 @@ impl Group {
         Group {
             bytes: Vec::new(alloc),
             line: 0,
+            left: Vec::new(alloc),
             outputs: GroupOutput::new(alloc),
         }
     }
@@ -130,7 +133,11 @@ impl Group {
             ≡ gathered self.old ++ output_of conversion (take size (group_bytes self.old))) }
     {
         self.outputs.push_group(conversion, &self.bytes[..size])?;
-        self.bytes.drain(..size);
+        // `drain` takes some thousand steps for a few bytes.
+        self.left.clear();
+        self.left.extend_from_slice(&self.bytes[size..])?;
+        self.bytes.clear();
+        self.bytes.extend_from_slice(&self.left)?;
         self.begin_line();
         Ok(())
     }

@@ -1,5 +1,5 @@
 //! Laws, each as the contract of a function.
-ghost use Rattle.ufmt_lines.specs.OutputLaws.{GroupsAreTheText, LinesAreMadePretty, PrettyRestIsInLine};
+ghost use Rattle.ufmt_lines.specs.OutputLaws.{GroupsAreTheText, LinesAreMadePretty, OutputsAreTheOutput, PlainLogsComeBack, PlainTextsComeBack, PrettyRestIsInLine};
 
 /// The groups of a text, put together, are the text.
 pub fn groups_are_the_text()
@@ -11,4 +11,16 @@ pub fn groups_are_the_text()
 pub fn lines_are_made_pretty()
     ensures lines { LinesAreMadePretty }
     ensures rest { PrettyRestIsInLine }
+{}
+
+/// The outputs for the groups of a text, put together, are the output for the text.
+pub fn outputs_are_the_output()
+    ensures { OutputsAreTheOutput }
+{}
+
+/// A log that `--plain` leaves as it is comes back, byte for byte, after it is made pretty and then
+/// plain. So does a text that is converted as a whole.
+pub fn plain_logs_come_back()
+    ensures log { PlainLogsComeBack }
+    ensures text { PlainTextsComeBack }
 {}

@@ -1,0 +1,218 @@
+-- How the texts of documents begin: with a leaf, or with a bracket or a name and a bracket, in each mode alike.
+use Rattle.std.proofs.Common.{◌≡◌, ◌≢◌, ◌⊎◌, inl, inr, ◌∙◌, refl, ap, sym, subst, ℕ, ◌==◌, ◌||◌, Bool, true, false, List, [], ◌∷◌, ◌++◌, Some, codes, append_assoc, append-nil, get_or, eqb-true, arith}
+use Rattle.ufmt.specs.Bytes.{line_feed, opening_brace, opening_bracket, opening_parenthesis, space}
+use Rattle.ufmt.specs.Document.{Document, leaf, joined, list_of, set_of, map_of, struct_of, non_exhaustive_of, tuple_of, pretty_part, no_documents, first_document, no_fields, first_field}
+use Rattle.ufmt.specs.Layout.{frame, inside, new_line, brace_space, trail, block_tail, layout, texts, pair_texts, field_texts}
+use Rattle.ufmt.specs.Leaves.{IsDebugLeaf, IsDebugWord, has_name_bytes, is_ender, is_name_byte, is_opening, Place, beginning, place_after}
+use Rattle.ufmt.specs.Token.{IsName, IsBuilt}
+use Rattle.ufmt_core.specs.declared.layout.Count.TheVariants.{Zero, One}
+use Rattle.ufmt_core.specs.declared.layout.Kind.TheVariants.{Brackets, Braces, Struct, Tuple, Unnamed}
+use Rattle.ufmt_core.specs.declared.layout.Setting.{Setting}
+use Rattle.ufmt_grammar.proofs.ClassLeaves.{name_some}
+use Rattle.ufmt_grammar.proofs.ClassLines.{IsBuilt-HasNoLineFeed}
+use Rattle.ufmt_grammar.proofs.DebugLeaves.{both, leaf_no_ender}
+use Rattle.ufmt_grammar.proofs.DottedStructs.{rest_text, dotted_layout}
+use Rattle.ufmt_grammar.proofs.ReadingWords.{each_ender}
+use Rattle.ufmt_grammar.specs.Reading.{last_dots}
+use Rattle.ufmt_grammar.specs.declared.class.Class.TheVariants.{Debug}
+use Rattle.ufmt_lines.proofs.FirstBrackets.{Without, without_append}
+use Rattle.ufmt_lines.proofs.SteepTexts.{InLine}
+
+-- ---- first bytes
+
+-- no ender, no space and no line feed
+pub record Solid (c : ℕ) : Type 0 where
+  pub no_ender : is_ender c ≡ false
+  pub no_space : (c == space) ≡ false
+  pub no_line_feed : c ≢ line_feed
+
+-- the text begins with such a byte
+pub record BeginsSolid (text : List ℕ) : Type 0 where
+  pub first : ℕ
+  pub tail : List ℕ
+  pub is : text ≡ first ∷ tail
+  pub solid : Solid first
+
+pub solid_append : {a : List ℕ} → BeginsSolid a → (b : List ℕ) → BeginsSolid (a ++ b)
+solid_append h b = record { first = h.first; tail = h.tail ++ b; is = ap (λ t. t ++ b) h.is; solid = h.solid }
+
+pub solid_in_line : {a : List ℕ} → BeginsSolid a → InLine a
+solid_in_line h = λ v is. h.solid.no_line_feed (ap (λ l. get_or l 0 0) (sym h.is ∙ is))
+
+leaf_no_space : (c : ℕ) (t : List ℕ) (next : Place) → place_after beginning c t ≡ Some next → (c == space) ≡ false
+leaf_no_space c t next h = go (c == space) refl
+  where
+    go : (same : Bool) → (c == space) ≡ same → (c == space) ≡ false
+    go false e = e
+    go true e = let at = subst (λ b. place_after beginning b t ≡ Some next) (eqb-true c space e) h in absurd (cc)
+
+-- a leaf does so
+leaf_solid : (text : List ℕ) → IsDebugLeaf text → BeginsSolid text
+leaf_solid [] h = absurd (h.some refl)
+leaf_solid (c ∷ t) h = record {
+  first = c;
+  tail = t;
+  is = refl;
+  solid = record { no_ender = leaf_no_ender c t h.pieces.0 h.pieces.1; no_space = leaf_no_space c t h.pieces.0 h.pieces.1; no_line_feed = (IsBuilt-HasNoLineFeed Debug (leaf (c ∷ t)) h).0 };
+}
+
+bracket_solid : Solid opening_bracket
+bracket_solid = record { no_ender = refl; no_space = refl; no_line_feed = λ e. omega (arith, e) }
+
+brace_solid : Solid opening_brace
+brace_solid = record { no_ender = refl; no_space = refl; no_line_feed = λ e. omega (arith, e) }
+
+parenthesis_solid : Solid opening_parenthesis
+parenthesis_solid = record { no_ender = refl; no_space = refl; no_line_feed = λ e. omega (arith, e) }
+
+-- a name does so
+pub name_solid : (name : List ℕ) → IsName Debug name → BeginsSolid name
+name_solid name h = leaf_solid name h.whole
+
+-- the text of each document does so
+pub document_solid : (i : Setting) (d : Document) → IsBuilt Debug d → BeginsSolid (layout i d)
+document_solid i (leaf text) h = leaf_solid text h
+document_solid i (joined ds) h = absurd h
+document_solid i (list_of ds) h = record { first = opening_bracket; tail = _; is = refl; solid = bracket_solid }
+document_solid i (set_of ds) h = record { first = opening_brace; tail = _; is = refl; solid = brace_solid }
+document_solid i (map_of ps) h = record { first = opening_brace; tail = _; is = refl; solid = brace_solid }
+document_solid i (struct_of name fs) h = solid_append (name_solid name h.0) _
+document_solid i (tuple_of name no_documents) h = solid_append (name_solid name h) _
+document_solid i (tuple_of [] (first_document d ds)) h = record { first = opening_parenthesis; tail = _; is = refl; solid = parenthesis_solid }
+document_solid i (tuple_of (c ∷ name) (first_document d ds)) h = solid_append (name_solid (c ∷ name) h.0) _
+document_solid i (non_exhaustive_of name fs) h = solid_append (name_solid name h.1) _
+document_solid i (pretty_part d) h = absurd h
+
+-- ---- bytes of names
+
+-- a property of each opening bracket
+each_opening : (P : ℕ → Type 0) → P opening_parenthesis → P opening_bracket → P opening_brace → (c : ℕ) → is_opening c ≡ true → P c
+each_opening P parenthesis bracket brace c h = go (c == opening_parenthesis) (c == opening_bracket) (c == opening_brace) refl refl refl h
+  where
+    go : (p q r : Bool) → (c == opening_parenthesis) ≡ p → (c == opening_bracket) ≡ q → (c == opening_brace) ≡ r → p || q || r ≡ true → P c
+    go true q r e f g k = subst P (sym (eqb-true c opening_parenthesis e)) parenthesis
+    go false true r e f g k = subst P (sym (eqb-true c opening_bracket f)) bracket
+    go false false true e f g k = subst P (sym (eqb-true c opening_brace g)) brace
+    go false false false e f g k = absurd (cc)
+
+-- an opening bracket is no name's byte, and no space
+pub opening_no_name : (c : ℕ) → is_opening c ≡ true → is_name_byte c ≡ false
+opening_no_name c h = each_opening (λ b. is_name_byte b ≡ false) refl refl refl c h
+
+pub opening_no_space : (c : ℕ) → is_opening c ≡ true → (c == space) ≡ false
+opening_no_space c h = each_opening (λ b. (b == space) ≡ false) refl refl refl c h
+
+-- and no ender
+pub opening_no_ender : (c : ℕ) → is_opening c ≡ true → is_ender c ≡ false
+opening_no_ender c h = each_opening (λ b. is_ender b ≡ false) refl refl refl c h
+
+-- no name has an opening bracket
+name_no_opening : (c : ℕ) → is_name_byte c ≡ true → is_opening c ≡ false
+name_no_opening c h = go (is_opening c) refl
+  where
+    go : (b : Bool) → is_opening c ≡ b → is_opening c ≡ false
+    go false e = e
+    go true e = let none = opening_no_name c e in absurd (cc (none, h))
+
+-- and none has an ender
+pub name_no_ender : (c : ℕ) → is_name_byte c ≡ true → is_ender c ≡ false
+name_no_ender c h = go (is_ender c) refl
+  where
+    go : (b : Bool) → is_ender c ≡ b → is_ender c ≡ false
+    go false e = e
+    go true e = let none = each_ender (λ b. is_name_byte b ≡ false) refl refl refl refl c e in absurd (cc (none, h))
+
+name_bytes_without : (test : ℕ → Bool) → ((c : ℕ) → is_name_byte c ≡ true → test c ≡ false) → (w : List ℕ) → has_name_bytes w ≡ true → Without test w
+name_bytes_without test none [] h = tt
+name_bytes_without test none (c ∷ w) h = let parts = both (is_name_byte c) (has_name_bytes w) h in (none c parts.0, name_bytes_without test none w parts.1)
+
+pub name_without_openings : (w : List ℕ) → IsDebugWord w → Without is_opening w
+name_without_openings w h = name_bytes_without is_opening name_no_opening w h.bytes
+
+pub name_without_enders : (w : List ℕ) → IsDebugWord w → Without is_ender w
+name_without_enders w h = name_bytes_without is_ender name_no_ender w h.bytes
+
+-- nor has a name and a space
+pub named_without_openings : (w : List ℕ) → IsDebugWord w → Without is_opening (w ++ space ∷ [])
+named_without_openings w h = without_append is_opening w (space ∷ []) (name_without_openings w h) (refl, tt)
+
+pub named_without_enders : (w : List ℕ) → IsDebugWord w → Without is_ender (w ++ space ∷ [])
+named_without_enders w h = without_append is_ender w (space ∷ []) (name_without_enders w h) (refl, tt)
+
+-- ---- leaves and heads
+
+-- its text is this leaf in each mode and at each depth
+pub record IsLeafText (d : Document) : Type 0 where
+  pub text : List ℕ
+  pub leaf : IsDebugLeaf text
+  pub is : (s : Setting) → layout s d ≡ text
+
+-- its text begins with these bytes, and this bracket is its first
+pub record HasHead (d : Document) : Type 0 where
+  pub head : List ℕ
+  pub bracket : ℕ
+  pub none : Without is_opening head
+  pub opens : is_opening bracket ≡ true
+  pub tail : Setting → List ℕ
+  pub is : (s : Setting) → layout s d ≡ head ++ bracket ∷ tail s
+
+-- each document has one or the other
+pub leaf_or_head : (d : Document) → IsBuilt Debug d → IsLeafText d ⊎ HasHead d
+leaf_or_head (leaf text) h = inl (record { text = text; leaf = h; is = λ s. refl })
+leaf_or_head (joined ds) h = absurd h
+leaf_or_head (list_of ds) h = inr (record { head = []; bracket = opening_bracket; none = tt; opens = refl; tail = λ s. block_tail (frame s.mode Brackets) s Zero (texts (inside s) ds); is = λ s. refl })
+leaf_or_head (set_of ds) h = inr (record { head = []; bracket = opening_brace; none = tt; opens = refl; tail = λ s. block_tail (frame s.mode Braces) s Zero (texts (inside s) ds); is = λ s. refl })
+leaf_or_head (map_of ps) h = inr (record { head = []; bracket = opening_brace; none = tt; opens = refl; tail = λ s. block_tail (frame s.mode Braces) s Zero (pair_texts (inside s) ps); is = λ s. refl })
+leaf_or_head (struct_of name no_fields) h = inl (record { text = name; leaf = h.0.whole; is = λ s. append-nil name })
+leaf_or_head (struct_of name (first_field field value fs)) h =
+    let after : Setting → List ℕ = λ s. (brace_space s.mode ++ new_line (inside s).mode (inside s).depth)
+    ++ ((field ++ (codes ": " ++ layout (inside s) value)) ++ (trail s.mode ++ block_tail (frame s.mode Struct) s One (field_texts (inside s) fs))) in
+    inr (record {
+      head = name ++ space ∷ [];
+      bracket = opening_brace;
+      none = named_without_openings name h.0;
+      opens = refl;
+      tail = after;
+      is = λ s. sym (append_assoc name (space ∷ []) (opening_brace ∷ after s));
+    })
+leaf_or_head (non_exhaustive_of name no_fields) h =
+    inr (record {
+      head = name ++ space ∷ [];
+      bracket = opening_brace;
+      none = named_without_openings name h.1;
+      opens = refl;
+      tail = λ s. codes " .. }";
+      is = λ s. sym (append_assoc name (space ∷ []) (codes "{ .. }"));
+    })
+leaf_or_head (non_exhaustive_of name (first_field field value fs)) h =
+    let after : Setting → List ℕ = λ s. (brace_space s.mode ++ new_line (inside s).mode (inside s).depth)
+    ++ ((field ++ (codes ": " ++ layout (inside s) value)) ++ (trail s.mode ++ rest_text (frame s.mode Struct) s (last_dots s) One (field_texts (inside s) fs) true)) in
+    inr (record {
+      head = name ++ space ∷ [];
+      bracket = opening_brace;
+      none = named_without_openings name h.1;
+      opens = refl;
+      tail = after;
+      is = λ s. dotted_layout s name field value fs ∙ sym (append_assoc name (space ∷ []) (opening_brace ∷ after s));
+    })
+leaf_or_head (tuple_of [] no_documents) h = absurd (name_some Debug h)
+leaf_or_head (tuple_of (c ∷ name) no_documents) h = inl (record { text = c ∷ name; leaf = h.whole; is = λ s. append-nil (c ∷ name) })
+leaf_or_head (tuple_of [] (first_document d ds)) h =
+    inr (record {
+      head = [];
+      bracket = opening_parenthesis;
+      none = tt;
+      opens = refl;
+      tail = λ s. new_line (inside s).mode (inside s).depth ++ (layout (inside s) d ++ (trail s.mode ++ block_tail (frame s.mode Unnamed) s One (texts (inside s) ds)));
+      is = λ s. refl;
+    })
+leaf_or_head (tuple_of (c ∷ name) (first_document d ds)) h =
+    inr (record {
+      head = c ∷ name;
+      bracket = opening_parenthesis;
+      none = name_without_openings (c ∷ name) h.0;
+      opens = refl;
+      tail = λ s. new_line (inside s).mode (inside s).depth ++ (layout (inside s) d ++ (trail s.mode ++ block_tail (frame s.mode Tuple) s One (texts (inside s) ds)));
+      is = λ s. refl;
+    })
+leaf_or_head (pretty_part d) h = absurd h
