@@ -16,7 +16,7 @@ from lib.log_model.logs import CHUNK
 
 SIZE = 32 * 1024
 # How much longer a log is whose reads and writes are counted, and that must pass in the memory of one half as long.
-LONGER = 8
+LONGER = 16
 # How many bytes of memory the longer log may take more, and how many for each byte of its longest line or group and of its longest write.
 SLACK = 64 * 1024
 MEMORY = 4
