@@ -16,9 +16,9 @@ from lib.log_model.logs import CHUNK
 
 SIZE = 32 * 1024
 # How much longer a log is whose reads and writes are counted, and that must pass in the memory of one half as long.
-LONGER = 8
+LONGER = 16
 # How many bytes of memory the longer log may take more, and how many for each byte of its longest line or group and of its longest write.
-SLACK = 16 * 1024
+SLACK = 64 * 1024
 MEMORY = 4
 # By how much a shape may cost more steps than were measured: compilers differ.
 SPARE = 1.2
@@ -75,7 +75,7 @@ LONG_LINES = (
     Shape("a line of open tuples", "pretty", 11546, lambda size: b"(a, " * (size // 32)),
     listed("a pretty list", "plain", 41, pretty),
     group("a group without an end", 27, b"got [\n", b"    12345,\n"),
-    group("a group of brackets", 185, b"", b"[\n"),
+    group("lines of brackets", 259, b"", b"[\n"),
     group("a group of spaces", 9, b"[\n", b" " * 63 + b"\n"),
 )
 # Blocks that are open at the end of the line, and closed too early. Each bracket is tried, and read up to the piece that doesn't fit:
@@ -106,7 +106,7 @@ MANY_LINES = (
     line("groups", "plain", 43, b"12:00 INFO got " + pretty(READING).encode() + b"\n"),
     line("groups of requests", "plain", 38, b"12:00 INFO got " + pretty(REQUEST).encode() + b", 3 are open\n"),
     line("groups of locks", "plain", 40, b"12:00 INFO got " + pretty(LOCK).encode() + b"\n"),
-    line("groups of a bracket", "plain", 157, b"[\n]\n"),
+    line("groups of a bracket", "plain", 206, b"[\n]\n"),
     line("groups of indented lines", "plain", 11, pretty(INDENTED).encode() + b"\n"),
 )
 SHAPES = LONG_LINES + OPEN_LINES + MANY_LINES
