@@ -1,4 +1,4 @@
-//! Which types have a value with the text, of either class.
+//! Which types have a value with the text, of either class, and where it stops to be that of a value of the others.
 use crate::parsing::parse_in_mode;
 use crate::shapes;
 use crate::types::{
@@ -6,17 +6,20 @@ use crate::types::{
     Slices, Tuples, Types, Wrappers,
 };
 use std::alloc::{AllocError, Global};
+use ufmt::{pieces, write_line};
 use ufmt_parse::{ParseError, uParse};
 use ufmt_print_probe::digest::Digest;
 use ufmt_print_probe::pieces::Pieces;
 use ufmt_read_probe::calls::Calls;
 use ufmt_read_probe::fault::{Fault, agree};
 
-/// The letters of the types that have a value with the text, and the pieces of those values.
+/// The letters of the types that have a value with the text, and the pieces of those values. And what the errors
+/// of the other types say.
 #[derive(Drop)]
 pub struct TypeLetters {
     text: String,
     pieces: Pieces,
+    errors: Digest,
 }
 
 /// Returns which types have a value with the text, and the fields of those of a user's types, as a message.
@@ -35,8 +38,9 @@ fn values(calls: Calls<'_>) -> Result<(TypeLetters, Digest), Fault> {
 fn message(alloc: Global, letters: &TypeLetters, fields: &Digest) -> Result<String, AllocError> {
     let pieces = letters.pieces.digest.message(alloc)?;
     let fields = fields.message(alloc)?;
+    let errors = letters.errors.message(alloc)?;
     format!(in alloc;
-        "types [{}] in pieces {pieces}, fields {fields}",
+        "types [{}] in pieces {pieces}, fields {fields}, errors {errors}",
         letters.text
     )
 }
@@ -47,6 +51,7 @@ fn letters(calls: Calls<'_>) -> Result<TypeLetters, Fault> {
     let mut letters = TypeLetters {
         text: String::new(alloc),
         pieces: Pieces::new(),
+        errors: Digest::of(""),
     };
     Numbers::add_all(calls, (), "abcdefghijkl", &mut letters)?;
     NonZeros::add_all(calls, (), "mnopqrstuv", &mut letters)?;
@@ -80,9 +85,24 @@ pub fn add<T: uParse<A>, A>(
             letters.text.push(letter)?;
             Ok(())
         }
-        Err(ParseError::NotText { at }) => {
-            agree(at <= calls.text.len(), "the place in a refused text")
-        }
         Err(ParseError::OutOfMemory) => Err(Fault::WantOfMemory),
+        Err(error) => note_error(calls, letter, error, &mut letters.errors),
     }
+}
+
+// Adds the type's letter, and what the error says with and without its text.
+fn note_error(
+    calls: Calls<'_>,
+    letter: char,
+    error: ParseError,
+    errors: &mut Digest,
+) -> Result<(), Fault> {
+    let mut told = String::new(calls.alloc);
+    let placed = error.in_text(calls.text);
+    write_line(
+        &mut told,
+        &pieces!(display letter, display placed, text ", ", debug error, text ";"),
+    )?;
+    errors.add(told.as_bytes());
+    Ok(())
 }

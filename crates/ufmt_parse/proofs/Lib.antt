@@ -1,3 +1,4 @@
+pub mod Expecting
 pub mod Forms
 pub mod KeysInARow
 pub mod Layers

@@ -1,5 +1,7 @@
+pub mod Expecting
 pub mod Parses
 pub mod Places
+pub mod Placing
 pub mod RoundTrip
 pub use Rattle.ufmt_parser.specs.Blocks
 pub use Rattle.ufmt_parser.specs.Naming

@@ -17,10 +17,12 @@ macro_rules! tri {
 mod by;
 mod core_impls;
 mod error;
+mod expected;
 mod keys;
 pub mod laws;
 mod macros;
 mod place;
+mod placed;
 mod round_trips;
 mod std_impls;
 mod uparse;
@@ -29,8 +31,10 @@ mod whole_text;
 pub use by::{By, ProvesValue};
 pub use core_impls::options::Optional;
 pub use error::ParseError;
+pub use expected::Expected;
 pub use keys::ParseKey;
 pub use place::line_and_column;
+pub use placed::PlacedError;
 pub use round_trips::{round_trip, round_trip_in};
 pub use std_impls::boxes::Boxed;
 pub use std_impls::vectors::Each;
@@ -45,6 +49,7 @@ pub use ufmt_parse_tuples::{
     parse_tuple_7, parse_tuple_8, parse_tuple_9, parse_tuple_10, parse_tuple_11, parse_tuple_12,
 };
 pub use ufmt_parser::mode::{ParseMode, PlainText, PrettyText};
+pub use ufmt_parser::need::Need;
 pub use ufmt_parser::parser::{Fault, Parser};
 pub use ufmt_parser::parses_by::ParsesBy;
 pub use uparse::{ByType, uParse};

@@ -55,7 +55,10 @@ macro_rules! parse_variants {
 /// The variant with the name that comes next.
 #[macro_export]
 macro_rules! parse_variant {
-    ([$alloc:ident, $parser:ident, $name:ident]) => { std::result::Result::Err($crate::Fault::NotText) };
+    ([$alloc:ident, $parser:ident, $name:ident]) => {{
+        $parser.needs($crate::Need::Name);
+        std::result::Result::Err($crate::Fault::NotText)
+    }};
     ([$alloc:ident, $parser:ident, $name:ident] $variant:ident { $($field:ident),+ $(,)? } $(, $($rest:tt)*)?) => {
         if $parser.is_named(stringify!($variant)) {
             match $crate::parse_struct_call!([$($field)+] $alloc, $parser, stringify!($variant), $(stringify!($field), &$crate::ByType),+) {

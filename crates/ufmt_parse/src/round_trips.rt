@@ -6,6 +6,7 @@ ghost use Rattle.ufmt.specs.Token.{IsDebugDocument, normal};
 ghost use Rattle.ufmt_parse.specs.RoundTrip.{printed};
 
 use crate::error::ParseError;
+use crate::expected::Expected;
 use crate::uparse::uParse;
 use crate::whole_text::parse;
 use std::alloc::Global;
@@ -19,8 +20,8 @@ pub fn round_trip<T: uParse<Global>>(alloc: Global, value: &T) -> Result<T, Pars
     ensures same { IsDebugDocument (T.document value.now) → IfOk result (λ parsed.
         normal (T.document parsed) ≡ normal (T.document value.now)) }
     ensures debug { IfOk result (λ parsed. IsDebugDocument (T.document parsed)) }
-    ensures is_text { IsDebugDocument (T.document value.now) → (at : ℕ)
-        → IsErrOf result (ParseError.NotText at) → ⊥ }
+    ensures is_text { IsDebugDocument (T.document value.now) → (at : ℕ) (expected : Expected)
+        → IsErrOf result (ParseError.NotText at expected) → ⊥ }
 {
     value.prove_value();
     match plain_text(alloc, value) {
@@ -44,8 +45,8 @@ pub fn round_trip_in<T: uParse<A>, A: Drop>(
     ensures debug { IfOk result (λ outcome. IfSome outcome (λ parsed. IsDebugDocument (T.document parsed))) }
     ensures fits { IfOk result (λ outcome. (outcome ≡ None)
         ↔ (length buffer.old < length (plain_text (T.document value.now)))) }
-    ensures is_text { IsDebugDocument (T.document value.now) → (at : ℕ)
-        → IsErrOf result (ParseError.NotText at) → ⊥ }
+    ensures is_text { IsDebugDocument (T.document value.now) → (at : ℕ) (expected : Expected)
+        → IsErrOf result (ParseError.NotText at expected) → ⊥ }
     ensures memory { T.holds_no_memory → IsErrOf result ParseError.OutOfMemory → ⊥ }
     ensures front { Fronts buffer.old (plain_text (T.document value.now))
         (printed (plain_text (T.document value.now)) result) buffer.new }

@@ -1,5 +1,8 @@
 //! Parsing from the front of a text: what each type does.
-ghost use Rattle.std.specs.Prelude.{◌≤◌, length, ◌≡◌, IfOk, IfErr, ⊤};
+ghost use Rattle.std.specs.Prelude.{◌≤◌, ◌+◌, length, ◌≡◌, ℕ, List, IfOk, IfErr, IsErrOf, ⊤};
+ghost use Rattle.ufmt_parse.specs.Expecting.{expected_of};
+ghost use Rattle.ufmt_parse.specs.declared.expected.Expected.{Expected};
+ghost use Rattle.ufmt_parser.specs.Needs.{need};
 ghost use Rattle.ufmt_parser.specs.Next.{IsNotNext, NextLeaves};
 ghost use Rattle.ufmt_parser.specs.Taking.{IsTaken, open_blocks, rest};
 
@@ -17,6 +20,10 @@ pub trait uParse<A>: uDebug + Drop {
     /// Holds of a type whose values hold no memory: it is never refused memory. By default nothing is said.
     ghost holds_no_memory: { Type 0 } = { ⊥ };
 
+    /// What holds of the place where a text stops fitting, so many bytes after its beginning, and of what is
+    /// expected there. By default nothing is said.
+    ghost stops: { List ℕ → ℕ → Expected → Type 0 } = { λ _ _ _. ⊤ };
+
     /// Shows that `is_value` holds, by `prove_value` of each field that it speaks of.
     fn prove_value(&self)
         ensures { is_value self.now };
@@ -32,6 +39,9 @@ pub trait uParse<A>: uDebug + Drop {
         ensures none { IfErr result (λ fault. fault ≡ Fault.NotText → (v : Self) → is_value v
             → IsNotNext M.mode parser.old (Self.document v)) }
         ensures memory { holds_no_memory → IfErr result (λ fault. fault ≡ Fault.NotText) }
+        ensures stops { (at : ℕ) → IsErrOf result Fault.NotText
+            → length (rest parser.new) + at ≡ length (rest parser.old)
+            → stops (rest parser.old) at (expected_of (need parser.new)) }
         ensures blocks { IfOk result (λ _. open_blocks parser.new ≡ open_blocks parser.old) }
         ensures shrinks { length (rest parser.new) ≤ length (rest parser.old) };
 }

@@ -1,5 +1,5 @@
 //! Blocks of any number of entries.
-ghost use Rattle.std.specs.Prelude.{◌≤◌, ◌≡◌, ◌<◌, ◌-◌, ◌++◌, length, map, All, IfOk, suc};
+ghost use Rattle.std.specs.Prelude.{◌≤◌, ◌≡◌, ◌<◌, ◌-◌, ◌++◌, ℕ, List, codes, length, map, All, IfOk, suc};
 ghost use Rattle.ufmt_core.specs.Document.{documents, list_of, map_of, pairs_of, set_of};
 ghost use Rattle.ufmt_core.specs.Layout.{block_tail, frame, layout};
 ghost use Rattle.ufmt_core.specs.declared.layout.Count.TheVariants.{Zero};
@@ -25,6 +25,7 @@ pub fn parse_list<A: Allocator + Copy, M: ParseMode, T: uDebug + Drop, P: Parses
         × Fits (open_blocks parser.old) (list_of (documents (map T.document values))))
         (λ values. layout (setting_in M.mode (open_blocks parser.old)) (list_of (documents (map T.document values))))
         (rest parser.old) (outcome_map (λ values. values.items) result) (rest parser.new) }
+    ensures inside { (u : List ℕ) → rest parser.old ≡ codes "[" ++ u → length (rest parser.new) ≤ length u }
     ensures blocks { IfOk result (λ _. open_blocks parser.new ≡ open_blocks parser.old) }
     ensures shrinks { length (rest parser.new) ≤ length (rest parser.old) }
 {
@@ -85,6 +86,8 @@ pub fn parse_entries<A: Allocator + Copy, M: ParseMode, E: Drop, P: EntryParser<
         ++ block_tail (frame M.mode kind) (setting_in M.mode (open_blocks parser.old)) Zero
         (map (P.text by.now (setting_in M.mode (suc (open_blocks parser.old)))) entries))
         (rest parser.old) (outcome_map (λ entries. entries.items) result) (rest parser.new) }
+    ensures inside { (u : List ℕ) → rest parser.old ≡ (frame M.mode kind).opening ++ u
+        → length (rest parser.new) ≤ length u }
     ensures blocks { IfOk result (λ _. open_blocks parser.new ≡ open_blocks parser.old) }
     ensures shrinks { length (rest parser.new) ≤ length (rest parser.old) }
 {

@@ -9,7 +9,7 @@ mod tests;
 
 use std::alloc::Global;
 use ufmt::{Formatter, fields, uDebug, uWrite};
-use ufmt_parse::{Fault, ParseError, ParseMode, Parser, parse, parse_fields, uParse};
+use ufmt_parse::{Expected, Fault, ParseError, ParseMode, Parser, parse, parse_fields, uParse};
 
 /// What a node of a network reports.
 #[derive(Drop)]
@@ -41,8 +41,8 @@ impl uParse<Global> for Alarm {
 /// Returns the alarm that was printed to a line. Fails with `NotText` if no alarm was.
 pub fn parse_alarm(alloc: Global, line: &[u8]) -> Result<Alarm, ParseError>
     ensures ok { IfOk result (λ alarm. plain_text (alarm_document alarm) ≡ line.now) }
-    ensures not_text { (at : ℕ) → IsErrOf result (ParseError.NotText at) → (alarm : Alarm)
-        → is_u16 alarm.node → plain_text (alarm_document alarm) ≢ line.now }
+    ensures not_text { (at : ℕ) (expected : Expected) → IsErrOf result (ParseError.NotText at expected)
+        → (alarm : Alarm) → is_u16 alarm.node → plain_text (alarm_document alarm) ≢ line.now }
 {
     parse(alloc, line)
 }

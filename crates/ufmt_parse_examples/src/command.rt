@@ -8,7 +8,7 @@ ghost use Rattle.ufmt_parse.specs.Values.{is_i16, is_u8};
 mod tests;
 
 use ufmt::{Formatter, fields, uDebug, uWrite};
-use ufmt_parse::{Fault, ParseError, ParseMode, Parser, parse, parse_fields, uParse};
+use ufmt_parse::{Expected, Fault, ParseError, ParseMode, Parser, parse, parse_fields, uParse};
 
 /// Sets the level of a channel.
 #[derive(Clone, Copy, PartialEq, Eq, Debug, Drop)]
@@ -45,8 +45,8 @@ impl<A: Copy> uParse<A> for Set {
 /// with another error.
 pub fn parse_command(line: &[u8]) -> Result<Set, ParseError>
     ensures text { IfOk result (λ set. plain_text (⟦<Set as uDebug>⟧.document set) ≡ line.now) }
-    ensures not_text { (at : ℕ) → IsErrOf result (ParseError.NotText at) → (set : Set) → is_u8 set.channel
-        → is_i16 set.level → plain_text (⟦<Set as uDebug>⟧.document set) ≢ line.now }
+    ensures not_text { (at : ℕ) (expected : Expected) → IsErrOf result (ParseError.NotText at expected)
+        → (set : Set) → is_u8 set.channel → is_i16 set.level → plain_text (⟦<Set as uDebug>⟧.document set) ≢ line.now }
     ensures memory { IsErrOf result ParseError.OutOfMemory → ⊥ }
 {
     parse((), line)

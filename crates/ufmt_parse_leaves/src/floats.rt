@@ -1,9 +1,10 @@
 //! Floats, exactly as `{:?}` prints them.
-ghost use Rattle.std.specs.Prelude.{◌≡◌, ◌≤◌, ◌≢◌, length, List, ℕ, T, true, drop, take, IfOk, IfErr, MatchOption, None, Some, IsAscii};
+ghost use Rattle.std.specs.Prelude.{◌≡◌, ◌≤◌, ◌≢◌, length, List, ℕ, T, true, drop, take, IfOk, IfErr, IsErrOf, MatchOption, None, Some, IsAscii};
 ghost use Rattle.std.specs.Float.Parse.{parse_float};
 ghost use lib.Ieee.{binary32, binary64, fits};
 ghost use Rattle.ufmt_core.specs.Document.{leaf};
 ghost use Rattle.ufmt_core.specs.FloatText.{float_text};
+ghost use Rattle.ufmt_parser.specs.Needs.{need};
 ghost use Rattle.ufmt_parser.specs.Next.{IsNotNext, NextLeaves};
 ghost use Rattle.ufmt_parser.specs.Taking.{IsTaken, open_blocks, rest};
 ghost use Rattle.ufmt_parse_leaves.specs.Values.{IsFloatOf};
@@ -12,6 +13,7 @@ ghost use Rattle.ufmt_parse_leaves.specs.Private.FloatBytes.{after_float, float_
 use ufmt_core::ascii::text_from;
 use ufmt_float::DebugText;
 use ufmt_parser::mode::ParseMode;
+use ufmt_parser::need::Need;
 use ufmt_parser::parser::{Fault, Parser};
 
 /// A float type that std reads.
@@ -98,6 +100,8 @@ pub fn parse_float<F: Float, M: ParseMode>(parser: &mut Parser<'_, M>) -> Result
         → NextLeaves M.mode parser.old (leaf (float_text F.format true (F.value v))) parser.new) }
     ensures none { IfErr result (λ fault. fault ≡ Fault.NotText → (v : F) → IsFloatOf F.format (F.value v)
         → IsNotNext M.mode parser.old (leaf (float_text F.format true (F.value v)))) }
+    ensures stays { IsErrOf result Fault.NotText
+        → (rest parser.new ≡ rest parser.old) × (need parser.new ≡ Need.Number) }
     ensures memory { IfErr result (λ fault. fault ≡ Fault.NotText) }
     ensures blocks { IfOk result (λ _. open_blocks parser.new ≡ open_blocks parser.old) }
     ensures shrinks { length (rest parser.new) ≤ length (rest parser.old) }
@@ -108,6 +112,9 @@ pub fn parse_float<F: Float, M: ParseMode>(parser: &mut Parser<'_, M>) -> Result
             parser.skip_to(after);
             Ok(value)
         }
-        None => Err(Fault::NotText),
+        None => {
+            parser.needs(Need::Number);
+            Err(Fault::NotText)
+        }
     }
 }

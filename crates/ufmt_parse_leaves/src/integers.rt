@@ -1,7 +1,8 @@
 //! Integers: decimal digits with no zero before them, after `-` if the number is negative.
-ghost use Rattle.std.specs.Prelude.{◌≡◌, ◌<◌, ◌≤◌, length, List, ℕ, ℤ, pos, nat_abs, false, IfOk, IfErr, MatchOption};
+ghost use Rattle.std.specs.Prelude.{◌≡◌, ◌<◌, ◌≤◌, length, List, ℕ, ℤ, pos, nat_abs, false, IfOk, IfErr, IsErrOf, MatchOption};
 ghost use Rattle.ufmt_core.specs.Decimal.{decimal};
 ghost use Rattle.ufmt_core.specs.Document.{leaf};
+ghost use Rattle.ufmt_parser.specs.Needs.{need};
 ghost use Rattle.ufmt_parser.specs.Next.{IsNotNext, NextLeaves};
 ghost use Rattle.ufmt_parse_leaves.specs.Private.Digits.{IsSigned, SplitsSign};
 ghost use Rattle.ufmt_parser.specs.Taking.{IsTaken, open_blocks, rest};
@@ -9,6 +10,7 @@ ghost use Rattle.ufmt_parse_leaves.specs.Values.{is_u8, is_u16, is_u32, is_u64, 
 
 use crate::digits::{Magnitude, split_magnitude, split_minus};
 use ufmt_parser::mode::ParseMode;
+use ufmt_parser::need::Need;
 use ufmt_parser::parser::{Fault, Parser};
 
 /// An integer type, whose magnitudes `N` can hold.
@@ -272,6 +274,8 @@ pub fn parse_integer<N: Magnitude, T: Integer<N>, M: ParseMode>(
         → NextLeaves M.mode parser.old (leaf (decimal (T.int v))) parser.new) }
     ensures none { IfErr result (λ fault. fault ≡ Fault.NotText → (v : T) → T.in_range v
         → IsNotNext M.mode parser.old (leaf (decimal (T.int v)))) }
+    ensures stays { IsErrOf result Fault.NotText
+        → (rest parser.new ≡ rest parser.old) × (need parser.new ≡ Need.Number) }
     ensures memory { IfErr result (λ fault. fault ≡ Fault.NotText) }
     ensures blocks { IfOk result (λ _. open_blocks parser.new ≡ open_blocks parser.old) }
     ensures shrinks { length (rest parser.new) ≤ length (rest parser.old) }
@@ -280,10 +284,14 @@ pub fn parse_integer<N: Magnitude, T: Integer<N>, M: ParseMode>(
     match split_magnitude::<N>(digits, is_long) {
         None => {
             T::prove_fits();
+            parser.needs(Need::Number);
             Err(Fault::NotText)
         }
         Some(front) => match T::from_magnitude(negative, front.0) {
-            None => Err(Fault::NotText),
+            None => {
+                parser.needs(Need::Number);
+                Err(Fault::NotText)
+            }
             Some(value) => {
                 parser.skip_to(front.1);
                 Ok(value)

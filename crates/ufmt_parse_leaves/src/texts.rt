@@ -1,10 +1,11 @@
 //! Texts in quotation marks.
-ghost use Rattle.std.specs.Prelude.{◌≡◌, ◌<◌, ◌≤◌, ◌++◌, ◌∷◌, IfOk, IfSome, MatchOption, length, string_bytes, true};
+ghost use Rattle.std.specs.Prelude.{◌≡◌, ◌<◌, ◌≤◌, ◌++◌, ◌∷◌, IfOk, IfSome, IsErrOf, MatchOption, length, string_bytes, true};
 ghost use Rattle.std.specs.Str.{IsUtf8, chars};
 ghost use Rattle.ufmt_core.specs.Document.{leaf};
 ghost use Rattle.ufmt_core.specs.Quoted.{escaped_byte, escaped_bytes, quoted_text};
 ghost use Rattle.ufmt_core.specs.Bytes.{quotation_mark};
 ghost use Rattle.ufmt_parser.specs.Blocks.{outcome_map};
+ghost use Rattle.ufmt_parser.specs.Needs.{need};
 ghost use Rattle.ufmt_parse_leaves.specs.Spelling.{all_plain, NeverCloses};
 ghost use Rattle.ufmt_parser.specs.Taking.{Fits, Takes, open_blocks, rest};
 
@@ -13,6 +14,7 @@ use std::alloc::{AllocError, Allocator};
 use ufmt_core::ascii::text_from;
 use ufmt_core::quoted::unescaped_len;
 use ufmt_parser::mode::ParseMode;
+use ufmt_parser::need::Need;
 use ufmt_parser::parser::{Fault, Parser};
 use ufmt_scan::quoted::split_escaped;
 use ufmt_scan::strip::strip_byte;
@@ -149,10 +151,13 @@ pub fn parse_text<A: Allocator + Copy, M: ParseMode>(
     ensures takes { Takes (λ bytes. IsUtf8 bytes × Fits (open_blocks parser.old) (leaf (quoted_text (chars bytes))))
         (λ bytes. quoted_text (chars bytes))
         (rest parser.old) (outcome_map string_bytes result) (rest parser.new) }
+    ensures stays { IsErrOf result Fault.NotText
+        → (rest parser.new ≡ rest parser.old) × (need parser.new ≡ Need.Text) }
     ensures blocks { IfOk result (λ _. open_blocks parser.new ≡ open_blocks parser.old) }
     ensures shrinks { length (rest parser.new) ≤ length (rest parser.old) }
 {
     let Some(inside) = strip_byte(b'"', parser.rest()) else {
+        parser.needs(Need::Text);
         return Err(Fault::NotText);
     };
     let Ok((text, end)) = read_ascii(alloc, inside) else {
@@ -165,13 +170,19 @@ pub fn parse_text<A: Allocator + Copy, M: ParseMode>(
     let mut bytes = text.into_bytes();
     match read_bytes(&mut bytes, end) {
         Err(_) => Err(Fault::OutOfMemory),
-        Ok(None) => Err(Fault::NotText),
+        Ok(None) => {
+            parser.needs(Need::Text);
+            Err(Fault::NotText)
+        }
         Ok(Some(after)) => match String::from_utf8(bytes) {
             Ok(text) => {
                 parser.skip_to(after);
                 Ok(text)
             }
-            Err(_) => Err(Fault::NotText),
+            Err(_) => {
+                parser.needs(Need::Text);
+                Err(Fault::NotText)
+            }
         },
     }
 }

@@ -17,10 +17,10 @@ fn main(rt: HostRuntime) -> io::Result<()> {
                 pieces!(text "channel ", debug channel, text " is set to ", debug level, text "\n");
             write_line(&mut output, &line)
         }
-        Err(ParseError::NotText { at }) => {
+        Err(ParseError::NotText { at, expected }) => {
             write_line(
                 &mut output,
-                &pieces!(text "not a setting from byte ", debug at, text " on\n"),
+                &pieces!(text "not a setting: expected ", display expected, text " at byte ", debug at, text "\n"),
             )
         }
         Err(ParseError::OutOfMemory) => Err(io::Error::from(io::ErrorKind::OutOfMemory)),

@@ -16,6 +16,7 @@ macro_rules! tri {
 
 pub mod entries;
 pub mod mode;
+pub mod need;
 pub mod parser;
 pub mod parses_by;
 mod strip;

@@ -6,10 +6,12 @@ ghost use Rattle.ufmt_core.specs.declared.layout.Count.TheVariants.{Zero};
 ghost use Rattle.ufmt_core.specs.Document.{Document};
 ghost use Rattle.ufmt_grammar.specs.Leaves.{begins_with, is_spaced};
 ghost use Rattle.ufmt_parser.specs.Naming.{document_name, ends_name, is_debug_name, is_past_name};
+ghost use Rattle.ufmt_parser.specs.Needs.{need, need_of};
 ghost use Rattle.ufmt_parser.specs.Next.{IsNotNext, NextLeaves};
 ghost use Rattle.ufmt_parser.specs.Taking.{Eats, open_blocks, rest, setting_in};
 
 use crate::mode::ParseMode;
+use crate::need::Need;
 use crate::strip::{strip_ending, strip_lead, strip_piece};
 use std::marker::PhantomData;
 use ufmt_core::layout::{Count, Kind};
@@ -22,11 +24,13 @@ pub enum Fault {
     OutOfMemory,
 }
 
-/// What is left of a text in the mode `M`, and how many blocks are open there.
+/// What is left of a text in the mode `M`, how many blocks are open there, and what was missing when a call
+/// last failed.
 #[derive(Drop)]
 pub struct Parser<'t, M> {
     rest: &'t [u8],
     open_blocks: u8,
+    need: Need,
     mode: PhantomData<M>,
 }
 
@@ -39,6 +43,7 @@ impl<'t, M: ParseMode> Parser<'t, M> {
         Parser {
             rest: text,
             open_blocks: 0,
+            need: Need::Name,
             mode: PhantomData,
         }
     }
@@ -58,6 +63,7 @@ impl<'t, M: ParseMode> Parser<'t, M> {
         ensures shrinks { length (rest self.new) ≤ length (rest self.old) }
         ensures blocks { open_blocks self.new ≡ open_blocks self.old }
         ensures counted { open_blocks self.old ≤ 255 }
+        ensures needs { result ≡ false → need self.new ≡ need_of piece.now }
     {
         let _blocks = self.open_blocks;
         match strip_piece(piece, self.rest) {
@@ -65,7 +71,10 @@ impl<'t, M: ParseMode> Parser<'t, M> {
                 self.rest = rest;
                 true
             }
-            None => false,
+            None => {
+                self.need = Need::of(piece);
+                false
+            }
         }
     }
 
@@ -93,13 +102,17 @@ impl<'t, M: ParseMode> Parser<'t, M> {
         ensures shrinks { length (rest self.new) ≤ length (rest self.old) }
         ensures blocks { open_blocks self.new ≡ open_blocks self.old }
         ensures counted { open_blocks self.old ≤ 255 }
+        ensures needs { result ≡ false → need self.new ≡ Need.Punctuation }
     {
         match strip_lead(M::mode(), self.open_blocks, kind, count, self.rest) {
             Some(rest) => {
                 self.rest = rest;
                 true
             }
-            None => false,
+            None => {
+                self.need = Need::Punctuation;
+                false
+            }
         }
     }
 
@@ -112,13 +125,17 @@ impl<'t, M: ParseMode> Parser<'t, M> {
         ensures stays { result ≡ false → rest self.new ≡ rest self.old }
         ensures shrinks { length (rest self.new) ≤ length (rest self.old) }
         ensures blocks { open_blocks self.new ≡ open_blocks self.old }
+        ensures needs { result ≡ false → need self.new ≡ Need.Punctuation }
     {
         match strip_ending(M::mode(), self.open_blocks - 1, kind, count, self.rest) {
             Some(rest) => {
                 self.rest = rest;
                 true
             }
-            None => false,
+            None => {
+                self.need = Need::Punctuation;
+                false
+            }
         }
     }
 
@@ -129,13 +146,17 @@ impl<'t, M: ParseMode> Parser<'t, M> {
             ((open_blocks self.old < 255) × (open_blocks self.new ≡ suc (open_blocks self.old)))
             ((255 ≤ open_blocks self.old) × (open_blocks self.new ≡ open_blocks self.old)) }
         ensures rest { rest self.new ≡ rest self.old }
+        ensures needs { result ≡ false → need self.new ≡ Need.Count }
     {
         match self.open_blocks.checked_add(1) {
             Some(blocks) => {
                 self.open_blocks = blocks;
                 true
             }
-            None => false,
+            None => {
+                self.need = Need::Count;
+                false
+            }
         }
     }
 
@@ -160,6 +181,23 @@ impl<'t, M: ParseMode> Parser<'t, M> {
         self.rest
     }
 
+    /// Says what is missing, before the caller fails with `NotText`. The calls that take pieces say so themselves.
+    #[inline(always)]
+    pub fn needs(&mut self, missing: Need)
+        ensures needs { need self.new ≡ missing }
+        ensures rest { rest self.new ≡ rest self.old }
+        ensures blocks { open_blocks self.new ≡ open_blocks self.old }
+    {
+        self.need = missing;
+    }
+
+    /// What was missing when a call last failed.
+    pub fn need(&self) -> Need
+        ensures { result ≡ need self.now }
+    {
+        self.need
+    }
+
     /// Takes all before this rest of the text.
     #[inline(always)]
     pub fn skip_to(&mut self, after: &'t [u8])
@@ -178,13 +216,17 @@ impl<'t, M: ParseMode> Parser<'t, M> {
         ensures shrinks { length (rest self.new) ≤ length (rest self.old) }
         ensures blocks { open_blocks self.new ≡ open_blocks self.old }
         ensures counted { open_blocks self.old ≤ 255 }
+        ensures needs { result ≡ false → need self.new ≡ Need.Punctuation }
     {
         match strip_ending(M::mode(), self.open_blocks, kind, Count::Zero, self.rest) {
             Some(rest) => {
                 self.rest = rest;
                 true
             }
-            None => false,
+            None => {
+                self.need = Need::Punctuation;
+                false
+            }
         }
     }
 }

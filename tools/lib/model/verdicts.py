@@ -1,5 +1,5 @@
 """The lines that the programs should print: of each text all that the calls say of it, and what ufmt_conv writes."""
-from lib.model import coverage, debug_coverage, pieces, requests, values
+from lib.model import coverage, debug_coverage, pieces, places, requests, values
 from lib.model.model import DEBUG, DEEPEST, NO_UTF8, TOKEN, PlainReader, PrettyReader, depth_of, events, parts, plain, pretty, quoted
 from lib.model.shown import shown
 
@@ -26,11 +26,12 @@ def reading(document, is_pretty, is_token):
     )
 
 
-def parsed(document, is_pretty):
-    """Which types have a value with a text, and the fields of those of a user's types."""
+def parsed(document, data, is_pretty):
+    """Which types have a value with a text, the fields of those of a user's types, and the errors of the other types."""
     letters = values.letters(document) if document is not None else ""
     fields = values.fields(document) if document is not None else ""
-    return "types [%s] in pieces %s, fields %s" % (letters, pieces.of_values(document, is_pretty, len(letters)), digest(fields))
+    errors = digest(places.stops(data, is_pretty))
+    return "types [%s] in pieces %s, fields %s, errors %s" % (letters, pieces.of_values(document, is_pretty, len(letters)), digest(fields), errors)
 
 
 def of_classes(text, document, debug_document, is_pretty):
@@ -49,7 +50,7 @@ def of_classes(text, document, debug_document, is_pretty):
 
 def half(text, document, debug_document, is_pretty):
     """What the calls of one mode say of a text: of its token document, of its debug document, and of values."""
-    return "%s; values: %s" % (of_classes(text, document, debug_document, is_pretty), parsed(debug_document, is_pretty))
+    return "%s; values: %s" % (of_classes(text, document, debug_document, is_pretty), parsed(debug_document, text.encode(errors="surrogateescape"), is_pretty))
 
 
 def kinds(text_class, text):

@@ -1,5 +1,7 @@
 //! Floats.
 ghost use Rattle.std.specs.Prelude.{⊤};
+ghost use Rattle.ufmt_parse.specs.Places.{IsPiece};
+ghost use Rattle.ufmt_parse.specs.declared.expected.Expected.TheVariants.{Number};
 ghost use Rattle.ufmt_parse_leaves.specs.Values.{is_f32, is_f64};
 
 use crate::uparse::uParse;
@@ -11,6 +13,8 @@ impl<A: Copy> uParse<A> for f32 {
     ghost is_value = { is_f32 };
 
     ghost holds_no_memory = { ⊤ };
+
+    ghost stops = { IsPiece Number };
 
     fn prove_value(&self) {
         Float::prove_float(*self)
@@ -25,6 +29,8 @@ impl<A: Copy> uParse<A> for f64 {
     ghost is_value = { is_f64 };
 
     ghost holds_no_memory = { ⊤ };
+
+    ghost stops = { IsPiece Number };
 
     fn prove_value(&self) {
         Float::prove_float(*self)

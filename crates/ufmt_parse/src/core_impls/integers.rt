@@ -1,5 +1,7 @@
 //! Integers.
 ghost use Rattle.std.specs.Prelude.{⊤};
+ghost use Rattle.ufmt_parse.specs.Places.{IsPiece};
+ghost use Rattle.ufmt_parse.specs.declared.expected.Expected.TheVariants.{Number};
 ghost use Rattle.ufmt_parse_leaves.specs.Values.{is_u8, is_u16, is_u32, is_u64, is_u128, is_usize, is_i8, is_i16, is_i32, is_i64, is_i128, is_isize};
 
 use crate::uparse::uParse;
@@ -11,6 +13,8 @@ impl<A: Copy> uParse<A> for u8 {
     ghost is_value = { is_u8 };
 
     ghost holds_no_memory = { ⊤ };
+
+    ghost stops = { IsPiece Number };
 
     fn prove_value(&self) {
         let _n = *self;
@@ -27,6 +31,8 @@ impl<A: Copy> uParse<A> for u16 {
 
     ghost holds_no_memory = { ⊤ };
 
+    ghost stops = { IsPiece Number };
+
     fn prove_value(&self) {
         let _n = *self;
     }
@@ -41,6 +47,8 @@ impl<A: Copy> uParse<A> for u32 {
     ghost is_value = { is_u32 };
 
     ghost holds_no_memory = { ⊤ };
+
+    ghost stops = { IsPiece Number };
 
     fn prove_value(&self) {
         let _n = *self;
@@ -57,6 +65,8 @@ impl<A: Copy> uParse<A> for u64 {
 
     ghost holds_no_memory = { ⊤ };
 
+    ghost stops = { IsPiece Number };
+
     fn prove_value(&self) {
         let _n = *self;
     }
@@ -71,6 +81,8 @@ impl<A: Copy> uParse<A> for usize {
     ghost is_value = { is_usize };
 
     ghost holds_no_memory = { ⊤ };
+
+    ghost stops = { IsPiece Number };
 
     fn prove_value(&self) {
         let _n = *self;
@@ -87,6 +99,8 @@ impl<A: Copy> uParse<A> for u128 {
 
     ghost holds_no_memory = { ⊤ };
 
+    ghost stops = { IsPiece Number };
+
     fn prove_value(&self) {
         let _n = *self;
     }
@@ -101,6 +115,8 @@ impl<A: Copy> uParse<A> for i8 {
     ghost is_value = { is_i8 };
 
     ghost holds_no_memory = { ⊤ };
+
+    ghost stops = { IsPiece Number };
 
     fn prove_value(&self) {
         let _n = *self;
@@ -117,6 +133,8 @@ impl<A: Copy> uParse<A> for i16 {
 
     ghost holds_no_memory = { ⊤ };
 
+    ghost stops = { IsPiece Number };
+
     fn prove_value(&self) {
         let _n = *self;
     }
@@ -131,6 +149,8 @@ impl<A: Copy> uParse<A> for i32 {
     ghost is_value = { is_i32 };
 
     ghost holds_no_memory = { ⊤ };
+
+    ghost stops = { IsPiece Number };
 
     fn prove_value(&self) {
         let _n = *self;
@@ -147,6 +167,8 @@ impl<A: Copy> uParse<A> for i64 {
 
     ghost holds_no_memory = { ⊤ };
 
+    ghost stops = { IsPiece Number };
+
     fn prove_value(&self) {
         let _n = *self;
     }
@@ -162,6 +184,8 @@ impl<A: Copy> uParse<A> for isize {
 
     ghost holds_no_memory = { ⊤ };
 
+    ghost stops = { IsPiece Number };
+
     fn prove_value(&self) {
         let _n = *self;
     }
@@ -176,6 +200,8 @@ impl<A: Copy> uParse<A> for i128 {
     ghost is_value = { is_i128 };
 
     ghost holds_no_memory = { ⊤ };
+
+    ghost stops = { IsPiece Number };
 
     fn prove_value(&self) {
         let _n = *self;

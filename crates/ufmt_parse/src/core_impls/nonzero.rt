@@ -16,6 +16,7 @@ use std::num::{
 };
 use ufmt::uDebug;
 use ufmt_parser::mode::ParseMode;
+use ufmt_parser::need::Need;
 use ufmt_parser::parser::{Fault, Parser};
 
 // A number type without its 0.
@@ -60,6 +61,7 @@ fn parse_non_zero<A, N: uParse<A>, T: NonZero<A, N>, M: ParseMode>(
     match T::from_number(number) {
         None => {
             parser.skip_to(before);
+            parser.needs(Need::Number);
             Err(Fault::NotText)
         }
         Some(value) => Ok(value),

@@ -1,5 +1,7 @@
 //! Truth values and `()`.
 ghost use Rattle.std.specs.Prelude.{⊤};
+ghost use Rattle.ufmt_parse.specs.Places.{IsPiece};
+ghost use Rattle.ufmt_parse.specs.declared.expected.Expected.TheVariants.{Name, Punctuation};
 
 use crate::uparse::uParse;
 use ufmt_parser::mode::ParseMode;
@@ -10,6 +12,8 @@ impl<A: Copy> uParse<A> for bool {
     ghost is_value = { λ _. ⊤ };
 
     ghost holds_no_memory = { ⊤ };
+
+    ghost stops = { IsPiece Name };
 
     fn prove_value(&self) {}
 
@@ -30,6 +34,8 @@ impl<A: Copy> uParse<A> for () {
     ghost is_value = { λ _. ⊤ };
 
     ghost holds_no_memory = { ⊤ };
+
+    ghost stops = { IsPiece Punctuation };
 
     fn prove_value(&self) {}
 

@@ -15,6 +15,7 @@ use ufmt_parse_entries::ascending::{ascending_map, ascending_set};
 use ufmt_parse_entries::blocks::{parse_keys, parse_pairs};
 use ufmt_parser::entries::{Pair, Value};
 use ufmt_parser::mode::ParseMode;
+use ufmt_parser::need::Need;
 use ufmt_parser::parser::{Fault, Parser};
 
 impl<A: Allocator + Copy, T: ParseKey<A>> uParse<A> for BTreeSet<T, A> {
@@ -55,6 +56,7 @@ fn parse_set<A: Allocator + Copy, T: ParseKey<A>, M: ParseMode>(
         Err(_) => Err(Fault::OutOfMemory),
         Ok(None) => {
             parser.skip_to(start);
+            parser.needs(Need::Order);
             Err(Fault::NotText)
         }
         Ok(Some(set)) => Ok(set),
@@ -103,6 +105,7 @@ fn parse_map<A: Allocator + Copy, K: ParseKey<A>, V: uParse<A>, M: ParseMode>(
         Err(_) => Err(Fault::OutOfMemory),
         Ok(None) => {
             parser.skip_to(start);
+            parser.needs(Need::Order);
             Err(Fault::NotText)
         }
         Ok(Some(map)) => Ok(map),

@@ -2,6 +2,8 @@
 ghost use Rattle.std.specs.Cow.{cow_str_bytes};
 ghost use Rattle.std.specs.Prelude.{⊤};
 ghost use Rattle.std.specs.Str.{IsUtf8};
+ghost use Rattle.ufmt_parse.specs.Places.{IsPiece};
+ghost use Rattle.ufmt_parse.specs.declared.expected.Expected.TheVariants.{Text};
 
 use crate::uparse::uParse;
 use std::alloc::Allocator;
@@ -16,6 +18,8 @@ use ufmt_parser::parser::{Fault, Parser};
 /// Takes a text in quotation marks. Fails with `OutOfMemory` if there is no room for the text.
 impl<A: Allocator + Copy> uParse<A> for String<A> {
     ghost is_value = { λ _. ⊤ };
+
+    ghost stops = { IsPiece Text };
 
     fn prove_value(&self) {}
 

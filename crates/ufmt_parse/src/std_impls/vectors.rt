@@ -1,8 +1,9 @@
 //! `Vec`, arrays, and what parses a `Vec` by a parser.
 ghost use Rattle.std.specs.List.{AllByRecursion};
-ghost use Rattle.std.specs.Prelude.{◌≤◌, ◌≡◌, ◌<◌, length, map, All, IfOk, suc};
+ghost use Rattle.std.specs.Prelude.{◌≤◌, ◌≡◌, ◌<◌, codes, length, map, All, IfOk, suc};
 ghost use Rattle.ufmt.specs.Document.{documents, list_of};
 ghost use Rattle.ufmt.specs.Layout.{layout};
+ghost use Rattle.ufmt_parse.specs.Places.{IsInside};
 ghost use Rattle.ufmt_parser.specs.Taking.{Fits, Takes, open_blocks, rest, setting_in};
 
 use crate::uparse::{ByType, uParse};
@@ -11,11 +12,14 @@ use ufmt::uDebug;
 use ufmt_parse_entries::blocks::parse_list;
 use ufmt_parser::entries::Value;
 use ufmt_parser::mode::ParseMode;
+use ufmt_parser::need::Need;
 use ufmt_parser::parser::{Fault, Parser};
 use ufmt_parser::parses_by::ParsesBy;
 
 impl<A: Allocator + Copy, T: uParse<A>> uParse<A> for Vec<T, A> {
     ghost is_value = { λ values. All T.is_value values.items };
+
+    ghost stops = { IsInside (codes "[") };
 
     fn prove_value(&self) {
         for value in self.iter() {
@@ -77,6 +81,7 @@ fn parse_array<A: Allocator + Copy, T: uParse<A>, const N: usize, M: ParseMode>(
     match <[T; N]>::try_from(values) {
         Err(_) => {
             parser.skip_to(start);
+            parser.needs(Need::Count);
             Err(Fault::NotText)
         }
         Ok(array) => Ok(array),

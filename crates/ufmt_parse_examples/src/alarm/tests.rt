@@ -16,14 +16,14 @@ fn parse_alarm_returns_the_printed_alarm(rt: HostRuntime) {
 #[test]
 fn parse_alarm_fails_with_not_text_on_other_lines(rt: HostRuntime) {
     let rows = [
-        ("", 0),
-        ("Alarm { node: 2 }", 15),
-        ("Alarm { node: 65536, text: \"\" }", 14),
-        ("Alarm { node: 2, text: open }", 23),
-        ("Alarm { text: \"\", node: 2 }", 8),
+        ("", 0, Expected::Name),
+        ("Alarm { node: 2 }", 15, Expected::Punctuation),
+        ("Alarm { node: 65536, text: \"\" }", 14, Expected::Number),
+        ("Alarm { node: 2, text: open }", 23, Expected::Text),
+        ("Alarm { text: \"\", node: 2 }", 8, Expected::Name),
     ];
-    for (line, at) in rows {
+    for (line, at, expected) in rows {
         let error = parse_alarm(rt.alloc(), line.as_bytes()).err();
-        assert_eq!(rt; error, Some(ParseError::NotText { at }), "{line}");
+        assert_eq!(rt; error, Some(ParseError::NotText { at, expected }), "{line}");
     }
 }

@@ -4,7 +4,7 @@ use super::nested::{comes_back, pretty_comes_back};
 use super::same;
 use std::alloc::{AllocError, Global};
 use ufmt_parse::ParseError::NotText;
-use ufmt_parse::{ParseError, uParse};
+use ufmt_parse::{Expected, ParseError, uParse};
 use ufmt_parse_examples::{Node, Tree};
 
 /// The parts of a value's text before and after the value that it holds.
@@ -138,14 +138,32 @@ fn values_are_parsed_in_255_blocks(rt: HostRuntime) {
             "trees",
         );
     }
-    let refused = Ok((Err(NotText { at: 3583 }), Err(NotText { at: 199806 })));
+    let refused = Ok((
+        Err(NotText {
+            at: 3583,
+            expected: Expected::Count,
+        }),
+        Err(NotText {
+            at: 199806,
+            expected: Expected::Count,
+        }),
+    ));
     same(
         &rt,
         come_back::<Node>(alloc, &nodes(), 128),
         refused,
         "129 nodes",
     );
-    let refused = Ok((Err(NotText { at: 3456 }), Err(NotText { at: 199679 })));
+    let refused = Ok((
+        Err(NotText {
+            at: 3456,
+            expected: Expected::Count,
+        }),
+        Err(NotText {
+            at: 199679,
+            expected: Expected::Count,
+        }),
+    ));
     same(
         &rt,
         come_back::<Tree>(alloc, &trees(), 128),
@@ -169,7 +187,10 @@ fn nodes_are_parsed_in_the_blocks_around_them(rt: HostRuntime) {
     same(
         &rt,
         text.map(|text| comes_back::<Option<Node>>(alloc, &text)),
-        Ok(Err(NotText { at: 3565 })),
+        Ok(Err(NotText {
+            at: 3565,
+            expected: Expected::Count,
+        })),
         "128 nodes in an option",
     );
 }

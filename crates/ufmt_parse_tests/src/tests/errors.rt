@@ -1,22 +1,26 @@
-//! Tests of how an error prints.
+//! Tests of how an error prints, and what is expected.
 use super::same;
 use std::alloc::Global;
-use ufmt::{plain_text, pretty_text, write_display};
-use ufmt_parse::ParseError;
+use ufmt::{plain_text, pretty_text, uDisplay, write_display};
+use ufmt_parse::{Expected, ParseError, PlacedError};
 
-fn displayed(alloc: Global, error: ParseError) -> Option<String> {
+fn displayed<T: uDisplay + Drop>(alloc: Global, error: T) -> Option<String> {
     let mut text = String::new(alloc);
     write_display(&mut text, &error).ok()?;
     Some(text)
 }
 
 #[test]
-fn an_error_prints_its_place(rt: HostRuntime) {
+fn an_error_prints_what_is_expected_and_its_place(rt: HostRuntime) {
+    let number = ParseError::NotText {
+        at: 15,
+        expected: Expected::Number,
+    };
     let rows = [
         (
-            ParseError::NotText { at: 15 },
-            "not a text of the type at byte 15",
-            "NotText { at: 15 }",
+            number,
+            "expected a number of the type at byte 15",
+            "NotText { at: 15, expected: Number }",
         ),
         (ParseError::OutOfMemory, "out of memory", "OutOfMemory"),
     ];
@@ -31,11 +35,86 @@ fn an_error_prints_its_place(rt: HostRuntime) {
         let text = plain_text(rt.alloc(), &error).ok();
         same(&rt, text.as_ref().map(String::as_str), Some(debug), debug);
     }
-    let lines = pretty_text(rt.alloc(), &ParseError::NotText { at: 15 }).ok();
+    let lines = pretty_text(rt.alloc(), &number).ok();
     same(
         &rt,
         lines.as_ref().map(String::as_str),
-        Some("NotText {\n    at: 15,\n}"),
+        Some("NotText {\n    at: 15,\n    expected: Number,\n}"),
         "in lines",
     );
+}
+
+#[test]
+fn an_error_in_its_text_prints_its_line_and_column(rt: HostRuntime) {
+    let text = "Set {\n    channel: 256,\n    level: -4,\n}".as_bytes();
+    let number = ParseError::NotText {
+        at: 19,
+        expected: Expected::Number,
+    };
+    let rows = [
+        (
+            number.in_text(text),
+            "expected a number of the type at line 2 column 14",
+            "NotText { line: 2, column: 14, expected: Number }",
+        ),
+        (
+            ParseError::OutOfMemory.in_text(text),
+            "out of memory",
+            "OutOfMemory",
+        ),
+    ];
+    for (error, display, debug) in rows {
+        let text = displayed(rt.alloc(), error);
+        same(
+            &rt,
+            text.as_ref().map(String::as_str),
+            Some(display),
+            display,
+        );
+        let text = plain_text(rt.alloc(), &error).ok();
+        same(&rt, text.as_ref().map(String::as_str), Some(debug), debug);
+    }
+    same(
+        &rt,
+        number.in_text(text),
+        PlacedError::NotText {
+            line: 2,
+            column: 14,
+            expected: Expected::Number,
+        },
+        "the line and the column",
+    );
+}
+
+#[test]
+fn each_kind_has_its_words(rt: HostRuntime) {
+    let rows = [
+        (Expected::Name, "a name of the type", "Name"),
+        (Expected::Number, "a number of the type", "Number"),
+        (
+            Expected::Character,
+            "a character in apostrophes",
+            "Character",
+        ),
+        (Expected::Text, "a text in quotation marks", "Text"),
+        (Expected::Punctuation, "punctuation", "Punctuation"),
+        (Expected::Order, "keys in ascending order", "Order"),
+        (
+            Expected::Count,
+            "another number of values or blocks",
+            "Count",
+        ),
+        (Expected::End, "the end of the text", "End"),
+    ];
+    for (expected, display, debug) in rows {
+        let text = displayed(rt.alloc(), expected);
+        same(
+            &rt,
+            text.as_ref().map(String::as_str),
+            Some(display),
+            display,
+        );
+        let text = plain_text(rt.alloc(), &expected).ok();
+        same(&rt, text.as_ref().map(String::as_str), Some(debug), debug);
+    }
 }

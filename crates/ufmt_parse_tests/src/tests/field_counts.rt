@@ -3,7 +3,7 @@ use super::{prints_again, same};
 use std::alloc::{AllocError, Global};
 use ufmt_parse::ParseError::NotText;
 use ufmt_parse::{
-    ByType, Fault, ParseError, ParseMode, Parser, PlainText, PrettyText, parse_struct_1,
+    ByType, Expected, Fault, ParseError, ParseMode, Parser, PlainText, PrettyText, parse_struct_1,
     parse_struct_2, parse_struct_3, parse_struct_4, parse_struct_5, parse_struct_6, parse_struct_7,
     parse_struct_12,
 };
@@ -17,58 +17,91 @@ fn tuples_of_each_count(rt: HostRuntime) {
         (prints_again::<(u8,)>("(1,)"), Ok(true), "1"),
         (
             prints_again::<(u8,)>("(1)"),
-            Err(NotText { at: 2 }),
+            Err(NotText {
+                at: 2,
+                expected: Expected::Punctuation,
+            }),
             "1, no comma",
         ),
         (
             prints_again::<(u8,)>("()"),
-            Err(NotText { at: 1 }),
+            Err(NotText {
+                at: 1,
+                expected: Expected::Number,
+            }),
             "1, none",
         ),
         (
             prints_again::<(u8,)>("(1, 2)"),
-            Err(NotText { at: 2 }),
+            Err(NotText {
+                at: 2,
+                expected: Expected::Punctuation,
+            }),
             "1, one more",
         ),
         (
             prints_again::<(u8,)>("(256,)"),
-            Err(NotText { at: 1 }),
+            Err(NotText {
+                at: 1,
+                expected: Expected::Number,
+            }),
             "1, too large",
         ),
         (
             prints_again::<(u8,)>("1"),
-            Err(NotText { at: 0 }),
+            Err(NotText {
+                at: 0,
+                expected: Expected::Punctuation,
+            }),
             "1, no parentheses",
         ),
         (
             prints_again::<(u8,)>("[1]"),
-            Err(NotText { at: 0 }),
+            Err(NotText {
+                at: 0,
+                expected: Expected::Punctuation,
+            }),
             "1, in brackets",
         ),
         (
             prints_again::<(u8,)>("A(1)"),
-            Err(NotText { at: 0 }),
+            Err(NotText {
+                at: 0,
+                expected: Expected::Punctuation,
+            }),
             "1, named",
         ),
         (prints_again::<(u8, bool)>("(1, true)"), Ok(true), "2"),
         (
             prints_again::<(u8, bool)>("(1, true,)"),
-            Err(NotText { at: 8 }),
+            Err(NotText {
+                at: 8,
+                expected: Expected::Punctuation,
+            }),
             "2, a comma",
         ),
         (
             prints_again::<(u8, bool)>("(1,)"),
-            Err(NotText { at: 2 }),
+            Err(NotText {
+                at: 2,
+                expected: Expected::Punctuation,
+            }),
             "2, one missing",
         ),
         (
             prints_again::<(u8, bool)>("(true, 1)"),
-            Err(NotText { at: 1 }),
+            Err(NotText {
+                at: 1,
+                expected: Expected::Number,
+            }),
             "2, swapped",
         ),
         (
             prints_again::<(u8, bool)>("(1, true, 1)"),
-            Err(NotText { at: 8 }),
+            Err(NotText {
+                at: 8,
+                expected: Expected::Punctuation,
+            }),
             "2, one more",
         ),
         (
@@ -93,7 +126,10 @@ fn tuples_of_each_count(rt: HostRuntime) {
         ),
         (
             prints_again::<(u8, bool, u8, u8, u8, u8)>("(1, true, 3, 4, 5)"),
-            Err(NotText { at: 17 }),
+            Err(NotText {
+                at: 17,
+                expected: Expected::Punctuation,
+            }),
             "6, one missing",
         ),
         (
@@ -103,12 +139,18 @@ fn tuples_of_each_count(rt: HostRuntime) {
         ),
         (
             prints_again::<Seven>("(1, true, 3, 4, 5, 6)"),
-            Err(NotText { at: 20 }),
+            Err(NotText {
+                at: 20,
+                expected: Expected::Punctuation,
+            }),
             "7, one missing",
         ),
         (
             prints_again::<Seven>("(1, true, 3, 4, 5, 6, 7, 8)"),
-            Err(NotText { at: 23 }),
+            Err(NotText {
+                at: 23,
+                expected: Expected::Punctuation,
+            }),
             "7, one more",
         ),
         (
@@ -138,12 +180,18 @@ fn tuples_of_each_count(rt: HostRuntime) {
         ),
         (
             prints_again::<Twelve>("(1, true, 3, 4, 5, 6, 7, 8, 9, 10, 11, false)"),
-            Err(NotText { at: 39 }),
+            Err(NotText {
+                at: 39,
+                expected: Expected::Number,
+            }),
             "12, the last",
         ),
         (
             prints_again::<Twelve>("(1, 2, 3, 4, 5, 6, 7, 8, 9, 10, 11, 12)"),
-            Err(NotText { at: 4 }),
+            Err(NotText {
+                at: 4,
+                expected: Expected::Name,
+            }),
             "12, the second",
         ),
     ];

@@ -1,7 +1,7 @@
 //! Tests of truth values, `()`, texts, characters, options and boxes.
 use super::{first_wrong, same};
 use ufmt_parse::ParseError::NotText;
-use ufmt_parse::{ParseError, parse};
+use ufmt_parse::{Expected, ParseError, parse};
 
 #[test]
 fn words_and_quotes(rt: HostRuntime) {
@@ -110,8 +110,20 @@ fn characters_have_one_spelling(rt: HostRuntime) {
         ("'\\n'", Ok('\n')),
         ("'\\''", Ok('\'')),
         ("'\"'", Ok('"')),
-        ("'ab'", Err(NotText { at: 0 })),
-        ("a", Err(NotText { at: 0 })),
+        (
+            "'ab'",
+            Err(NotText {
+                at: 0,
+                expected: Expected::Character,
+            }),
+        ),
+        (
+            "a",
+            Err(NotText {
+                at: 0,
+                expected: Expected::Character,
+            }),
+        ),
     ];
     for (text, wanted) in rows {
         same(&rt, parse((), text.as_bytes()), wanted, text);

@@ -3,7 +3,7 @@ use super::same;
 use std::alloc::Global;
 use ufmt::plain_text;
 use ufmt_parse::ParseError::NotText;
-use ufmt_parse::{ParseError, parse, parse_pretty, uParse};
+use ufmt_parse::{Expected, ParseError, parse, parse_pretty, uParse};
 use ufmt_parse_examples::{Node, Tree};
 
 // Whether the value that is parsed from a plain text prints as that text again.
@@ -42,16 +42,40 @@ fn nodes_are_parsed_up_to_what_does_not_fit(rt: HostRuntime) {
             "Node { value: 1, next: Some(Node { value: 2, next: Some(Node { value: 3, next: None }) }) }",
             Ok(true),
         ),
-        ("None", Err(NotText { at: 0 })),
-        ("Node { value: 1 }", Err(NotText { at: 15 })),
-        ("Node { value: 1, next: Some(2) }", Err(NotText { at: 28 })),
+        (
+            "None",
+            Err(NotText {
+                at: 0,
+                expected: Expected::Name,
+            }),
+        ),
+        (
+            "Node { value: 1 }",
+            Err(NotText {
+                at: 15,
+                expected: Expected::Punctuation,
+            }),
+        ),
+        (
+            "Node { value: 1, next: Some(2) }",
+            Err(NotText {
+                at: 28,
+                expected: Expected::Name,
+            }),
+        ),
         (
             "Node { value: 1, next: Node { value: 2, next: None } }",
-            Err(NotText { at: 23 }),
+            Err(NotText {
+                at: 23,
+                expected: Expected::Name,
+            }),
         ),
         (
             "Node { value: 18446744073709551616, next: None }",
-            Err(NotText { at: 14 }),
+            Err(NotText {
+                at: 14,
+                expected: Expected::Number,
+            }),
         ),
     ];
     for (text, wanted) in rows {
@@ -68,8 +92,20 @@ fn trees_are_parsed_up_to_what_does_not_fit(rt: HostRuntime) {
             "Tree { size: 1, children: [Tree { size: 2, children: [] }, Tree { size: 3, children: [] }] }",
             Ok(true),
         ),
-        ("Tree { size: 1, children: [1] }", Err(NotText { at: 27 })),
-        ("Tree { size: 1, children: [] ", Err(NotText { at: 28 })),
+        (
+            "Tree { size: 1, children: [1] }",
+            Err(NotText {
+                at: 27,
+                expected: Expected::Name,
+            }),
+        ),
+        (
+            "Tree { size: 1, children: [] ",
+            Err(NotText {
+                at: 28,
+                expected: Expected::Punctuation,
+            }),
+        ),
     ];
     for (text, wanted) in rows {
         same(&rt, comes_back::<Tree>(alloc, text), wanted, text);

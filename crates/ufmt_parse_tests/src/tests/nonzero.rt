@@ -4,10 +4,13 @@ use std::num::{
     NonZeroI8, NonZeroI16, NonZeroI32, NonZeroI64, NonZeroI128, NonZeroIsize, NonZeroU8,
     NonZeroU16, NonZeroU32, NonZeroU64, NonZeroU128, NonZeroUsize,
 };
-use ufmt_parse::ParseError;
 use ufmt_parse::ParseError::NotText;
+use ufmt_parse::{Expected, ParseError};
 
-const NO_NUMBER: Result<bool, ParseError> = Err(NotText { at: 0 });
+const NO_NUMBER: Result<bool, ParseError> = Err(NotText {
+    at: 0,
+    expected: Expected::Number,
+});
 
 #[test]
 fn unsigned_nonzero_numbers(rt: HostRuntime) {
@@ -24,7 +27,10 @@ fn unsigned_nonzero_numbers(rt: HostRuntime) {
         ),
         (
             prints_again::<NonZeroU8>("1 "),
-            Err(NotText { at: 1 }),
+            Err(NotText {
+                at: 1,
+                expected: Expected::End,
+            }),
             "u8, a space after it",
         ),
         (
@@ -134,7 +140,10 @@ fn signed_nonzero_numbers(rt: HostRuntime) {
         (prints_again::<NonZeroI128>("0"), NO_NUMBER, "i128, zero"),
         (
             prints_again::<Option<NonZeroI8>>("Some(0)"),
-            Err(NotText { at: 5 }),
+            Err(NotText {
+                at: 5,
+                expected: Expected::Number,
+            }),
             "a zero inside",
         ),
         (

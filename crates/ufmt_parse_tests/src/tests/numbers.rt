@@ -2,7 +2,7 @@
 //! with more digits than are read one by one. `tools/expected/show VALUE` prints them again.
 use super::{first_wrong, same};
 use ufmt_parse::ParseError::NotText;
-use ufmt_parse::{ParseError, parse};
+use ufmt_parse::{Expected, ParseError, parse};
 
 #[test]
 fn unsigned_numbers(rt: HostRuntime) {
@@ -95,12 +95,48 @@ fn numbers_are_in_their_range_and_without_leading_zeros(rt: HostRuntime) {
         ("0", Ok(0)),
         ("7", Ok(7)),
         ("255", Ok(255)),
-        ("256", Err(NotText { at: 0 })),
-        ("00", Err(NotText { at: 0 })),
-        ("07", Err(NotText { at: 0 })),
-        ("+7", Err(NotText { at: 0 })),
-        ("-7", Err(NotText { at: 0 })),
-        ("12x", Err(NotText { at: 2 })),
+        (
+            "256",
+            Err(NotText {
+                at: 0,
+                expected: Expected::Number,
+            }),
+        ),
+        (
+            "00",
+            Err(NotText {
+                at: 0,
+                expected: Expected::Number,
+            }),
+        ),
+        (
+            "07",
+            Err(NotText {
+                at: 0,
+                expected: Expected::Number,
+            }),
+        ),
+        (
+            "+7",
+            Err(NotText {
+                at: 0,
+                expected: Expected::Number,
+            }),
+        ),
+        (
+            "-7",
+            Err(NotText {
+                at: 0,
+                expected: Expected::Number,
+            }),
+        ),
+        (
+            "12x",
+            Err(NotText {
+                at: 2,
+                expected: Expected::End,
+            }),
+        ),
     ];
     for (text, wanted) in rows {
         same(&rt, parse((), text.as_bytes()), wanted, text);
@@ -108,9 +144,27 @@ fn numbers_are_in_their_range_and_without_leading_zeros(rt: HostRuntime) {
     let signed: [(&str, Result<i64, ParseError>); 6] = [
         ("-9223372036854775808", Ok(i64::MIN)),
         ("9223372036854775807", Ok(i64::MAX)),
-        ("9223372036854775808", Err(NotText { at: 0 })),
-        ("-0", Err(NotText { at: 0 })),
-        ("-", Err(NotText { at: 0 })),
+        (
+            "9223372036854775808",
+            Err(NotText {
+                at: 0,
+                expected: Expected::Number,
+            }),
+        ),
+        (
+            "-0",
+            Err(NotText {
+                at: 0,
+                expected: Expected::Number,
+            }),
+        ),
+        (
+            "-",
+            Err(NotText {
+                at: 0,
+                expected: Expected::Number,
+            }),
+        ),
         ("-12", Ok(-12)),
     ];
     for (text, wanted) in signed {
@@ -122,13 +176,43 @@ fn numbers_are_in_their_range_and_without_leading_zeros(rt: HostRuntime) {
 fn numbers_of_many_digits_are_in_their_range(rt: HostRuntime) {
     let rows: [(&str, Result<u64, ParseError>); 8] = [
         ("18446744073709551615", Ok(u64::MAX)),
-        ("18446744073709551616", Err(NotText { at: 0 })),
-        ("18446744073709551620", Err(NotText { at: 0 })),
-        ("99999999999999999999", Err(NotText { at: 0 })),
-        ("100000000000000000000", Err(NotText { at: 0 })),
+        (
+            "18446744073709551616",
+            Err(NotText {
+                at: 0,
+                expected: Expected::Number,
+            }),
+        ),
+        (
+            "18446744073709551620",
+            Err(NotText {
+                at: 0,
+                expected: Expected::Number,
+            }),
+        ),
+        (
+            "99999999999999999999",
+            Err(NotText {
+                at: 0,
+                expected: Expected::Number,
+            }),
+        ),
+        (
+            "100000000000000000000",
+            Err(NotText {
+                at: 0,
+                expected: Expected::Number,
+            }),
+        ),
         ("1234567890123456789", Ok(1_234_567_890_123_456_789)),
         ("1000000000000000000", Ok(1_000_000_000_000_000_000)),
-        ("00000000000000000001", Err(NotText { at: 0 })),
+        (
+            "00000000000000000001",
+            Err(NotText {
+                at: 0,
+                expected: Expected::Number,
+            }),
+        ),
     ];
     for (text, wanted) in rows {
         same(&rt, parse((), text.as_bytes()), wanted, text);
@@ -138,15 +222,24 @@ fn numbers_of_many_digits_are_in_their_range(rt: HostRuntime) {
         ("-170141183460469231731687303715884105728", Ok(i128::MIN)),
         (
             "170141183460469231731687303715884105728",
-            Err(NotText { at: 0 }),
+            Err(NotText {
+                at: 0,
+                expected: Expected::Number,
+            }),
         ),
         (
             "-170141183460469231731687303715884105729",
-            Err(NotText { at: 0 }),
+            Err(NotText {
+                at: 0,
+                expected: Expected::Number,
+            }),
         ),
         (
             "340282366920938463463374607431768211456",
-            Err(NotText { at: 0 }),
+            Err(NotText {
+                at: 0,
+                expected: Expected::Number,
+            }),
         ),
         (
             "-12345678901234567890123",
@@ -169,7 +262,10 @@ fn bytes_beside_the_digits_end_a_number_at_any_place(rt: HostRuntime) {
         ("12345678901\u{b9}2345678901", 11),
     ];
     for (text, at) in rows {
-        let wanted: Result<u128, ParseError> = Err(NotText { at });
+        let wanted: Result<u128, ParseError> = Err(NotText {
+            at,
+            expected: Expected::End,
+        });
         same(&rt, parse((), text.as_bytes()), wanted, text);
     }
 }

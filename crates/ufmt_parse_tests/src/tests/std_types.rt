@@ -241,7 +241,7 @@ fn lists_in_holders(rt: HostRuntime) {
 // Where a text stops fitting.
 fn place_of<T: uParse<Global>>(alloc: Global, text: &str) -> Option<usize> {
     match parse::<T, Global>(alloc, text.as_bytes()) {
-        Err(NotText { at }) => Some(at),
+        Err(NotText { at, .. }) => Some(at),
         _ => None,
     }
 }

@@ -8,7 +8,9 @@ use super::{first_wrong, same};
 use std::alloc::Global;
 use ufmt::{Formatter, fields, uDebug, uWrite};
 use ufmt_parse::ParseError::NotText;
-use ufmt_parse::{Fault, ParseError, ParseMode, Parser, parse, parse_fields, parse_pretty, uParse};
+use ufmt_parse::{
+    Expected, Fault, ParseError, ParseMode, Parser, parse, parse_fields, parse_pretty, uParse,
+};
 use ufmt_parse_examples::{Measurement, Set, Switch, parse_command, parse_measurement};
 
 /// Two truth values, each of which is one document or another.
@@ -196,14 +198,62 @@ fn options_are_parsed_without_an_allocator(rt: HostRuntime) {
         ("None", Ok(None)),
         ("Some(true)", Ok(Some(true))),
         ("Some(false)", Ok(Some(false))),
-        ("true", Err(NotText { at: 0 })),
-        ("", Err(NotText { at: 0 })),
-        ("None ", Err(NotText { at: 4 })),
-        ("Some(truth)", Err(NotText { at: 5 })),
-        ("Some(true", Err(NotText { at: 9 })),
-        ("Some(true,)", Err(NotText { at: 9 })),
-        ("Some(true))", Err(NotText { at: 10 })),
-        ("Some(\n    true,\n)", Err(NotText { at: 5 })),
+        (
+            "true",
+            Err(NotText {
+                at: 0,
+                expected: Expected::Name,
+            }),
+        ),
+        (
+            "",
+            Err(NotText {
+                at: 0,
+                expected: Expected::Name,
+            }),
+        ),
+        (
+            "None ",
+            Err(NotText {
+                at: 4,
+                expected: Expected::End,
+            }),
+        ),
+        (
+            "Some(truth)",
+            Err(NotText {
+                at: 5,
+                expected: Expected::Name,
+            }),
+        ),
+        (
+            "Some(true",
+            Err(NotText {
+                at: 9,
+                expected: Expected::Punctuation,
+            }),
+        ),
+        (
+            "Some(true,)",
+            Err(NotText {
+                at: 9,
+                expected: Expected::Punctuation,
+            }),
+        ),
+        (
+            "Some(true))",
+            Err(NotText {
+                at: 10,
+                expected: Expected::End,
+            }),
+        ),
+        (
+            "Some(\n    true,\n)",
+            Err(NotText {
+                at: 5,
+                expected: Expected::Name,
+            }),
+        ),
     ];
     for (text, wanted) in rows {
         same(&rt, parse((), text.as_bytes()), wanted, text);
@@ -218,15 +268,69 @@ fn structs_are_parsed_up_to_what_does_not_fit(rt: HostRuntime) {
     };
     let rows = [
         ("Flags { on: true, off: false }", Ok(flags)),
-        ("Flag { on: true, off: false }", Err(NotText { at: 0 })),
-        ("Flags{ on: true, off: false }", Err(NotText { at: 5 })),
-        ("Flags { off: true, on: false }", Err(NotText { at: 8 })),
-        ("Flags { on: true }", Err(NotText { at: 16 })),
-        ("Flags { on: true,off: false }", Err(NotText { at: 16 })),
-        ("Flags { on: true, off: 0 }", Err(NotText { at: 23 })),
-        ("Flags { on: true, off: false", Err(NotText { at: 28 })),
-        ("Flags { on: true, off: false, }", Err(NotText { at: 28 })),
-        ("Flags { on: true, off: false }x", Err(NotText { at: 30 })),
+        (
+            "Flag { on: true, off: false }",
+            Err(NotText {
+                at: 0,
+                expected: Expected::Name,
+            }),
+        ),
+        (
+            "Flags{ on: true, off: false }",
+            Err(NotText {
+                at: 5,
+                expected: Expected::Punctuation,
+            }),
+        ),
+        (
+            "Flags { off: true, on: false }",
+            Err(NotText {
+                at: 8,
+                expected: Expected::Name,
+            }),
+        ),
+        (
+            "Flags { on: true }",
+            Err(NotText {
+                at: 16,
+                expected: Expected::Punctuation,
+            }),
+        ),
+        (
+            "Flags { on: true,off: false }",
+            Err(NotText {
+                at: 16,
+                expected: Expected::Punctuation,
+            }),
+        ),
+        (
+            "Flags { on: true, off: 0 }",
+            Err(NotText {
+                at: 23,
+                expected: Expected::Name,
+            }),
+        ),
+        (
+            "Flags { on: true, off: false",
+            Err(NotText {
+                at: 28,
+                expected: Expected::Punctuation,
+            }),
+        ),
+        (
+            "Flags { on: true, off: false, }",
+            Err(NotText {
+                at: 28,
+                expected: Expected::Punctuation,
+            }),
+        ),
+        (
+            "Flags { on: true, off: false }x",
+            Err(NotText {
+                at: 30,
+                expected: Expected::End,
+            }),
+        ),
     ];
     for (text, wanted) in rows {
         same(&rt, parse((), text.as_bytes()), wanted, text);
@@ -244,10 +348,19 @@ fn pretty_texts_are_parsed_with_their_indentation(rt: HostRuntime) {
     let less = "Both(\n    Flags {\n        on: false,\n       off: true,\n    },\n    None,\n)";
     let rows = [
         (text, Ok(Both(flags, Some(true)))),
-        (less, Err(NotText { at: 37 })),
+        (
+            less,
+            Err(NotText {
+                at: 37,
+                expected: Expected::Punctuation,
+            }),
+        ),
         (
             "Both(Flags { on: false, off: true }, None)",
-            Err(NotText { at: 4 }),
+            Err(NotText {
+                at: 4,
+                expected: Expected::Punctuation,
+            }),
         ),
     ];
     for (text, wanted) in rows {
@@ -263,9 +376,27 @@ fn a_command_line_is_parsed_from_a_fixed_buffer(rt: HostRuntime) {
     };
     let rows = [
         ("Set { channel: 3, level: -4 }", Ok(set)),
-        ("Set { channel: 300, level: -4 }", Err(NotText { at: 15 })),
-        ("Set { level: -4, channel: 3 }", Err(NotText { at: 6 })),
-        ("Set { channel: 3 }", Err(NotText { at: 16 })),
+        (
+            "Set { channel: 300, level: -4 }",
+            Err(NotText {
+                at: 15,
+                expected: Expected::Number,
+            }),
+        ),
+        (
+            "Set { level: -4, channel: 3 }",
+            Err(NotText {
+                at: 6,
+                expected: Expected::Name,
+            }),
+        ),
+        (
+            "Set { channel: 3 }",
+            Err(NotText {
+                at: 16,
+                expected: Expected::Punctuation,
+            }),
+        ),
     ];
     for (text, wanted) in rows {
         same(&rt, parse_command(text.as_bytes()), wanted, text);
@@ -285,15 +416,24 @@ fn a_measurement_with_long_names_is_parsed(rt: HostRuntime) {
         ),
         (
             "Measuremant { channel: 255, celsius: -2147483648 }",
-            Err(NotText { at: 0 }),
+            Err(NotText {
+                at: 0,
+                expected: Expected::Name,
+            }),
         ),
         (
             "Measurement { channel: 255, celsium: -2147483648 }",
-            Err(NotText { at: 28 }),
+            Err(NotText {
+                at: 28,
+                expected: Expected::Name,
+            }),
         ),
         (
             "Measurement { channel: 255, celsius: -2147483649 }",
-            Err(NotText { at: 37 }),
+            Err(NotText {
+                at: 37,
+                expected: Expected::Number,
+            }),
         ),
     ];
     for (text, wanted) in rows {

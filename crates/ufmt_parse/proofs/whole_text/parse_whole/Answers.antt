@@ -7,7 +7,7 @@ use Rattle.ufmt_parser.proofs.Next.{never_next, what_is_left}
 use Rattle.ufmt_parse.proofs.whole_text.parse_whole.Goals as goal
 
 pub returns-else-len-eq0-clause-not_text : goal.returns-else-len-eq0-clause-not_text
-returns-else-len-eq0-clause-not_text g c = λ at is v holds document same.
+returns-else-len-eq0-clause-not_text g c = λ at expected is v holds document same.
     let whole = c.new-parser.result in
     let is_text : rest whole ≡ layout (setting_in g.M.ParseMode.mode (open_blocks whole)) (g.T.uDebug.document v) ++ [] =
     rw (c.new-parser.ensures.rest, c.new-parser.ensures.outermost, setting_in-none g.M.ParseMode.mode, append-nil) (sym same) in
@@ -16,7 +16,7 @@ returns-else-len-eq0-clause-not_text g c = λ at is v holds document same.
 
 -- the value's text comes next, and `none` says that it doesn't
 pub returns-in-Err-NotText-clause-after_value : goal.returns-in-Err-NotText-clause-after_value
-returns-in-Err-NotText-clause-after_value g c = λ at is v u holds document may same.
+returns-in-Err-NotText-clause-after_value g c = λ at expected is v u holds document may same.
     let whole = c.new-parser.result in
     let is_text : rest whole ≡ layout (setting_in g.M.ParseMode.mode (open_blocks whole)) (g.T.uDebug.document v) ++ u =
     rw (c.new-parser.ensures.rest, c.new-parser.ensures.outermost, setting_in-none g.M.ParseMode.mode) same in

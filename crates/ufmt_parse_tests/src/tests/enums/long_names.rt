@@ -7,7 +7,7 @@ ghost use Rattle.ufmt_parse.specs.Values.{is_i16, is_u8, is_u32, is_u64};
 use crate::tests::same;
 use ufmt::{Formatter, fields, uDebug, uWrite};
 use ufmt_parse::ParseError::NotText;
-use ufmt_parse::{Fault, ParseMode, Parser, parse, parse_pretty, parse_variants, uParse};
+use ufmt_parse::{Expected, Fault, ParseMode, Parser, parse, parse_pretty, parse_variants, uParse};
 
 /// What became of a device.
 #[derive(Clone, Copy, PartialEq, Eq, Debug, Drop)]
@@ -119,13 +119,40 @@ fn long_names_are_parsed(rt: HostRuntime) {
             "AwaitingCalibrationOfSensor { seconds_since_the_last_value: 18446744073709551615 }",
             Ok(AWAITING),
         ),
-        ("Disconnecte", Err(NotText { at: 0 })),
-        ("Disconnectedd", Err(NotText { at: 0 })),
-        ("Interrupted(4294967296)", Err(NotText { at: 12 })),
-        ("Reconfigured { temperatuer: -40 }", Err(NotText { at: 15 })),
+        (
+            "Disconnecte",
+            Err(NotText {
+                at: 0,
+                expected: Expected::Name,
+            }),
+        ),
+        (
+            "Disconnectedd",
+            Err(NotText {
+                at: 0,
+                expected: Expected::Name,
+            }),
+        ),
+        (
+            "Interrupted(4294967296)",
+            Err(NotText {
+                at: 12,
+                expected: Expected::Number,
+            }),
+        ),
+        (
+            "Reconfigured { temperatuer: -40 }",
+            Err(NotText {
+                at: 15,
+                expected: Expected::Name,
+            }),
+        ),
         (
             "AwaitingCalibrationOfSensor { seconds_since_the_last_valeu: 1 }",
-            Err(NotText { at: 30 }),
+            Err(NotText {
+                at: 30,
+                expected: Expected::Name,
+            }),
         ),
     ];
     for (text, wanted) in rows {

@@ -11,7 +11,8 @@ use std::alloc::Global;
 use ufmt::{Formatter, fields, plain_text, uDebug, uWrite};
 use ufmt_parse::ParseError::NotText;
 use ufmt_parse::{
-    Fault, ParseError, ParseMode, Parser, parse, parse_fields, parse_pretty, parse_variants, uParse,
+    Expected, Fault, ParseError, ParseMode, Parser, parse, parse_fields, parse_pretty,
+    parse_variants, uParse,
 };
 
 /// Variants of each shape.
@@ -247,14 +248,62 @@ fn variants_of_each_shape_are_parsed(rt: HostRuntime) {
             Ok(Eight::Seventh { value: true }),
         ),
         ("Eighth", Ok(Eight::Eighth {})),
-        ("Ninth", Err(NotText { at: 0 })),
-        ("first", Err(NotText { at: 0 })),
-        ("First()", Err(NotText { at: 0 })),
-        ("Fourth()", Err(NotText { at: 0 })),
-        ("Second", Err(NotText { at: 6 })),
-        ("Second(256)", Err(NotText { at: 7 })),
-        ("Third(1, 1)", Err(NotText { at: 9 })),
-        ("Fifth { level: false, channel: 3 }", Err(NotText { at: 8 })),
+        (
+            "Ninth",
+            Err(NotText {
+                at: 0,
+                expected: Expected::Name,
+            }),
+        ),
+        (
+            "first",
+            Err(NotText {
+                at: 0,
+                expected: Expected::Name,
+            }),
+        ),
+        (
+            "First()",
+            Err(NotText {
+                at: 0,
+                expected: Expected::Name,
+            }),
+        ),
+        (
+            "Fourth()",
+            Err(NotText {
+                at: 0,
+                expected: Expected::Name,
+            }),
+        ),
+        (
+            "Second",
+            Err(NotText {
+                at: 6,
+                expected: Expected::Punctuation,
+            }),
+        ),
+        (
+            "Second(256)",
+            Err(NotText {
+                at: 7,
+                expected: Expected::Number,
+            }),
+        ),
+        (
+            "Third(1, 1)",
+            Err(NotText {
+                at: 9,
+                expected: Expected::Name,
+            }),
+        ),
+        (
+            "Fifth { level: false, channel: 3 }",
+            Err(NotText {
+                at: 8,
+                expected: Expected::Name,
+            }),
+        ),
     ];
     for (text, wanted) in rows {
         same(&rt, parse((), text.as_bytes()), wanted, text);
@@ -270,16 +319,76 @@ fn names_are_compared_whole(rt: HostRuntime) {
         ("AB(7, None)", Ok(())),
         ("AB(255, Some(true))", Ok(())),
         ("ABC { on: true, level: 0, text: \"AB\" }", Ok(())),
-        ("ABCD", Err(NotText { at: 0 })),
-        ("A-B", Err(NotText { at: 0 })),
-        ("A:B", Err(NotText { at: 0 })),
-        ("AB", Err(NotText { at: 2 })),
-        ("AB { on: true }", Err(NotText { at: 2 })),
-        ("ABC(7, None)", Err(NotText { at: 3 })),
-        ("A(7)", Err(NotText { at: 1 })),
-        ("A ", Err(NotText { at: 1 })),
-        ("A: ", Err(NotText { at: 1 })),
-        ("", Err(NotText { at: 0 })),
+        (
+            "ABCD",
+            Err(NotText {
+                at: 0,
+                expected: Expected::Name,
+            }),
+        ),
+        (
+            "A-B",
+            Err(NotText {
+                at: 0,
+                expected: Expected::Name,
+            }),
+        ),
+        (
+            "A:B",
+            Err(NotText {
+                at: 0,
+                expected: Expected::Name,
+            }),
+        ),
+        (
+            "AB",
+            Err(NotText {
+                at: 2,
+                expected: Expected::Punctuation,
+            }),
+        ),
+        (
+            "AB { on: true }",
+            Err(NotText {
+                at: 2,
+                expected: Expected::Punctuation,
+            }),
+        ),
+        (
+            "ABC(7, None)",
+            Err(NotText {
+                at: 3,
+                expected: Expected::Punctuation,
+            }),
+        ),
+        (
+            "A(7)",
+            Err(NotText {
+                at: 1,
+                expected: Expected::End,
+            }),
+        ),
+        (
+            "A ",
+            Err(NotText {
+                at: 1,
+                expected: Expected::End,
+            }),
+        ),
+        (
+            "A: ",
+            Err(NotText {
+                at: 1,
+                expected: Expected::End,
+            }),
+        ),
+        (
+            "",
+            Err(NotText {
+                at: 0,
+                expected: Expected::Name,
+            }),
+        ),
     ];
     for (text, wanted) in rows {
         let parsed: Result<Signal, ParseError> = parse(alloc, text.as_bytes());
@@ -311,7 +420,13 @@ fn enums_are_parsed_in_other_values(rt: HostRuntime) {
             "Report { node: 9, last: Lost { since: true, peers: false } }",
             Ok(report),
         ),
-        ("Report { node: 9, last: Los }", Err(NotText { at: 24 })),
+        (
+            "Report { node: 9, last: Los }",
+            Err(NotText {
+                at: 24,
+                expected: Expected::Name,
+            }),
+        ),
     ];
     for (text, wanted) in rows {
         same(&rt, parse((), text.as_bytes()), wanted, text);
@@ -339,5 +454,13 @@ fn enums_are_parsed_in_other_values(rt: HostRuntime) {
     let error: Result<Result<u8, Event>, ParseError> = parse((), b"Err(Started)");
     same(&rt, error, Ok(Err(Event::Started)), "an error in a result");
     let neither: Result<Result<u8, Event>, ParseError> = parse((), b"Okay(1)");
-    same(&rt, neither, Err(NotText { at: 0 }), "no result");
+    same(
+        &rt,
+        neither,
+        Err(NotText {
+            at: 0,
+            expected: Expected::Name,
+        }),
+        "no result",
+    );
 }

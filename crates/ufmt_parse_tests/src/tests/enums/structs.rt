@@ -7,7 +7,7 @@ ghost use Rattle.ufmt_parse.specs.Values.{is_i16, is_u8};
 use crate::tests::same;
 use ufmt::{Formatter, fields, uDebug, uWrite};
 use ufmt_parse::ParseError::NotText;
-use ufmt_parse::{Fault, ParseMode, Parser, parse, parse_pretty, parse_variants, uParse};
+use ufmt_parse::{Expected, Fault, ParseMode, Parser, parse, parse_pretty, parse_variants, uParse};
 use ufmt_parse_examples::Set;
 
 /// An order to a device.
@@ -130,23 +130,53 @@ fn structs_in_variants_are_parsed(rt: HostRuntime) {
         ("Pulse(0, Some(255), 0)", Ok(Order::Pulse(0, Some(255), 0))),
         (
             "Apply { set: Set { channel: 256, level: 0 } }",
-            Err(NotText { at: 28 }),
+            Err(NotText {
+                at: 28,
+                expected: Expected::Number,
+            }),
         ),
         (
             "Apply(Set { channel: 1, level: 2 })",
-            Err(NotText { at: 5 }),
+            Err(NotText {
+                at: 5,
+                expected: Expected::Punctuation,
+            }),
         ),
-        ("Apply { set: Halt }", Err(NotText { at: 13 })),
+        (
+            "Apply { set: Halt }",
+            Err(NotText {
+                at: 13,
+                expected: Expected::Name,
+            }),
+        ),
         (
             "Hold(Set { channel: 1, level: 2 }, maybe)",
-            Err(NotText { at: 35 }),
+            Err(NotText {
+                at: 35,
+                expected: Expected::Name,
+            }),
         ),
         (
             "Hold(Set { channel: 1, level: 2 })",
-            Err(NotText { at: 33 }),
+            Err(NotText {
+                at: 33,
+                expected: Expected::Punctuation,
+            }),
         ),
-        ("Pulse(3, Some(256), -1)", Err(NotText { at: 14 })),
-        ("Pulsed(3, None, -1)", Err(NotText { at: 0 })),
+        (
+            "Pulse(3, Some(256), -1)",
+            Err(NotText {
+                at: 14,
+                expected: Expected::Number,
+            }),
+        ),
+        (
+            "Pulsed(3, None, -1)",
+            Err(NotText {
+                at: 0,
+                expected: Expected::Name,
+            }),
+        ),
     ];
     for (text, wanted) in rows {
         same(&rt, parse((), text.as_bytes()), wanted, text);
@@ -162,7 +192,10 @@ fn structs_in_variants_are_parsed(rt: HostRuntime) {
     same(
         &rt,
         parse_pretty::<Order, ()>((), fading.as_bytes()),
-        Err(NotText { at: 16 }),
+        Err(NotText {
+            at: 16,
+            expected: Expected::Punctuation,
+        }),
         fading,
     );
 }

@@ -10,7 +10,7 @@ use Rattle.ufmt_parse.proofs.core_impls.characters.CharuParse.parse_from.Goals a
 
 pub returns-in-None-clause-none : goal.returns-in-None-clause-none
 returns-in-None-clause-none g c =
-    none_clause g.M.ParseMode.mode IsScalar character c.args.parser.now c.args.parser.now (Err NotText)
+    none_clause g.M.ParseMode.mode IsScalar character c.args.parser.now c.needs.new.self (Err NotText)
     (char_refused (open_blocks c.args.parser.now) (rest c.args.parser.now) _ (rw c.rest.ensures.rest at c.in-None.ensures))
 
 pub returns-in-Some-clause-taken : goal.returns-in-Some-clause-taken
