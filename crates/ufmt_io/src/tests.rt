@@ -1,8 +1,9 @@
 //! Tests of watched devices, of reading to the end and of writing whole.
 use super::*;
 use crate::testing::{NEVER, Sink, Source, WHOLE};
-use std::fmt;
+use std::io::ErrorKind;
 use std::process::Abort;
+use std::{fmt, io};
 
 // Checking an assert takes as long as checking twenty calls, so asserts are calls of these two.
 // No other function is generic over the handle: checking that takes as long again.
@@ -91,5 +92,56 @@ fn faults_have_statuses(rt: HostRuntime) {
     ];
     for (fault, status) in rows {
         same(&rt, (fault, fault.status()), (fault, status), "a fault");
+    }
+}
+
+fn kind_of(error: Option<io::Error>) -> Option<ErrorKind> {
+    error.map(|error| error.kind())
+}
+
+// The error of the first failure stays: a later one, of another kind, doesn't take its place.
+#[test]
+fn the_first_failure_stays(rt: HostRuntime) {
+    let mut input = Watched::new(Source::new(b"abc", 2, 2));
+    let mut buffer = *b"..";
+    let _read = input.read_some(&mut buffer);
+    same(&rt, kind_of(input.first_failure()), None, "a read");
+    for case in ["a failed read", "a read after it"] {
+        let _read = input.read_some(&mut buffer);
+        let reset = Some(ErrorKind::ConnectionReset);
+        same(&rt, kind_of(input.first_failure()), reset, case);
+    }
+    input.give_up();
+    let reset = Some(ErrorKind::ConnectionReset);
+    same(
+        &rt,
+        kind_of(input.first_failure()),
+        reset,
+        "given up after it",
+    );
+    let mut input = Watched::new(Source::new(b"", WHOLE, NEVER));
+    input.give_up();
+    let other = Some(ErrorKind::Other);
+    same(&rt, kind_of(input.first_failure()), other, "given up");
+}
+
+// A writer that takes nothing of a piece has an error too.
+#[test]
+fn failed_writes_and_flushes_have_kinds(rt: HostRuntime) {
+    let rows = [
+        ("a write", WHOLE, 1, ErrorKind::BrokenPipe),
+        ("a flush", WHOLE, 2, ErrorKind::BrokenPipe),
+        (
+            "nothing of a piece, and a flush",
+            0,
+            2,
+            ErrorKind::WriteZero,
+        ),
+    ];
+    for (case, most, fails_at, kind) in rows {
+        let mut output = Watched::new(Sink::new(rt.alloc(), most, fails_at, false));
+        let _written = output.write_some(b"abc");
+        let _flushed = output.flush_all();
+        same(&rt, kind_of(output.first_failure()), Some(kind), case);
     }
 }

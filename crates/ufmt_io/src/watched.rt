@@ -1,20 +1,22 @@
-//! A reader or writer that notes whether it failed.
-ghost use Rattle.std.specs.Prelude.{◌≡◌, ◌<◌, false, length, IfOk, IsTrue, OnErr, OnOk};
+//! A reader or writer that notes whether it failed, and why.
+ghost use Rattle.std.specs.Prelude.{◌≡◌, ◌<◌, false, length, IfOk, IfSome, IsTrue, OnErr, OnOk, Some};
+ghost use Rattle.std.specs.Option.{option_or};
 ghost use Rattle.std.specs.Io.{ReadsAtMost, WritesAtMost};
 ghost use Rattle.std.specs.Io.KnownBytes.{Keeps, ReadConsumes, WriteAppends};
-ghost use Rattle.ufmt_io.specs.Watched.{device_of, has_failed};
+ghost use Rattle.ufmt_io.specs.Watched.{device_of, first_failure, has_failed};
 
-use std::io::{Read, Write};
+use std::io;
+use std::io::{ErrorKind, Read, Write};
 
 /// The device failed in this call, or wrote nothing of bytes that aren't empty.
 #[derive(Clone, Copy, PartialEq, Eq, Debug)]
 pub struct Failed;
 
-/// A reader or writer, and whether it failed.
+/// A reader or writer, and the error of its first failure.
 #[derive(Drop)]
 pub struct Watched<D> {
     inner: D,
-    failed: bool,
+    failure: Option<io::Error>,
 }
 
 impl<D> Watched<D> {
@@ -25,7 +27,7 @@ impl<D> Watched<D> {
     {
         Watched {
             inner: device,
-            failed: false,
+            failure: None,
         }
     }
 
@@ -40,22 +42,38 @@ impl<D> Watched<D> {
     pub fn has_failed(&self) -> bool
         ensures { result ≡ has_failed self.now }
     {
-        self.failed
+        self.failure.is_some()
     }
 
-    /// Notes a failure, without a call of the device.
+    /// Returns the error of the first call that failed. Its kind says why, and so do its words.
+    pub fn first_failure(&self) -> Option<io::Error>
+        ensures { result ≡ first_failure self.now }
+    {
+        self.failure
+    }
+
+    /// Notes a failure, without a call of the device. If it is the first, its kind is `Other`.
     pub fn give_up(&mut self)
         ensures device { device_of self.new ≡ device_of self.old }
         ensures noted { IsTrue (has_failed self.new) }
+        ensures first { IfSome (first_failure self.old) (λ error. first_failure self.new ≡ Some error) }
     {
-        self.failed = true;
+        self.note(io::Error::from(ErrorKind::Other));
     }
 
-    fn fail(&mut self) -> Failed
+    // Keeps the error, if it is the first.
+    fn note(&mut self, error: io::Error)
         ensures device { device_of self.new ≡ device_of self.old }
-        ensures noted { IsTrue (has_failed self.new) }
+        ensures first { first_failure self.new ≡ option_or (first_failure self.old) (Some error) }
     {
-        self.give_up();
+        self.failure = self.failure.or(Some(error));
+    }
+
+    fn fail(&mut self, error: io::Error) -> Failed
+        ensures device { device_of self.new ≡ device_of self.old }
+        ensures first { first_failure self.new ≡ option_or (first_failure self.old) (Some error) }
+    {
+        self.note(error);
         Failed
     }
 }
@@ -68,10 +86,11 @@ impl<D: Read> Watched<D> {
             (D.remaining (device_of self.new)) result buffer.new }
         ensures ok { OnOk result (has_failed self.new ≡ has_failed self.old) }
         ensures err { OnErr result (IsTrue (has_failed self.new)) }
+        ensures first { IfSome (first_failure self.old) (λ error. first_failure self.new ≡ Some error) }
     {
         match self.inner.read(buffer) {
             Ok(count) => Ok(count),
-            Err(_) => Err(self.fail()),
+            Err(error) => Err(self.fail(error)),
         }
     }
 }
@@ -86,10 +105,12 @@ impl<D: Write> Watched<D> {
         ensures some { IfOk result (λ count. 0 < length bytes.now → 0 < count) }
         ensures ok { OnOk result (has_failed self.new ≡ has_failed self.old) }
         ensures err { OnErr result (IsTrue (has_failed self.new)) }
+        ensures first { IfSome (first_failure self.old) (λ error. first_failure self.new ≡ Some error) }
     {
         match self.inner.write(bytes) {
             Ok(count) if count > 0 || bytes.is_empty() => Ok(count),
-            _ => Err(self.fail()),
+            Ok(_) => Err(self.fail(io::Error::from(ErrorKind::WriteZero))),
+            Err(error) => Err(self.fail(error)),
         }
     }
 
@@ -98,10 +119,11 @@ impl<D: Write> Watched<D> {
         ensures bytes { Keeps (D.contents (device_of self.old)) (D.contents (device_of self.new)) }
         ensures ok { OnOk result (has_failed self.new ≡ has_failed self.old) }
         ensures err { OnErr result (IsTrue (has_failed self.new)) }
+        ensures first { IfSome (first_failure self.old) (λ error. first_failure self.new ≡ Some error) }
     {
         match self.inner.flush() {
             Ok(()) => Ok(()),
-            Err(_) => Err(self.fail()),
+            Err(error) => Err(self.fail(error)),
         }
     }
 }

@@ -32,3 +32,4 @@ pub mod PlainCuts
 pub mod GroupParts
 pub mod WholeOutputs
 pub mod WorkedOutputs
+pub mod Words

@@ -1,8 +1,12 @@
--- The arguments after the program's name, and what is printed of them.
-use Rattle.std.specs.Prelude.{◌≡◌, ℕ, ◌+◌, ◌-◌, ◌*◌, ◌^◌, ◌&&◌, nat_le, nat_lt, if◌then◌else◌, Bool, List, [], ◌∷◌, codes, Option, Some, None}
-use Rattle.ufmt_core.specs.declared.layout.Mode.TheVariants.{Plain, Pretty}
+-- The arguments after the program's name.
+use Rattle.std.specs.Prelude.{◌≡◌, ℕ, ◌+◌, ◌-◌, ◌*◌, ◌^◌, ◌==◌, ◌&&◌, nat_le, nat_lt, if◌then◌else◌, Bool, true, false, List, [], ◌∷◌, ◌++◌, codes, length, slice_index_or, Option, Some, None, Result, Ok, Err}
+use Rattle.std.specs.Str.{bytes_eq}
+use Rattle.ufmt_core.specs.declared.layout.Mode.TheVariants.{Plain as ToPlain, Pretty as ToPretty}
+use Rattle.ufmt_lines.specs.declared.run.arguments.Mistake.{Mistake}
 use Rattle.ufmt_lines.specs.declared.run.arguments.Request.{Request}
-use Rattle.ufmt_lines.specs.declared.run.arguments.Request.TheVariants.{Convert, LongerThan, Help, Version}
+use Rattle.ufmt_lines.specs.declared.run.arguments.Request.TheVariants.{Convert, Help, Version}
+use Rattle.ufmt_lines.specs.declared.run.arguments.Word.{Word}
+use Rattle.ufmt_lines.specs.declared.run.arguments.Word.TheVariants.{File, Last, LongerThan, OfHelp, OfVersion, Plain, Unknown}
 
 -- an ASCII digit
 abbrev pub is_digit : ℕ → Bool
@@ -18,22 +22,78 @@ abbrev pub decimal_value : List ℕ → Option ℕ
 decimal_value [] = None
 decimal_value (c ∷ t) = digits_value 0 (c ∷ t)
 
--- the arguments ask for this
-abbrev pub Asks : Request → List (List ℕ) → Type 0
-Asks (Convert Pretty) arguments = arguments ≡ []
-Asks (Convert Plain) arguments = arguments ≡ codes "--plain" ∷ []
-Asks (LongerThan n) arguments = (number : List ℕ) × (arguments ≡ codes "--longer-than" ∷ number ∷ []) × (decimal_value number ≡ Some n)
-Asks Help arguments = arguments ≡ codes "--help" ∷ []
-Asks Version arguments = arguments ≡ codes "--version" ∷ []
+-- whether a word begins with a hyphen and has more
+abbrev pub is_option : List ℕ → Bool
+is_option word = nat_lt 1 (length word) && (slice_index_or word 0 0 == 45)
 
--- the line for other arguments
-abbrev pub usage_line : List ℕ
-usage_line = codes "usage: ufmt_lines [--longer-than N | --plain | --help | --version]"
+-- what a word is, if no word before it is `--`
+unfoldable pub word_of : List ℕ → Word
+word_of word =
+    if bytes_eq word (codes "--plain") then Plain else
+    if bytes_eq word (codes "--longer-than") then LongerThan else
+    if bytes_eq word (codes "--help") then OfHelp else
+    if bytes_eq word (codes "--version") then OfVersion else
+    if bytes_eq word (codes "--") then Last else
+    if is_option word then Unknown else File
 
--- the usage, and what each argument does
-abbrev pub help_text : List ℕ
-help_text = codes "usage: ufmt_lines [--longer-than N | --plain | --help | --version]\n\nWrites each line of standard input, with its long debug texts made pretty.\n\n  --longer-than N  makes texts of more than N bytes pretty, not of more than 40\n  --plain          writes pretty texts of several lines as plain ones\n  --help           prints this text\n  --version        prints the version\n"
+-- texts of more bytes become pretty, if nothing else is said
+abbrev pub usual_limit : ℕ
+usual_limit = 40
 
--- the name and the version of the program, a line
-abbrev pub version_text : List ℕ
-version_text = codes "ufmt_lines 0.3.0\n"
+-- what is asked for, with `--plain` or without, and with a limit or without; the line of a mistake
+abbrev pub conversion_of : Bool → Option ℕ → Result Request (List ℕ)
+conversion_of false None = Ok (Convert (record { to = ToPretty; longer_than = usual_limit }))
+conversion_of false (Some n) = Ok (Convert (record { to = ToPretty; longer_than = n }))
+conversion_of true None = Ok (Convert (record { to = ToPlain; longer_than = usual_limit }))
+conversion_of true (Some n) = Err (codes "ufmt_lines: --longer-than doesn't go with --plain")
+
+-- what is asked for after this number; the line of a mistake if it is none
+abbrev pub within : Option ℕ → List ℕ → (ℕ → Result Request (List ℕ)) → Result Request (List ℕ)
+within None number asked = Err (codes "ufmt_lines: --longer-than takes decimal digits, of less than 2^64, not: " ++ number)
+within (Some n) number asked = asked n
+
+-- what the words ask for, if a number must come first or not, and after `--plain` or not, and a limit or none; the line of the first mistake
+abbrev pub asked_after : Bool → Bool → Option ℕ → List (List ℕ) → Result Request (List ℕ)
+asked_after true plain limit [] = Err (codes "ufmt_lines: --longer-than needs a number")
+asked_after true plain limit (number ∷ words) = within (decimal_value number) number (λ n. asked_after false plain (Some n) words)
+asked_after false plain limit [] = conversion_of plain limit
+asked_after false plain limit (word ∷ words) = elim (word_of word) [
+  | File ↦ asked_after false plain limit words
+  | Plain ↦ asked_after false true limit words
+  | LongerThan ↦ asked_after true plain limit words
+  | OfHelp ↦ Ok Help
+  | OfVersion ↦ Ok Version
+  | Last ↦ conversion_of plain limit
+  | Unknown ↦ Err (codes "ufmt_lines: unknown option: " ++ word)
+]
+
+-- what the words ask for
+abbrev pub asked_of : List (List ℕ) → Result Request (List ℕ)
+asked_of words = asked_after false false None words
+
+-- the words that name files: those that are neither an option nor its number, and all after `--`
+abbrev pub files_after : Bool → List (List ℕ) → List (List ℕ)
+files_after number [] = []
+files_after true (number ∷ words) = files_after false words
+files_after false (word ∷ words) = elim (word_of word) [
+  | File ↦ word ∷ files_after false words
+  | LongerThan ↦ files_after true words
+  | Last ↦ words
+  | Plain ↦ files_after false words
+  | OfHelp ↦ files_after false words
+  | OfVersion ↦ files_after false words
+  | Unknown ↦ files_after false words
+]
+
+-- these, or standard input if there are none
+abbrev pub or_standard_input : List (List ℕ) → List (List ℕ)
+or_standard_input [] = codes "-" ∷ []
+or_standard_input (name ∷ names) = name ∷ names
+
+-- the names of the inputs
+abbrev pub inputs_of : List (List ℕ) → List (List ℕ)
+inputs_of words = or_standard_input (files_after false words)
+
+-- the line of a mistake: what is wrong, and the word
+abbrev pub line_of_mistake : Mistake → List ℕ
+line_of_mistake mistake = mistake.what.now ++ mistake.word.now

@@ -4,4 +4,5 @@ pub mod Arguments
 pub mod Fault
 pub mod Groups
 pub mod Private
+pub mod Texts
 pub mod Values

@@ -14,14 +14,16 @@ pub mod laws;
 mod output;
 #[cfg(test)]
 mod tests;
+mod texts;
 mod values;
 
-pub use arguments::{Request, asked, help, usage, version};
+pub use arguments::{Mistake, Request, asked, inputs};
 pub use conversion::Conversion;
-pub use fault::fault_line;
+pub use fault::{fault_line, status};
 use groups::Group;
 use std::alloc::{AllocError, Global};
 use std::io::{Read, Write};
+pub use texts::{help, usage, version};
 use ufmt_io::write_whole;
 pub use ufmt_io::{Failed, IoFault, Watched};
 

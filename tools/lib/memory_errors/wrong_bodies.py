@@ -55,7 +55,7 @@ PUT = [
 
 CHANGED = [
     ("a status by its number", "ufmt_conv/src/main.rt", r"USAGE_STATUS\)", "5)"),
-    ("a line on standard error", "ufmt_lines/src/main.rt", r"run::usage\(\),", '"ufmt_lines: out of memory",'),
+    ("a line on standard error", "ufmt_lines/src/main.rt", r"run::usage\(\)", '"ufmt_lines: out of memory"'),
     ("no text becomes want of memory", "ufmt_scan/src/error.rt", r"ScanError::NotText => ReadError::NotText", "ScanError::NotText => ReadError::OutOfMemory"),
     ("the events that never come now come", "ufmt_doc/src/reader/document_sink.rt", r"if self\.blocks\.is_full\(\)", "if self.docs.len() >= 200"),
     ("a constant by which memory is asked for", "ufmt_io/src/whole.rt", r"const ROOM: usize = [^;]*;", "const ROOM: usize = 64 * 1024 * 1024;"),

@@ -8,6 +8,7 @@ import pathlib
 import resource
 import select
 import shutil
+import signal
 import subprocess
 import sys
 import tempfile
@@ -130,10 +131,11 @@ class Cases:
         status = process.wait(SECONDS)
         return Ran(status if in_time else None, output, error)
 
-    def leaves(self, arguments, text, size, endless=False):
+    def leaves(self, arguments, text, size, endless=False, ignores=False):
         """Runs the program before a reader that takes so many bytes of the output and goes away. The input is the text, or
-        without an end that text again and again."""
-        process = self.start(arguments)
+        without an end that text again and again. The program is started with the signal for a closed pipe as a shell starts it,
+        or so that it `ignores` that."""
+        process = self.start(arguments, ignores)
         feeder = threading.Thread(target=fed, args=(process.stdin, text, endless), daemon=True)
         feeder.start()
         output = taken(process.stdout, size, LATE)
@@ -146,8 +148,10 @@ class Cases:
     def ended(self, status, output, error):
         return Ran(status, output, error)
 
-    def start(self, arguments):
-        return subprocess.Popen([self.program, *arguments], stdin=subprocess.PIPE, stdout=subprocess.PIPE, stderr=subprocess.PIPE, cwd=self.room)
+    def start(self, arguments, ignores=False):
+        prepared = (lambda: signal.signal(signal.SIGPIPE, signal.SIG_IGN)) if ignores else None
+        return subprocess.Popen([self.program, *arguments], stdin=subprocess.PIPE, stdout=subprocess.PIPE, stderr=subprocess.PIPE,
+                                cwd=self.room, preexec_fn=prepared)
 
 
 def run(words, text=b""):

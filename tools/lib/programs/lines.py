@@ -6,25 +6,42 @@ import subprocess
 from lib.programs.cases import CLOSED, FOLDER, Cases, texts
 
 LOGS_FOLDER = pathlib.Path(__file__).resolve().parents[2] / "data" / "logs"
-USAGE = "usage: ufmt_lines [--longer-than N | --plain | --help | --version]"
+USAGE = "usage: ufmt_lines [--longer-than N | --plain | --help | --version] [--] [FILE..]"
 VERSION = b"ufmt_lines 0.3.0\n"
-HELP = b"""usage: ufmt_lines [--longer-than N | --plain | --help | --version]
+HELP = b"""usage: ufmt_lines [--longer-than N | --plain | --help | --version] [--] [FILE..]
 
-Writes each line of standard input, with its long debug texts made pretty.
+Writes each line of the files, with its long debug texts made pretty. The files are
+read as one, in their order. Without a file, standard input is read.
 
   --longer-than N  makes texts of more than N bytes pretty, not of more than 40
   --plain          writes pretty texts of several lines as plain ones
   --help           prints this text
   --version        prints the version
+  --               ends the options: what follows are files
+  -                is standard input
 """
-CANNOT_READ = "ufmt_lines: cannot read"
-CANNOT_WRITE = "ufmt_lines: cannot write"
+# What the C library says of these failures.
+CLOSED_FILE = "Bad file descriptor (os error 9)"
+IS_FOLDER = "Is a directory (os error 21)"
+IS_FULL = "No space left on device (os error 28)"
+IS_MISSING = "No such file or directory (os error 2)"
 OUT_OF_MEMORY = "ufmt_lines: out of memory"
+# The status of a program that SIGPIPE ends, as a shell has it.
+PIPE_STATUS = 141
 PLAIN, PRETTY = texts("node")
 MIB = 1024 * 1024
 # A line with a value of more than forty bytes, and the same made pretty.
 LONG = b"got [1, 12345678901234567890, 23456789012345678901]\n"
 LONG_PRETTY = b"got [\n    1,\n    12345678901234567890,\n    23456789012345678901,\n]\n"
+
+
+def cannot_read(name, reason):
+    return "ufmt_lines: cannot read %s: %s" % (name, reason)
+
+
+def cannot_write(reason):
+    return "ufmt_lines: cannot write standard output: %s" % reason
+
 
 # Each pretty log, and the log whose values are plain.
 LOGS = [
@@ -32,6 +49,9 @@ LOGS = [
     ("nothing", b"", b""),
     ("four lines, the last without a line feed", b"12:00 INFO got=Reading { channel: 3, text: \"not a short one\" }; ok\n\nno text\nend [1234567890123456789, 2345678901234567890]",
      b"12:00 INFO got=Reading {\n    channel: 3,\n    text: \"not a short one\",\n}; ok\n\nno text\nend [\n    1234567890123456789,\n    2345678901234567890,\n]"),
+    ("a tuple of words, and JSON with spaces", b"of (first_word, second_word, third_word, fourth_word)\n{\"level\": \"info\", \"message\": \"started\", \"port\": 8080}\n",
+     b"of (\n    first_word,\n    second_word,\n    third_word,\n    fourth_word,\n)\n"
+     b"{\n    \"level\": \"info\",\n    \"message\": \"started\",\n    \"port\": 8080,\n}\n"),
     ("structs that end in dots", b"state Mutex { data: 0, poisoned: false, owner: 7, .. }\nOnce { .. }\n",
      b"state Mutex {\n    data: 0,\n    poisoned: false,\n    owner: 7,\n    ..\n}\nOnce { .. }\n"),
     ("a carriage return, colours and a tab", b"\x1b[3mpoint\x1b[0m=Point { x: 1.5, y: 2.5, label: \"a long label\" }\x1b[0m\tend\r\n",
@@ -48,11 +68,16 @@ STAY = {
 }
 
 
+def bytes_of(shown):
+    """The bytes of a log that is shown as `cat -v` shows it."""
+    return shown.read_bytes().replace(b"^[", b"\x1b").replace(b"^M", b"\r")
+
+
 def conversions(cases):
     for name, plain, pretty in LOGS:
         cases.judge(name, cases.run(text=plain), 0, pretty)
         cases.judge("--plain: " + name, cases.run("--plain", text=pretty), 0, plain)
-    example, readable = ((LOGS_FOLDER / name).read_bytes() for name in ("example.log", "example.pretty"))
+    example, readable = (bytes_of(LOGS_FOLDER / name) for name in ("example.log", "example.pretty"))
     cases.judge("the example", cases.run(text=example), 0, readable)
     cases.judge("--plain: the example", cases.run("--plain", text=readable), 0, example)
     for row, logs in STAY.items():
@@ -88,35 +113,75 @@ def helps(cases):
         cases.judge(word, cases.run(word, text=PLAIN), 0, wanted)
         cases.judge("%s, standard input closed" % word, cases.run(word, source=CLOSED), 0, wanted)
         cases.judge("%s, an input that stays open" % word, cases.without_input(word), 0, wanted)
-        cases.judge("%s, a full device" % word, cases.run(word, sink="/dev/full"), 4, b"", CANNOT_WRITE)
-        cases.judge("%s, standard output closed" % word, cases.run(word, sink=CLOSED), 4, b"", CANNOT_WRITE)
+        cases.judge("%s, a full device" % word, cases.run(word, sink="/dev/full"), 4, b"", cannot_write(IS_FULL))
+        cases.judge("%s, standard output closed" % word, cases.run(word, sink=CLOSED), 4, b"", cannot_write(CLOSED_FILE))
+        pipe = cases.unread_pipe()
+        cases.judge("%s, nobody reads" % word, cases.run(word, sink=pipe), PIPE_STATUS)
+        os.close(pipe)
         cases.judge("%s, standard error closed" % word, cases.run(word, error=CLOSED), 0, wanted)
 
 
 def arguments(cases):
-    long = "a" * 2000
-    rows = [(word,) for word in ("", "--pretty", "--Plain", "--PLAIN", "--plai", "--plain1", " --plain", "--plain ", "--plain\n", "--plain=1", "-p",
-                                 "plain", "pretty", "-h", "help", "-V", "--help ", "--versio", "version", "-", "--", long, "--plain" + long)]
-    rows += [("--plain", "--plain"), ("--plain", ""), ("", "--plain"), ("--", "--plain"), ("--plain", "--help"), ("--help", "--help"), ("a", "b", "c"),
-             ("--longer-than",), ("--longer-than", "x"), ("--longer-than", "1", "--plain"), ("--longer-than=1",), ("--longer-than", "18446744073709551616")]
-    for row in rows:
-        cases.judge("the arguments %s" % [word[:20] for word in row], cases.run(*row, text=PLAIN), 2, b"", USAGE)
-    for row in ((b"\xff",), ("--plain", b"\xff")):
-        cases.judge("arguments of which one isn't UTF-8: %s" % (row,), cases.run(*row), 5, b"", OUT_OF_MEMORY)
-    # The arguments are judged before anything is read.
-    cases.judge("an argument, and standard input closed", cases.run("x", source=CLOSED), 2, b"", USAGE)
-    cases.judge("an argument, and an input that stays open", cases.without_input("x"), 2, b"", USAGE)
+    """The first wrong argument is named, and the usage follows. The arguments are judged before anything is read."""
+    long = "--" + "a" * 2000
+    no_number, with_plain = "--longer-than needs a number", "--longer-than doesn't go with --plain"
+    rows = [((word,), "unknown option: " + word) for word in ("--pretty", "--Plain", "--plai", "--plain1", "--plain ", "--plain=1", "-p", "-h", "-V",
+                                                              "--help ", "--versio", "---", "--longer-than=1", long)]
+    rows += [(("a", "--pretty", "--plai"), "unknown option: --pretty"), (("--plain", "-x", "--help"), "unknown option: -x"),
+             (("--longer-than",), no_number), (("--plain", "a", "--longer-than"), no_number),
+             (("--longer-than", "1", "--plain"), with_plain), (("--plain", "a", "--longer-than", "1"), with_plain),
+             (("--longer-than", "1", "--plain", "--", "a"), with_plain)]
+    rows += [(("--longer-than", word), "--longer-than takes decimal digits, of less than 2^64, not: " + word)
+             for word in ("x", "", "-1", "+1", "1 ", "0x1", "1.5", "--plain", "18446744073709551616")]
+    for row, said in rows:
+        line = "ufmt_lines: %s\n%s" % (said, USAGE)
+        cases.judge("the arguments %s" % [word[:20] for word in row], cases.run(*row, source=CLOSED), 2, b"", line)
+    for row in ((b"\xff",), ("--plain", b"\xff"), ("--", b"log\xff"), ("--help", b"\xff")):
+        line = "ufmt_lines: an argument isn't UTF-8\n" + USAGE
+        cases.judge("arguments of which one isn't UTF-8: %s" % (row,), cases.run(*row), 2, b"", line)
+    cases.judge("an option, and an input that stays open", cases.without_input("-x"), 2, b"", "ufmt_lines: unknown option: -x\n" + USAGE)
+
+
+def files(cases):
+    """Files are read as `cat` gives them: lines and groups go over from one to the next. Of one that can't be opened or read the
+    name and the reason are said, and the next is read."""
+    front, back = LONG[:20], LONG[20:] + b"b"
+    for name, text in (("front", front), ("back", back), ("group", LONG_PRETTY[:20]), ("group's end", LONG_PRETTY[20:]), ("--plain", LONG),
+                       ("empty", b""), ("r\u00e9sum\u00e9", LONG)):
+        (cases.room / name).write_bytes(text)
+    (cases.room / "folder").mkdir()
+    whole, missing, folder = LONG_PRETTY + b"b", cannot_read("none", IS_MISSING), cannot_read("folder", IS_FOLDER)
+    rows = [("a file", ("front",), b"", front, ""), ("two files", ("front", "back"), b"", whole, ""), ("an empty file", ("empty",), b"", b"", ""),
+            ("a file between options", ("front", "--longer-than", "1000", "back"), b"", LONG + b"b", ""),
+            ("--plain: two files", ("--plain", "group", "group's end"), b"", LONG, ""), ("a name in Latin letters", ("r\u00e9sum\u00e9",), b"", LONG_PRETTY, ""),
+            ("standard input by its name", ("-",), LONG, LONG_PRETTY, ""), ("standard input in the middle", ("front", "-", "front"), back + b"\n", whole + b"\n" + front, ""),
+            ("standard input twice", ("-", "empty", "-"), LONG, LONG_PRETTY, ""), ("standard input that isn't named", ("front",), LONG, front, ""),
+            ("the end of the options", ("--", "--plain"), b"", LONG_PRETTY, ""), ("options, their end, and a file", ("--longer-than", "1000", "--", "--plain"), b"", LONG, ""),
+            ("the end of the options alone", ("--",), LONG, LONG_PRETTY, ""),
+            ("a missing file", ("none",), b"", b"", missing), ("a missing file between two", ("front", "none", "back"), b"", whole, missing),
+            ("a folder", ("folder", "--plain", "group", "group's end"), b"", LONG, folder), ("an empty name", ("",), b"", b"", cannot_read("", IS_MISSING)),
+            ("a missing file and a folder", ("none", "folder", "front", "back"), b"", whole, missing + "\n" + folder),
+            ("a name with a line feed", ("a\nb",), b"", b"", cannot_read("a\nb", IS_MISSING))]
+    for name, row, text, output, said in rows:
+        cases.judge(name, cases.run(*row, text=text), 3 if said else 0, output, said)
+    # What isn't read needn't be open, and `-` is read where it isn't.
+    cases.judge("a file, and standard input closed", cases.run("front", "back", source=CLOSED), 0, whole)
+    cases.judge("files around a closed standard input", cases.run("front", "-", "back", source=CLOSED), 3, whole, cannot_read("standard input", CLOSED_FILE))
+    cases.judge("a missing file and a full device", cases.run("none", "front", sink="/dev/full"), 4, b"", missing + "\n" + cannot_write(IS_FULL))
+    cases.judge("a file, and an input that stays open", cases.without_input("front", "back"), 0, whole)
 
 
 def inputs(cases):
-    for source in (CLOSED, FOLDER):
-        cases.judge("standard input is %s" % source, cases.run(source=source), 3, b"", CANNOT_READ)
+    for source, reason in ((CLOSED, CLOSED_FILE), (FOLDER, IS_FOLDER)):
+        cases.judge("standard input is %s" % source, cases.run(source=source), 3, b"", cannot_read("standard input", reason))
+        cases.judge("--plain: standard input is %s" % source, cases.run("--plain", source=source), 3, b"", cannot_read("standard input", reason))
 
 
 def outputs(cases):
+    for name, sink, reason in (("is closed", CLOSED, CLOSED_FILE), ("is full", "/dev/full", IS_FULL)):
+        cases.judge("standard output %s" % name, cases.run(text=PLAIN, sink=sink), 4, b"", cannot_write(reason))
     pipe = cases.unread_pipe()
-    for name, sink in (("is closed", CLOSED), ("is full", "/dev/full"), ("has no reader", pipe)):
-        cases.judge("standard output %s" % name, cases.run(text=PLAIN, sink=sink), 4, b"", CANNOT_WRITE)
+    cases.judge("standard output has no reader", cases.run(text=PLAIN, sink=pipe), PIPE_STATUS)
     os.close(pipe)
 
 
@@ -124,7 +189,8 @@ def errors(cases):
     """The status and the output are the same if standard error takes nothing."""
     rows = [("an output", (), {"text": PLAIN}, 0, PRETTY), ("--plain: an output", ("--plain",), {"text": PRETTY}, 0, PLAIN),
             ("a wrong argument", ("--pretty",), {"text": PLAIN}, 2, b""), ("no input", (), {"source": FOLDER}, 3, b""),
-            ("--plain: no input", ("--plain",), {"source": FOLDER}, 3, b""), ("an argument that isn't UTF-8", (b"\xff",), {}, 5, b"")]
+            ("--plain: no input", ("--plain",), {"source": FOLDER}, 3, b""), ("an argument that isn't UTF-8", (b"\xff",), {}, 2, b""),
+            ("a missing file", ("none", "-"), {"text": PLAIN}, 3, PRETTY)]
     for name, row, given, status, output in rows:
         for error in (CLOSED, "/dev/full"):
             cases.judge("%s, standard error %s" % (name, error), cases.run(*row, **given, error=error), status, output)
@@ -132,9 +198,12 @@ def errors(cases):
 
 
 def readers_go_away(cases):
-    """A reader takes the first output and goes away. The input has no end."""
-    cases.judge("a reader that goes away", cases.leaves([], LONG * 1000, len(LONG_PRETTY), endless=True), 4, LONG_PRETTY, CANNOT_WRITE)
-    cases.judge("--plain: a reader that goes away", cases.leaves(["--plain"], LONG_PRETTY * 1000, len(LONG), endless=True), 4, LONG, CANNOT_WRITE)
+    """A reader takes the first output and goes away, as `head -1` does. The input has no end. Nothing is said, also if the program
+    is started without the signal for a closed pipe."""
+    for ignores in (False, True):
+        rows = [("a reader that goes away", [], LONG * 1000, LONG_PRETTY), ("--plain: a reader that goes away", ["--plain"], LONG_PRETTY * 1000, LONG)]
+        for name, row, text, first in rows:
+            cases.judge(name, cases.leaves(row, text, len(first), endless=True, ignores=ignores), PIPE_STATUS, first)
 
 
 def slow_reader_goes_away(cases):
@@ -151,7 +220,7 @@ def slow_reader_goes_away(cases):
     except subprocess.TimeoutExpired:
         process.kill()
         status = None
-    cases.judge("a reader that goes away between two lines", cases.ended(status, first, process.stderr.read()), 4, b"b\n", CANNOT_WRITE)
+    cases.judge("a reader that goes away between two lines", cases.ended(status, first, process.stderr.read()), PIPE_STATUS, b"b\n")
 
 
 def too_long_a_line(cases):
@@ -172,7 +241,7 @@ def many_lines(cases):
 
 def main(program):
     cases = Cases(program)
-    for part in (conversions, limits, slow_producer, helps, arguments, inputs, outputs, errors, readers_go_away, slow_reader_goes_away, too_long_a_line,
-                 many_lines):
+    for part in (conversions, limits, slow_producer, helps, arguments, files, inputs, outputs, errors, readers_go_away, slow_reader_goes_away,
+                 too_long_a_line, many_lines):
         part(cases)
     return cases.end()

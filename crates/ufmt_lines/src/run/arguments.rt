@@ -1,66 +1,188 @@
 //! The arguments after the program's name.
-ghost use Rattle.std.specs.Prelude.{◌≡◌, ◌↔◌, [], ◌∷◌, codes, map, string_bytes, Some};
-ghost use Rattle.ufmt_lines.specs.Arguments.{Asks, decimal_value, is_digit, help_text, usage_line, version_text};
+ghost use Rattle.std.specs.Prelude.{◌≡◌, ◌++◌, drop, false, map, string_bytes, Err, IfErr, IfOk, Ok, OnOk};
+ghost use Rattle.ufmt_lines.specs.Arguments.{asked_of, conversion_of, decimal_value, files_after, inputs_of, is_digit, is_option, line_of_mistake, word_of};
 
+use super::conversion::Conversion;
+use std::alloc::{AllocError, Global};
 use ufmt::layout::Mode;
 
 /// What the program is asked for.
 #[derive(Clone, Copy, PartialEq, Eq)]
 pub enum Request {
-    /// Texts in this mode: pretty ones of plain texts of more than forty bytes.
-    Convert(Mode),
-    /// Pretty texts of plain texts of more than so many bytes.
-    LongerThan(usize),
+    /// Its inputs, with their values converted.
+    Convert(Conversion),
     /// What the program does, and its arguments.
     Help,
     /// Its version.
     Version,
 }
 
-/// Returns what the arguments ask for: pretty texts if there are none, plain texts for `--plain`.
-pub fn asked(arguments: &[String]) -> Option<Request>
-    ensures { (request : Request) → (result ≡ Some request)
-        ↔ Asks request (map string_bytes arguments.now) }
+/// An argument that is wrong.
+#[derive(Clone, Copy, PartialEq, Eq, Debug)]
+pub struct Mistake<'a> {
+    /// What is wrong.
+    pub what: &'static str,
+    /// The argument, which is said after it.
+    pub word: &'a str,
+}
+
+// What a word is, if no word before it is `--`.
+#[derive(Clone, Copy, PartialEq, Eq)]
+enum Word {
+    File,
+    Plain,
+    LongerThan,
+    OfHelp,
+    OfVersion,
+    Last,
+    Unknown,
+}
+
+// Texts of more bytes become pretty, if nothing else is said.
+const LONGER_THAN: usize = 40;
+
+// The name of standard input.
+const STANDARD_INPUT: &str = "-";
+
+const UNKNOWN: &str = "ufmt_lines: unknown option: ";
+
+const NO_NUMBER: &str = "ufmt_lines: --longer-than needs a number";
+
+const NOT_A_NUMBER: &str =
+    "ufmt_lines: --longer-than takes decimal digits, of less than 2^64, not: ";
+
+const LIMIT_OF_PLAIN: &str = "ufmt_lines: --longer-than doesn't go with --plain";
+
+/// Returns what the arguments ask for, or the first that is wrong. Files may be between options. Of two
+/// limits the second counts.
+pub fn asked(words: &[String]) -> Result<Request, Mistake<'_>>
+    ensures ok { IfOk result (λ request. asked_of (map string_bytes words.now) ≡ Ok request) }
+    ensures wrong { IfErr result (λ mistake. asked_of (map string_bytes words.now)
+        ≡ Err (line_of_mistake mistake)) }
 {
-    match arguments {
-        [] => Some(Request::Convert(Mode::Pretty)),
-        [argument] => asked_by(argument.as_str()),
-        [option, number] => asked_with(option.as_str(), number.as_str()),
-        _ => None,
+    let mut is_plain = false;
+    let mut limit = None;
+    let mut rest = words;
+    while let Some((word, after)) = rest.split_first() {
+        rest = after;
+        match word_of(word.as_str()) {
+            Word::File => {}
+            Word::Plain => is_plain = true,
+            Word::LongerThan => match rest.split_first() {
+                None => return Err(wrong(NO_NUMBER, "")),
+                Some((number, after)) => match decimal_value(number.as_bytes()) {
+                    None => return Err(wrong(NOT_A_NUMBER, number.as_str())),
+                    Some(bytes) => {
+                        limit = Some(bytes);
+                        rest = after;
+                    }
+                },
+            },
+            Word::OfHelp => return Ok(Request::Help),
+            Word::OfVersion => return Ok(Request::Version),
+            Word::Last => return conversion(is_plain, limit),
+            Word::Unknown => return Err(wrong(UNKNOWN, word.as_str())),
+        }
+    }
+    conversion(is_plain, limit)
+}
+
+fn wrong<'a>(what: &'static str, word: &'a str) -> Mistake<'a>
+    ensures { line_of_mistake result ≡ what.now ++ word.now }
+{
+    Mistake { what, word }
+}
+
+// What is asked for with `--plain` or without, and with a limit or without.
+fn conversion(is_plain: bool, limit: Option<usize>) -> Result<Request, Mistake<'static>>
+    ensures ok { IfOk result (λ request. conversion_of is_plain limit ≡ Ok request) }
+    ensures wrong { IfErr result (λ mistake. conversion_of is_plain limit
+        ≡ Err (line_of_mistake mistake)) }
+{
+    if is_plain && limit.is_some() {
+        return Err(wrong(LIMIT_OF_PLAIN, ""));
+    }
+    Ok(Request::Convert(Conversion {
+        to: if is_plain { Mode::Plain } else { Mode::Pretty },
+        longer_than: limit.unwrap_or(LONGER_THAN),
+    }))
+}
+
+/// Returns the names of the inputs: the arguments that name files, or `-` if there are none.
+pub fn inputs<'a>(alloc: Global, words: &'a [String]) -> Result<Vec<&'a str>, AllocError>
+    ensures { IfOk result (λ names. map (λ name. name.now) names.items
+        ≡ inputs_of (map string_bytes words.now)) }
+{
+    let mut names = files(alloc, words)?;
+    if names.is_empty() {
+        names.push(STANDARD_INPUT)?;
+    }
+    Ok(names)
+}
+
+// The arguments that name files.
+fn files<'a>(alloc: Global, words: &'a [String]) -> Result<Vec<&'a str>, AllocError>
+    ensures { IfOk result (λ names. map (λ name. name.now) names.items
+        ≡ files_after false (map string_bytes words.now)) }
+{
+    let mut names = Vec::new(alloc);
+    let mut rest = words;
+    while let Some((word, after)) = rest.split_first() {
+        rest = after;
+        match word_of(word.as_str()) {
+            Word::File => names.push(word.as_str())?,
+            Word::LongerThan => rest = after_first(rest),
+            Word::Last => {
+                push_all(&mut names, rest)?;
+                rest = &[];
+            }
+            Word::Plain | Word::OfHelp | Word::OfVersion | Word::Unknown => {}
+        }
+    }
+    Ok(names)
+}
+
+// All but the first.
+fn after_first(words: &[String]) -> &[String]
+    ensures { result.now ≡ drop 1 words.now }
+{
+    match words {
+        [] => words,
+        [_, after @ ..] => after,
     }
 }
 
-// What this argument asks for.
-fn asked_by(argument: &str) -> Option<Request>
-    ensures { (request : Request) → (result ≡ Some request) ↔ Asks request (argument.now ∷ []) }
+fn push_all<'a>(names: &mut Vec<&'a str>, words: &'a [String]) -> Result<(), AllocError>
+    ensures { OnOk result (map (λ name. name.now) names.new.items
+        ≡ map (λ name. name.now) names.old.items ++ map string_bytes words.now) }
 {
-    match argument {
-        "--plain" => Some(Request::Convert(Mode::Plain)),
-        "--help" => Some(Request::Help),
-        "--version" => Some(Request::Version),
-        _ => None,
+    let mut rest = words;
+    while let Some((word, after)) = rest.split_first() {
+        names.push(word.as_str())?;
+        rest = after;
+    }
+    Ok(())
+}
+
+fn word_of(word: &str) -> Word
+    ensures { result ≡ word_of word.now }
+{
+    match word {
+        "--plain" => Word::Plain,
+        "--longer-than" => Word::LongerThan,
+        "--help" => Word::OfHelp,
+        "--version" => Word::OfVersion,
+        "--" => Word::Last,
+        _ if is_option(word.as_bytes()) => Word::Unknown,
+        _ => Word::File,
     }
 }
 
-// What this option asks for, with this number.
-fn asked_with(option: &str, number: &str) -> Option<Request>
-    ensures { (request : Request) → (result ≡ Some request)
-        ↔ Asks request (option.now ∷ number.now ∷ []) }
+// Whether a word begins with a hyphen and has more.
+fn is_option(word: &[u8]) -> bool
+    ensures { result ≡ is_option word.now }
 {
-    match option {
-        "--longer-than" => longer_than(number),
-        _ => None,
-    }
-}
-
-fn longer_than(number: &str) -> Option<Request>
-    ensures { (request : Request) → (result ≡ Some request)
-        ↔ Asks request (codes "--longer-than" ∷ number.now ∷ []) }
-{
-    match decimal_value(number.as_bytes()) {
-        Some(bytes) => Some(Request::LongerThan(bytes)),
-        None => None,
-    }
+    word.len() > 1 && word[0] == b'-'
 }
 
 // The number that these decimal digits denote, if a `usize` holds it.
@@ -88,32 +210,4 @@ fn is_digit(byte: u8) -> bool
     ensures { result ≡ is_digit byte }
 {
     byte >= b'0' && byte <= b'9'
-}
-
-/// Returns the line for other arguments, without its line feed.
-pub fn usage() -> &'static str
-    ensures { result.now ≡ usage_line }
-{
-    "usage: ufmt_lines [--longer-than N | --plain | --help | --version]"
-}
-
-/// Returns what `--help` prints: the usage line, and lines on what each argument does.
-pub fn help() -> &'static str
-    ensures { result.now ≡ help_text }
-{
-    "usage: ufmt_lines [--longer-than N | --plain | --help | --version]\n\
-     \n\
-     Writes each line of standard input, with its long debug texts made pretty.\n\
-     \n\
-     \x20 --longer-than N  makes texts of more than N bytes pretty, not of more than 40\n\
-     \x20 --plain          writes pretty texts of several lines as plain ones\n\
-     \x20 --help           prints this text\n\
-     \x20 --version        prints the version\n"
-}
-
-/// Returns what `--version` prints.
-pub fn version() -> &'static str
-    ensures { result.now ≡ version_text }
-{
-    "ufmt_lines 0.3.0\n"
 }

@@ -1,4 +1,5 @@
 //! Tests of `run`, by rows of input and output.
+mod arguments;
 mod calls;
 mod devices;
 mod rows;
@@ -57,11 +58,35 @@ fn wanted(outcome: Result<(), IoFault>) -> Ran {
 fn faults_have_lines(rt: HostRuntime) {
     let rows = [
         (IoFault::CannotRead, "ufmt_lines: cannot read"),
-        (IoFault::CannotWrite, "ufmt_lines: cannot write"),
+        (
+            IoFault::CannotWrite,
+            "ufmt_lines: cannot write standard output",
+        ),
         (IoFault::OutOfMemory, "ufmt_lines: out of memory"),
     ];
     for (fault, line) in rows {
         same(&rt, fault_line(fault), line, line);
+    }
+}
+
+// The status of each outcome: of one whose inputs were all read and whose output may be open, of one
+// with a missed input, of one with a closed output, and of one with both.
+#[test]
+fn outcomes_have_statuses(rt: HostRuntime) {
+    let rows = [
+        (Ok(()), [0, 3, 0, 3]),
+        (Err(IoFault::CannotRead), [3, 3, 3, 3]),
+        (Err(IoFault::CannotWrite), [4, 4, 141, 141]),
+        (Err(IoFault::OutOfMemory), [5, 5, 5, 5]),
+    ];
+    for (outcome, statuses) in rows {
+        let given = [
+            status(outcome, false, false),
+            status(outcome, true, false),
+            status(outcome, false, true),
+            status(outcome, true, true),
+        ];
+        same(&rt, (outcome, given), (outcome, statuses), "an outcome");
     }
 }
 
@@ -89,70 +114,4 @@ fn lines_may_be_longer_than_a_chunk(rt: HostRuntime) -> Result<(), Fail> {
     );
     same(&rt, given, wanted(Ok(())), "a group of 200021 bytes");
     Ok(())
-}
-
-#[test]
-fn arguments_are_requests(rt: HostRuntime) -> Result<(), Fail> {
-    let rows: [(&[&str], Option<Request>); 21] = [
-        (&[], Some(Request::Convert(Mode::Pretty))),
-        (&["--plain"], Some(Request::Convert(Mode::Plain))),
-        (&["--help"], Some(Request::Help)),
-        (&["--version"], Some(Request::Version)),
-        (&["--longer-than", "40"], Some(Request::LongerThan(40))),
-        (&["--longer-than", "0"], Some(Request::LongerThan(0))),
-        (&["--longer-than", "007"], Some(Request::LongerThan(7))),
-        (
-            &["--longer-than", "18446744073709551615"],
-            Some(Request::LongerThan(18_446_744_073_709_551_615)),
-        ),
-        (&["--longer-than", "18446744073709551616"], None),
-        (&["--longer-than", "99999999999999999999999"], None),
-        (&["--longer-than"], None),
-        (&["--longer-than", ""], None),
-        (&["--longer-than", "4 "], None),
-        (&["--longer-than", "-1"], None),
-        (&["--longer-than", "+1"], None),
-        (&["--longer-than", "40", "--plain"], None),
-        (&["--longer", "40"], None),
-        (&["--plain", "--plain"], None),
-        (&["--plain", "--help"], None),
-        (&["--pretty"], None),
-        (&[""], None),
-    ];
-    for (row, wanted) in rows {
-        let mut arguments = Vec::new(rt.alloc());
-        for argument in row {
-            arguments.push(String::from_str(rt.alloc(), argument)?)?;
-        }
-        let is_same = asked(&arguments) == wanted;
-        same(&rt, (row.len(), is_same), (row.len(), true), "arguments");
-    }
-    same(
-        &rt,
-        usage(),
-        "usage: ufmt_lines [--longer-than N | --plain | --help | --version]",
-        "usage",
-    );
-    Ok(())
-}
-
-const HELP: &str =
-    "usage: ufmt_lines [--longer-than N | --plain | --help | --version]\n\nWrites each line of standard input, with its long debug texts made pretty.\n\n  --longer-than N  makes texts of more than N bytes pretty, not of more than 40\n  --plain          writes pretty texts of several lines as plain ones\n  --help           prints this text\n  --version        prints the version\n";
-
-// A text that is printed is written whole, and flushed. A device that fails is not called again.
-#[test]
-fn texts_are_printed_whole(rt: HostRuntime) {
-    for (text, wanted) in [(help(), HELP), (version(), "ufmt_lines 0.3.0\n")] {
-        for (most, fails_at, outcome, len) in [
-            (WHOLE, NEVER, Ok(()), wanted.len()),
-            (1, NEVER, Ok(()), wanted.len()),
-            (5, 1, Err(IoFault::CannotWrite), 0),
-            (5, 3, Err(IoFault::CannotWrite), 10),
-        ] {
-            let mut output = Watched::new(Sink::new(rt.alloc(), most, fails_at, false));
-            same(&rt, print(text, &mut output), outcome, wanted);
-            let taken = output.device().taken.as_slice();
-            same(&rt, taken == &wanted.as_bytes()[..len], true, wanted);
-        }
-    }
 }
