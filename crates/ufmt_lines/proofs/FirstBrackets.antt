@@ -14,11 +14,6 @@ pub without_append : (test : ℕ → Bool) (a b : List ℕ) → Without test a �
 without_append test [] b first second = second
 without_append test (c ∷ a) b first second = (first.0, without_append test a b first.1 second)
 
-pub without_take : (test : ℕ → Bool) (n : ℕ) (a : List ℕ) → Without test a → Without test (take n a)
-without_take test zero a none = tt
-without_take test (suc n) [] none = tt
-without_take test (suc n) (c ∷ a) none = (none.0, without_take test n a none.1)
-
 pub without_drop : (test : ℕ → Bool) (n : ℕ) (a : List ℕ) → Without test a → Without test (drop n a)
 without_drop test zero a none = none
 without_drop test (suc n) [] none = tt
