@@ -8,3 +8,4 @@ pub mod FoundValues
 pub mod Consumed
 pub mod Conversions
 pub mod WorkedGroups
+pub mod WithoutEntries

@@ -3,3 +3,4 @@ pub mod FoundValues
 pub mod GroupOutput
 pub mod Group
 pub mod LineLen
+pub mod WithoutEntries

@@ -4,7 +4,7 @@ ghost use Rattle.ufmt_lines.specs.Private.Converted.{converted};
 ghost use Rattle.ufmt_lines.specs.Values.{before_bracket, convert_from, output_of};
 
 use super::conversion::Conversion;
-use super::values::{next_bracket, stays, value_from, value_start};
+use super::values::{next_bracket, stays, value_at};
 use std::alloc::{AllocError, Global};
 use ufmt::class::Class;
 use ufmt::layout::Mode;
@@ -82,8 +82,7 @@ impl GroupOutput {
         ensures ok { IfOk result (λ end. (n : ℕ) → output_bytes self.old ++ convert_from conversion (suc n) group.now at
             ≡ output_bytes self.new ++ convert_from conversion n group.now end) }
     {
-        let start = value_start(conversion.to, group, at, bracket);
-        let Some(value) = value_from(conversion.to, &group[start..]) else {
+        let Some((start, value)) = value_at(conversion.to, group, at, bracket) else {
             self.push(&group[at..bracket + 1])?;
             return Ok(bracket + 1);
         };

@@ -1,8 +1,9 @@
 //! The values of a text: where the next one begins, and whether it stays as it is.
-ghost use Rattle.std.specs.Prelude.{◌≡◌, ◌<◌, ◌≤◌, ◌+◌, ◌-◌, ◌&&◌, MatchOption, drop, length, None, Some, IsNone, IfSome, true};
+ghost use Rattle.std.specs.Prelude.{◌≡◌, ◌<◌, ◌≤◌, ◌+◌, ◌-◌, ◌&&◌, MatchOption, drop, length, slice_index_or, None, Some, IsNone, IfSome, true};
 ghost use Rattle.ufmt.specs.Leaves.{begins_with, is_name_byte, is_opening};
 ghost use Rattle.ufmt_lines.specs.Values.{before_bracket, brace_start, could_be_struct, is_after_name, is_in_struct, is_named, run_start, tuple_start, value_from, value_start};
-ghost use Rattle.ufmt_lines.specs.Private.FoundValues.{IsValue, StaysAsFound};
+ghost use Rattle.ufmt_lines.specs.Private.FoundValues.{IsValue, IsValueAt, StaysAsFound};
+ghost use Rattle.ufmt_lines.specs.Private.WithoutEntries.{closing_of, is_without_entries};
 
 use super::conversion::Conversion;
 use memchr::memchr3;
@@ -37,9 +38,9 @@ fn before_bracket(text: &[u8]) -> usize
     }
 }
 
-/// Where a value with this bracket begins, if one does: at the bracket, or at a name before it that
-/// begins at `low` or after it.
-pub(super) fn value_start(to: Mode, text: &[u8], low: usize, bracket: usize) -> usize
+// Where a value with this bracket begins, if one does: at the bracket, or at a name before it that
+// begins at `low` or after it.
+fn value_start(to: Mode, text: &[u8], low: usize, bracket: usize) -> usize
     requires low { low ≤ bracket }
     requires within { bracket < length text.now }
     ensures start { result ≡ value_start to text.now low bracket }
@@ -103,7 +104,7 @@ fn is_in_struct(to: Mode, after: &[u8]) -> bool
     ensures { result ≡ is_in_struct to after.now }
 {
     match to {
-        Mode::Pretty => begins_with_space(after),
+        Mode::Pretty => begins_with(b' ', after),
         Mode::Plain => match after.strip_prefix(b"\n    ") {
             Some(line) => begins_with_field(Class::Debug, line),
             None => false,
@@ -111,11 +112,11 @@ fn is_in_struct(to: Mode, after: &[u8]) -> bool
     }
 }
 
-fn begins_with_space(text: &[u8]) -> bool
-    ensures { result ≡ begins_with 32 text.now }
+fn begins_with(byte: u8, text: &[u8]) -> bool
+    ensures { result ≡ begins_with byte text.now }
 {
     match text.first() {
-        Some(byte) => *byte == b' ',
+        Some(first) => *first == byte,
         None => false,
     }
 }
@@ -146,8 +147,50 @@ fn is_named(text: &[u8], start: usize, end: usize) -> bool
     start < end && text[end - 1] != b':'
 }
 
-/// The value that begins here, if a block with entries does, in the mode that isn't written.
-pub(super) fn value_from(to: Mode, text: &[u8]) -> Option<FrontText>
+/// Where the value with this bracket begins, and the value, if there is one.
+pub(super) fn value_at(
+    to: Mode,
+    text: &[u8],
+    low: usize,
+    bracket: usize,
+) -> Option<(usize, FrontText)>
+    requires low { low ≤ bracket }
+    requires within { bracket < length text.now }
+    requires opens { is_opening (slice_index_or text.now bracket 0) ≡ true }
+    ensures { IsValueAt to text.now low bracket result }
+{
+    if is_without_entries(to, text[bracket], &text[bracket + 1..]) {
+        return None;
+    }
+    let start = value_start(to, text, low, bracket);
+    let value = value_from(to, &text[start..])?;
+    Some((start, value))
+}
+
+// Whether no block with entries has this bracket, by the bytes after it. So a leaf with calls, as
+// `f()g()`, isn't read from each of them on.
+fn is_without_entries(to: Mode, bracket: u8, after: &[u8]) -> bool
+    ensures { result ≡ is_without_entries to bracket after.now }
+{
+    match to {
+        Mode::Pretty => begins_with(closing_of(bracket), after),
+        Mode::Plain => !begins_with(b'\n', after),
+    }
+}
+
+// The bracket that closes this one.
+fn closing_of(bracket: u8) -> u8
+    ensures { result ≡ closing_of bracket }
+{
+    match bracket {
+        b'(' => b')',
+        b'[' => b']',
+        _ => b'}',
+    }
+}
+
+// The value that begins here, if a block with entries does, in the mode that isn't written.
+fn value_from(to: Mode, text: &[u8]) -> Option<FrontText>
     ensures { IsValue to text.now result }
 {
     let front = front_text(Class::Debug, other_mode(to), text)?;
