@@ -9,3 +9,4 @@ pub mod Consumed
 pub mod Conversions
 pub mod WorkedGroups
 pub mod WithoutEntries
+pub mod Unclosed

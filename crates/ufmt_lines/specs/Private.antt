@@ -4,3 +4,4 @@ pub mod GroupOutput
 pub mod Group
 pub mod LineLen
 pub mod WithoutEntries
+pub mod Unclosed

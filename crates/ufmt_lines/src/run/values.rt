@@ -3,22 +3,38 @@ ghost use Rattle.std.specs.Prelude.{◌≡◌, ◌<◌, ◌≤◌, ◌+◌, ◌-
 ghost use Rattle.ufmt.specs.Leaves.{begins_with, is_name_byte, is_opening};
 ghost use Rattle.ufmt_lines.specs.Values.{before_bracket, brace_start, could_be_struct, is_after_name, is_in_struct, is_named, run_start, tuple_start, value_from, value_start};
 ghost use Rattle.ufmt_lines.specs.Private.FoundValues.{IsValue, IsValueAt, StaysAsFound};
+ghost use Rattle.ufmt_lines.specs.Private.Unclosed.{HasNoMore, IsUnclosed};
 ghost use Rattle.ufmt_lines.specs.Private.WithoutEntries.{closing_of, is_without_entries};
 
 use super::conversion::Conversion;
-use memchr::memchr3;
+use memchr::{memchr3, memrchr3};
 use ufmt::class::Class;
 use ufmt::layout::Mode;
 use ufmt_scan::convert::other_mode;
 use ufmt_scan::{FrontText, begins_with_field, front_text};
 
-/// Where the first opening bracket is from `at` on.
-pub(super) fn next_bracket(text: &[u8], at: usize) -> Option<usize>
-    requires { at ≤ length text.now }
-    ensures { MatchOption result (length text.now ≤ at + before_bracket (drop at text.now))
+/// How many bytes there are up to the last closing bracket, and with it. No value begins after them.
+pub(super) fn closed_len(text: &[u8]) -> usize
+    ensures { IsUnclosed (drop result text.now) }
+{
+    match memrchr3(b')', b']', b'}', text) {
+        Some(last) => last + 1,
+        None => 0,
+    }
+}
+
+/// Where the first opening bracket is from `at` on, if a value may begin there: `closed` is where the
+/// last closing bracket ends.
+pub(super) fn next_bracket(text: &[u8], closed: usize, at: usize) -> Option<usize>
+    requires closed { IsUnclosed (drop closed text.now) }
+    requires within { at ≤ length text.now }
+    ensures { MatchOption result (HasNoMore text.now at)
         (λ bracket. (bracket ≡ at + before_bracket (drop at text.now))
         × (bracket < length text.now) × (at ≤ bracket)) }
 {
+    if closed <= at {
+        return None;
+    }
     let bracket = at + before_bracket(&text[at..]);
     if bracket < text.len() {
         Some(bracket)

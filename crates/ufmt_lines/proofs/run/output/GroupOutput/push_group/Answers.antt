@@ -1,7 +1,8 @@
 use Rattle.std.proofs.Common.{arith}
 use Rattle.std.proofs.lemmas.Result.{on_ok_weaker}
 use Rattle.std.proofs.lemmas.List.{take_rest}
-use Rattle.ufmt_lines.proofs.Conversions.{all_converted, converted_further}
+use Rattle.ufmt_lines.proofs.Conversions.{converted_further}
+use Rattle.ufmt_lines.proofs.Unclosed.{rest_converted}
 use Rattle.ufmt_lines.proofs.run.output.GroupOutput.push_group.Goals as goal
 
 pub loop-bracket-preserved : goal.loop-bracket-preserved
@@ -16,4 +17,4 @@ loop-bracket-preserved c =
 pub returns : goal.returns
 returns c =
     let so_far = c.loop-bracket.invariant.so_far in
-    on_ok_weaker c.push.result (λ written. all_converted c.args.conversion c.args.group.now c.loop-bracket.at so_far.0 c.in_default.ensures _ _ _ so_far.2 written) (rw take_rest at c.push.ensures)
+    on_ok_weaker c.push.result (λ written. rest_converted c.args.conversion c.args.group.now so_far.0 c.loop-bracket.at c.in_default.ensures _ _ _ so_far.2 written) (rw take_rest at c.push.ensures)
