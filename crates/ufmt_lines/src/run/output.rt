@@ -4,7 +4,7 @@ ghost use Rattle.ufmt_lines.specs.Private.Converted.{converted};
 ghost use Rattle.ufmt_lines.specs.Values.{before_bracket, convert_from, output_of};
 
 use super::conversion::Conversion;
-use super::values::{closed_len, next_bracket, stays, value_at};
+use super::values::{next_bracket, stays, value_at, values_end};
 use std::alloc::{AllocError, Global};
 use ufmt::class::Class;
 use ufmt::layout::Mode;
@@ -58,9 +58,9 @@ impl GroupOutput {
         ensures { OnOk result (output_bytes self.new
             ≡ output_bytes self.old ++ output_of conversion group.now) }
     {
-        let closed = closed_len(group);
+        let end = values_end(group);
         let mut at = 0;
-        while let Some(bracket) = next_bracket(group, closed, at) {
+        while let Some(bracket) = next_bracket(group, end, at) {
             at = self.push_next(conversion, group, at, bracket)?;
         }
         self.push(&group[at..])

@@ -1,5 +1,5 @@
 //! The values of a text: where the next one begins, and whether it stays as it is.
-ghost use Rattle.std.specs.Prelude.{◌≡◌, ◌<◌, ◌≤◌, ◌+◌, ◌-◌, ◌&&◌, MatchOption, drop, length, slice_index_or, None, Some, IsNone, IfSome, true};
+ghost use Rattle.std.specs.Prelude.{◌≡◌, ◌<◌, ◌≤◌, ◌+◌, ◌-◌, ◌&&◌, ℕ, MatchOption, drop, length, slice_index_or, None, Some, IsNone, IfSome, true};
 ghost use Rattle.ufmt.specs.Leaves.{begins_with, is_name_byte, is_opening};
 ghost use Rattle.ufmt_lines.specs.Values.{before_bracket, brace_start, could_be_struct, is_after_name, is_in_struct, is_named, run_start, tuple_start, value_from, value_start};
 ghost use Rattle.ufmt_lines.specs.Private.FoundValues.{IsValue, IsValueAt, StaysAsFound};
@@ -13,8 +13,20 @@ use ufmt::layout::Mode;
 use ufmt_scan::convert::other_mode;
 use ufmt_scan::{FrontText, begins_with_field, front_text};
 
-/// How many bytes there are up to the last closing bracket, and with it. No value begins after them.
-pub(super) fn closed_len(text: &[u8]) -> usize
+/// A place from which on no value begins: the end of the last closing bracket, or the start of a text
+/// without an opening one.
+pub(super) fn values_end(text: &[u8]) -> usize
+    ensures { (at : ℕ) → result ≤ at → HasNoMore text.now at }
+{
+    // Most lines have no bracket, and are searched for one kind only.
+    if before_bracket(text) == text.len() {
+        return 0;
+    }
+    closed_len(text)
+}
+
+// How many bytes there are up to the last closing bracket, and with it.
+fn closed_len(text: &[u8]) -> usize
     ensures { IsUnclosed (drop result text.now) }
 {
     match memrchr3(b')', b']', b'}', text) {
@@ -23,16 +35,15 @@ pub(super) fn closed_len(text: &[u8]) -> usize
     }
 }
 
-/// Where the first opening bracket is from `at` on, if a value may begin there: `closed` is where the
-/// last closing bracket ends.
-pub(super) fn next_bracket(text: &[u8], closed: usize, at: usize) -> Option<usize>
-    requires closed { IsUnclosed (drop closed text.now) }
+/// Where the first opening bracket is from `at` on, if a value may begin there: none does from `end` on.
+pub(super) fn next_bracket(text: &[u8], end: usize, at: usize) -> Option<usize>
+    requires end { (place : ℕ) → end ≤ place → HasNoMore text.now place }
     requires within { at ≤ length text.now }
     ensures { MatchOption result (HasNoMore text.now at)
         (λ bracket. (bracket ≡ at + before_bracket (drop at text.now))
         × (bracket < length text.now) × (at ≤ bracket)) }
 {
-    if closed <= at {
+    if end <= at {
         return None;
     }
     let bracket = at + before_bracket(&text[at..]);
