@@ -1,10 +1,10 @@
 -- A text without a closing bracket has no value: it stays.
-use Rattle.std.proofs.Common.{◌≡◌, inl, inr, ◌∙◌, refl, ap, sym, subst, ℕ, zero, suc, ◌+◌, ◌-◌, ◌≤◌, ◌==◌, ◌&&◌, ◌||◌, nat_le, nat_lt, Bool, true, false, cond, List, [], ◌∷◌, ◌++◌, Option, Some, None, option_and_then, drop, get_or, length, length-drop, codes, arith}
+use Rattle.std.proofs.Common.{◌≡◌, inl, inr, ◌∙◌, refl, ap, sym, subst, ℕ, zero, suc, ◌+◌, ◌-◌, ◌≤◌, ◌==◌, ◌&&◌, ◌||◌, nat_le, nat_lt, Bool, true, false, cond, List, [], ◌∷◌, ◌++◌, Option, Some, None, option_and_then, drop, get_or, length, codes, arith}
 use Rattle.std.proofs.lemmas.Bool.Decides.{nat_tests}
 use Rattle.std.proofs.lemmas.Bool.{true≢false}
 use Rattle.std.proofs.lemmas.List.{drop-drop, take-append-drop}
 use Rattle.ufmt.specs.Document.{Document, leaf, joined, list_of, set_of, map_of, struct_of, non_exhaustive_of, tuple_of, pretty_part, no_documents, first_document, no_pairs, first_pair, no_fields, first_field}
-use Rattle.ufmt.specs.Leaves.{is_name_byte, is_opening}
+use Rattle.ufmt.specs.Leaves.{is_name_byte}
 use Rattle.ufmt.specs.Layout.{block_tail, block_text, count_after, dots_ending, dots_line, ending, frame, framed_all, if_any, inside, layout, lead, line_start, next, setting, trail, tuple_kind, texts, pair_texts, field_texts}
 use Rattle.ufmt_core.specs.declared.layout.Count.{Count}
 use Rattle.ufmt_core.specs.declared.layout.Count.TheVariants.{Zero, One, Several}
@@ -232,15 +232,6 @@ module _ (conversion : Conversion) (text : List ℕ) where
   rest_converted n at (inl none) whole old new before last = all_converted conversion text at n none whole old new before last
   rest_converted n at (inr none) whole old new before last = unclosed_converted n at none whole old new before last
 
--- nor does a value begin in a text without an opening bracket
-no_bracket_after : (t : List ℕ) (k : ℕ) → length t ≤ before_bracket t → length (drop k t) ≤ before_bracket (drop k t)
-no_bracket_after t zero none = none
-no_bracket_after [] (suc k) none = omega arith
-no_bracket_after (c ∷ t) (suc k) none = no_bracket_after t k (go (is_opening c) none)
-  where
-    go : (b : Bool) → suc (length t) ≤ cond b 0 (suc (before_bracket t)) → length t ≤ before_bracket t
-    go true h = absurd (omega (arith, h))
-    go false h = omega (arith, h)
-
-pub none_opens : (text : List ℕ) (at : ℕ) → length text ≤ before_bracket text → HasNoMore text at
-none_opens text at none = let left = length-drop at text in let more = no_bracket_after text at none in inl (omega (arith, left, more))
+-- nor does a value begin at the end
+pub none_at_end : (text : List ℕ) (at : ℕ) → length text ≤ at → HasNoMore text at
+none_at_end text at past = inl (omega (arith, past))

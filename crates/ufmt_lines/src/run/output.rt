@@ -58,10 +58,11 @@ impl GroupOutput {
         ensures { OnOk result (output_bytes self.new
             ≡ output_bytes self.old ++ output_of conversion group.now) }
     {
-        let end = values_end(group);
+        let mut end = group.len();
         let mut at = 0;
         while let Some(bracket) = next_bracket(group, end, at) {
             at = self.push_next(conversion, group, at, bracket)?;
+            end = values_end(group, end, at == bracket + 1);
         }
         self.push(&group[at..])
     }

@@ -13,16 +13,17 @@ use ufmt::layout::Mode;
 use ufmt_scan::convert::other_mode;
 use ufmt_scan::{FrontText, begins_with_field, front_text};
 
-/// A place from which on no value begins: the end of the last closing bracket, or the start of a text
-/// without an opening one.
-pub(super) fn values_end(text: &[u8]) -> usize
-    ensures { (at : ℕ) → result ≤ at → HasNoMore text.now at }
+/// A place from which on no value begins, if none does from `end` on. After a try that failed it is where
+/// the last closing bracket ends, which is searched for once.
+pub(super) fn values_end(text: &[u8], end: usize, has_failed: bool) -> usize
+    requires { (place : ℕ) → end ≤ place → HasNoMore text.now place }
+    ensures { (place : ℕ) → result ≤ place → HasNoMore text.now place }
 {
-    // Most lines have no bracket, and are searched for one kind only.
-    if before_bracket(text) == text.len() {
-        return 0;
+    if has_failed && end == text.len() {
+        closed_len(text)
+    } else {
+        end
     }
-    closed_len(text)
 }
 
 // How many bytes there are up to the last closing bracket, and with it.
