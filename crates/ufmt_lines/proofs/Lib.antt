@@ -33,3 +33,5 @@ pub mod GroupParts
 pub mod WholeOutputs
 pub mod WorkedOutputs
 pub mod Words
+pub mod WithoutEntries
+pub mod Unclosed

@@ -3,3 +3,5 @@ pub mod FoundValues
 pub mod GroupOutput
 pub mod Group
 pub mod LineLen
+pub mod WithoutEntries
+pub mod Unclosed

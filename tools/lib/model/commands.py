@@ -17,8 +17,6 @@ START_STEPS, START_BYTES, CHUNK = 1_200_000, 70_000, 64 * 1024
 # indentation costs fewer: when it is read, and when it is looked at for the end of its line too.
 BYTE_STEPS, LINE_STEPS = 40, 600
 READ_INDENTATION, SPLIT_INDENTATION = 1, 17
-# ufmt_lines tries each bracket at which no value begins: to read the bytes after it takes so many steps for each at most.
-TRY_STEPS, TRIED_STEPS = 400, 12
 # What is before the text of a line, as in a log.
 STAMP = "12:00: "
 FIRST = "the first line"
@@ -144,13 +142,11 @@ def output_of(group, is_plain):
 
 
 def line_steps(line):
-    """A text is scanned, and then converted. Each byte is copied, and looked at for the end of its line. Where nothing is converted
-    each bracket may be tried."""
+    """A text is scanned, and then converted. Each byte is copied, and looked at for the end of its line. A bracket at which no value
+    begins takes no more."""
     scanned = bounds.steps("debug is_text", line.case) + bounds.steps("debug convert into", line.case)
-    brackets = sum(map(line.group.count, "([{")) if line.group == line.output else 0
-    tried = brackets * (TRY_STEPS + TRIED_STEPS * len(line.group.encode()))
     copied = byte_steps(line.group, line.case, SPLIT_INDENTATION)
-    return scanned + tried + copied + LINE_STEPS * (2 + line.group.count("\n"))
+    return scanned + copied + LINE_STEPS * (2 + line.group.count("\n"))
 
 
 def line_faults(counter, program, is_plain):

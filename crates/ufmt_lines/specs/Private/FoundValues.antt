@@ -3,7 +3,7 @@ use Rattle.std.specs.Prelude.{◌≡◌, ◌<◌, ◌≤◌, ℕ, Bool, List, le
 use Rattle.ufmt.specs.Document.{Document}
 use Rattle.ufmt_core.specs.declared.layout.Mode.{Mode}
 use Rattle.ufmt_lines.specs.declared.run.conversion.Conversion.{Conversion}
-use Rattle.ufmt_lines.specs.Values.{stays, value_from}
+use Rattle.ufmt_lines.specs.Values.{stays, value_from, value_start}
 use Rattle.ufmt_scan.specs.Fronts.{has_one_leaf}
 use Rattle.ufmt_scan.specs.declared.text.FrontText.{FrontText}
 
@@ -18,6 +18,17 @@ pub record IsFoundValue (to : Mode) (text : List ℕ) (value : FrontText) : Type
 -- it was found, or there is none
 abbrev pub IsValue : Mode → List ℕ → Option FrontText → Type 0
 IsValue to text outcome = MatchOption outcome (value_from to text ≡ None) (IsFoundValue to text)
+
+-- a value with this bracket begins there, if one does
+pub record IsStart (to : Mode) (text : List ℕ) (low bracket start : ℕ) : Type 0 where
+  pub is : start ≡ value_start to text low bracket
+  pub from_low : low ≤ start
+  pub before : start ≤ bracket
+
+-- where the value with this bracket begins, and the value, or there is none
+abbrev pub IsValueAt : Mode → List ℕ → ℕ → ℕ → Option (ℕ × FrontText) → Type 0
+IsValueAt to text low bracket outcome = MatchOption outcome (value_from to (drop (value_start to text low bracket) text) ≡ None)
+    (λ x. IsStart to text low bracket x.0 × IsFoundValue to (drop x.0 text) x.1)
 
 -- whether a document that has as many leaves, in a text of this size, stays
 abbrev pub StaysAsFound : Conversion → List ℕ → ℕ → ℕ → FrontText → Bool → Type 0

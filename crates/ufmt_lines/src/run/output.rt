@@ -4,7 +4,7 @@ ghost use Rattle.ufmt_lines.specs.Private.Converted.{converted};
 ghost use Rattle.ufmt_lines.specs.Values.{before_bracket, convert_from, output_of};
 
 use super::conversion::Conversion;
-use super::values::{next_bracket, stays, value_from, value_start};
+use super::values::{next_bracket, stays, value_at, values_end};
 use std::alloc::{AllocError, Global};
 use ufmt::class::Class;
 use ufmt::layout::Mode;
@@ -58,9 +58,11 @@ impl GroupOutput {
         ensures { OnOk result (output_bytes self.new
             ≡ output_bytes self.old ++ output_of conversion group.now) }
     {
+        let mut end = group.len();
         let mut at = 0;
-        while let Some(bracket) = next_bracket(group, at) {
+        while let Some(bracket) = next_bracket(group, end, at) {
             at = self.push_next(conversion, group, at, bracket)?;
+            end = values_end(group, end, at == bracket + 1);
         }
         self.push(&group[at..])
     }
@@ -82,8 +84,7 @@ impl GroupOutput {
         ensures ok { IfOk result (λ end. (n : ℕ) → output_bytes self.old ++ convert_from conversion (suc n) group.now at
             ≡ output_bytes self.new ++ convert_from conversion n group.now end) }
     {
-        let start = value_start(conversion.to, group, at, bracket);
-        let Some(value) = value_from(conversion.to, &group[start..]) else {
+        let Some((start, value)) = value_at(conversion.to, group, at, bracket) else {
             self.push(&group[at..bracket + 1])?;
             return Ok(bracket + 1);
         };

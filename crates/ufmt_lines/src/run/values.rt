@@ -1,23 +1,52 @@
 //! The values of a text: where the next one begins, and whether it stays as it is.
-ghost use Rattle.std.specs.Prelude.{◌≡◌, ◌<◌, ◌≤◌, ◌+◌, ◌-◌, ◌&&◌, MatchOption, drop, length, None, Some, IsNone, IfSome, true};
+ghost use Rattle.std.specs.Prelude.{◌≡◌, ◌<◌, ◌≤◌, ◌+◌, ◌-◌, ◌&&◌, ℕ, MatchOption, drop, length, slice_index_or, None, Some, IsNone, IfSome, true};
 ghost use Rattle.ufmt.specs.Leaves.{begins_with, is_name_byte, is_opening};
 ghost use Rattle.ufmt_lines.specs.Values.{before_bracket, brace_start, could_be_struct, is_after_name, is_in_struct, is_named, run_start, tuple_start, value_from, value_start};
-ghost use Rattle.ufmt_lines.specs.Private.FoundValues.{IsValue, StaysAsFound};
+ghost use Rattle.ufmt_lines.specs.Private.FoundValues.{IsValue, IsValueAt, StaysAsFound};
+ghost use Rattle.ufmt_lines.specs.Private.Unclosed.{HasNoMore, IsUnclosed};
+ghost use Rattle.ufmt_lines.specs.Private.WithoutEntries.{closing_of, is_without_entries};
 
 use super::conversion::Conversion;
-use memchr::memchr3;
+use memchr::{memchr3, memrchr3};
 use ufmt::class::Class;
 use ufmt::layout::Mode;
 use ufmt_scan::convert::other_mode;
 use ufmt_scan::{FrontText, begins_with_field, front_text};
 
-/// Where the first opening bracket is from `at` on.
-pub(super) fn next_bracket(text: &[u8], at: usize) -> Option<usize>
-    requires { at ≤ length text.now }
-    ensures { MatchOption result (length text.now ≤ at + before_bracket (drop at text.now))
+/// A place from which on no value begins, if none does from `end` on. After a try that failed it is where
+/// the last closing bracket ends, which is searched for once.
+pub(super) fn values_end(text: &[u8], end: usize, has_failed: bool) -> usize
+    requires { (place : ℕ) → end ≤ place → HasNoMore text.now place }
+    ensures { (place : ℕ) → result ≤ place → HasNoMore text.now place }
+{
+    if has_failed && end == text.len() {
+        closed_len(text)
+    } else {
+        end
+    }
+}
+
+// How many bytes there are up to the last closing bracket, and with it.
+fn closed_len(text: &[u8]) -> usize
+    ensures { IsUnclosed (drop result text.now) }
+{
+    match memrchr3(b')', b']', b'}', text) {
+        Some(last) => last + 1,
+        None => 0,
+    }
+}
+
+/// Where the first opening bracket is from `at` on, if a value may begin there: none does from `end` on.
+pub(super) fn next_bracket(text: &[u8], end: usize, at: usize) -> Option<usize>
+    requires end { (place : ℕ) → end ≤ place → HasNoMore text.now place }
+    requires within { at ≤ length text.now }
+    ensures { MatchOption result (HasNoMore text.now at)
         (λ bracket. (bracket ≡ at + before_bracket (drop at text.now))
         × (bracket < length text.now) × (at ≤ bracket)) }
 {
+    if end <= at {
+        return None;
+    }
     let bracket = at + before_bracket(&text[at..]);
     if bracket < text.len() {
         Some(bracket)
@@ -37,9 +66,9 @@ fn before_bracket(text: &[u8]) -> usize
     }
 }
 
-/// Where a value with this bracket begins, if one does: at the bracket, or at a name before it that
-/// begins at `low` or after it.
-pub(super) fn value_start(to: Mode, text: &[u8], low: usize, bracket: usize) -> usize
+// Where a value with this bracket begins, if one does: at the bracket, or at a name before it that
+// begins at `low` or after it.
+fn value_start(to: Mode, text: &[u8], low: usize, bracket: usize) -> usize
     requires low { low ≤ bracket }
     requires within { bracket < length text.now }
     ensures start { result ≡ value_start to text.now low bracket }
@@ -103,7 +132,7 @@ fn is_in_struct(to: Mode, after: &[u8]) -> bool
     ensures { result ≡ is_in_struct to after.now }
 {
     match to {
-        Mode::Pretty => begins_with_space(after),
+        Mode::Pretty => begins_with(b' ', after),
         Mode::Plain => match after.strip_prefix(b"\n    ") {
             Some(line) => begins_with_field(Class::Debug, line),
             None => false,
@@ -111,11 +140,11 @@ fn is_in_struct(to: Mode, after: &[u8]) -> bool
     }
 }
 
-fn begins_with_space(text: &[u8]) -> bool
-    ensures { result ≡ begins_with 32 text.now }
+fn begins_with(byte: u8, text: &[u8]) -> bool
+    ensures { result ≡ begins_with byte text.now }
 {
     match text.first() {
-        Some(byte) => *byte == b' ',
+        Some(first) => *first == byte,
         None => false,
     }
 }
@@ -146,8 +175,50 @@ fn is_named(text: &[u8], start: usize, end: usize) -> bool
     start < end && text[end - 1] != b':'
 }
 
-/// The value that begins here, if a block with entries does, in the mode that isn't written.
-pub(super) fn value_from(to: Mode, text: &[u8]) -> Option<FrontText>
+/// Where the value with this bracket begins, and the value, if there is one.
+pub(super) fn value_at(
+    to: Mode,
+    text: &[u8],
+    low: usize,
+    bracket: usize,
+) -> Option<(usize, FrontText)>
+    requires low { low ≤ bracket }
+    requires within { bracket < length text.now }
+    requires opens { is_opening (slice_index_or text.now bracket 0) ≡ true }
+    ensures { IsValueAt to text.now low bracket result }
+{
+    if is_without_entries(to, text[bracket], &text[bracket + 1..]) {
+        return None;
+    }
+    let start = value_start(to, text, low, bracket);
+    let value = value_from(to, &text[start..])?;
+    Some((start, value))
+}
+
+// Whether no block with entries has this bracket, by the bytes after it. So a leaf with calls, as
+// `f()g()`, isn't read from each of them on.
+fn is_without_entries(to: Mode, bracket: u8, after: &[u8]) -> bool
+    ensures { result ≡ is_without_entries to bracket after.now }
+{
+    match to {
+        Mode::Pretty => begins_with(closing_of(bracket), after),
+        Mode::Plain => !begins_with(b'\n', after),
+    }
+}
+
+// The bracket that closes this one.
+fn closing_of(bracket: u8) -> u8
+    ensures { result ≡ closing_of bracket }
+{
+    match bracket {
+        b'(' => b')',
+        b'[' => b']',
+        _ => b'}',
+    }
+}
+
+// The value that begins here, if a block with entries does, in the mode that isn't written.
+fn value_from(to: Mode, text: &[u8]) -> Option<FrontText>
     ensures { IsValue to text.now result }
 {
     let front = front_text(Class::Debug, other_mode(to), text)?;
