@@ -116,28 +116,28 @@ pub missing-in_column : (c : Column) (text : List ℕ) (width : ℕ)
 missing-in_column c text width =
     omega (arith, columns_are_filled c text, char_count-append (in_column c text) [], char_count-nil)
 
--- 64 spaces more
-pub spaces-more : (m : ℕ) → replicate (64 * (m + 1)) space ≡ replicate (64 * m) space ++ replicate 64 space
-spaces-more m =
+-- 64 of a byte more
+pub bytes-more : (byte m : ℕ) → replicate (64 * (m + 1)) byte ≡ replicate (64 * m) byte ++ replicate 64 byte
+bytes-more byte m =
     let count : 64 * (m + 1) ≡ 64 * m + 64 = omega arith in
-    ap (λ k. replicate k space) count ∙ sym (replicate-append-replicate (64 * m) 64 space)
+    ap (λ k. replicate k byte) count ∙ sym (replicate-append-replicate (64 * m) 64 byte)
 
--- n spaces are m times 64, 64 more, and the remaining ones
-pub spaces-front : (m n : ℕ) → m < n / 64
-    → replicate n space ≡ (replicate (64 * m) space ++ replicate 64 space) ++ replicate (n - 64 * (m + 1)) space
-spaces-front m n some =
+-- n of a byte are m times 64, 64 more, and the remaining ones
+pub bytes-front : (byte m n : ℕ) → m < n / 64
+    → replicate n byte ≡ (replicate (64 * m) byte ++ replicate 64 byte) ++ replicate (n - 64 * (m + 1)) byte
+bytes-front byte m n some =
     let count : n ≡ 64 * (m + 1) + (n - 64 * (m + 1)) = omega arith in
-    ap (λ k. replicate k space) count ∙ sym (replicate-append-replicate (64 * (m + 1)) (n - 64 * (m + 1)) space)
-    ∙ ap (λ t. t ++ replicate (n - 64 * (m + 1)) space) (spaces-more m)
+    ap (λ k. replicate k byte) count ∙ sym (replicate-append-replicate (64 * (m + 1)) (n - 64 * (m + 1)) byte)
+    ∙ ap (λ t. t ++ replicate (n - 64 * (m + 1)) byte) (bytes-more byte m)
 
--- n spaces are m times 64, and the remaining ones
-pub spaces-rest : (m n : ℕ) → m ≡ n / 64 → replicate n space ≡ replicate (64 * m) space ++ replicate (n % 64) space
-spaces-rest m n is =
+-- n of a byte are m times 64, and the remaining ones
+pub bytes-rest : (byte m n : ℕ) → m ≡ n / 64 → replicate n byte ≡ replicate (64 * m) byte ++ replicate (n % 64) byte
+bytes-rest byte m n is =
     let count : n ≡ 64 * m + n % 64 = omega arith in
-    ap (λ k. replicate k space) count ∙ sym (replicate-append-replicate (64 * m) (n % 64) space)
+    ap (λ k. replicate k byte) count ∙ sym (replicate-append-replicate (64 * m) (n % 64) byte)
 
-pub IsCharBoundary-spaces : (n : ℕ) → n < 64 → IsCharBoundary (replicate 64 space) n
-IsCharBoundary-spaces n within = IsCharBoundary-before_ascii (replicate 64 space) n within (omega (arith, get_or-replicate 64 n space 0 within))
+pub IsCharBoundary-bytes : (byte n : ℕ) → byte < 128 → n < 64 → IsCharBoundary (replicate 64 byte) n
+IsCharBoundary-bytes byte n low within = IsCharBoundary-before_ascii (replicate 64 byte) n within (omega (arith, get_or-replicate 64 n byte 0 within, low))
 
 -- the fills before and after the text, of so many in all
 abbrev first_fills : Column → ℕ → List ℕ

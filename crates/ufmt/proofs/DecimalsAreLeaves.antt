@@ -4,7 +4,8 @@ use Rattle.std.specs.List.{All}
 use Rattle.std.specs.Str.{IsAscii}
 use Rattle.std.proofs.lemmas.List.Elements.{All-head, All-tail}
 use Rattle.ufmt_core.specs.Decimal.{decimal_byte, sign_of}
-use Rattle.ufmt.specs.FixedPoint.{fixed, fixed_digits, point_and}
+use Rattle.ufmt_fixed.specs.Text.{fixed_digits}
+use Rattle.ufmt.specs.FixedPoint.{fixed, point_and}
 use Rattle.ufmt_grammar.specs.Leaves.{IsDebugLeaf}
 use Rattle.ufmt_grammar.proofs.ClassTokens.{IsPlainByte, word_byte_is_plain}
 use Rattle.ufmt_grammar.proofs.PlainLeaves.{ArePlain, plain_is_ascii, plain_is_text, point_is_plain}
@@ -30,7 +31,7 @@ fixed_is_plain (digit ∷ before) after below = (
   fixed_is_plain before after (All-tail (λ d. d < 10) digit (before ++ after) below),
 )
 
-signed_is_text : (z : ℤ) (before after : List ℕ) → 0 < length before → All (λ digit. digit < 10) (before ++ after)
+pub signed_is_text : (z : ℤ) (before after : List ℕ) → 0 < length before → All (λ digit. digit < 10) (before ++ after)
     → IsDebugLeaf (sign_of z ++ (map decimal_byte before ++ point_and after))
 signed_is_text (pos n) [] after some below = absurd (omega arith)
 signed_is_text (pos n) (digit ∷ before) after some below =

@@ -13,7 +13,8 @@ use Rattle.ufmt_core.proofs.DecimalTexts.{decimal-in_base}
 use Rattle.ufmt_core.proofs.LastDigits.{length-last_digits}
 use Rattle.ufmt_core.proofs.Numerals.{numeral-denotes}
 use Rattle.ufmt_core.proofs.NumeralTexts.{text-digit, text-step}
-use Rattle.ufmt.specs.FixedPoint.{DenotesFixed, fixed, fixed_digits, point_and, point_and_last}
+use Rattle.ufmt_fixed.specs.Text.{fixed_digits, point_and_last}
+use Rattle.ufmt.specs.FixedPoint.{DenotesFixed, fixed, point_and}
 use Rattle.ufmt.specs.Zeros.{zero_filled}
 
 pub power_positive : (places : ℕ) → 0 < 10 ^ places

@@ -6,6 +6,7 @@ pub mod DumpColumns
 pub mod DumpRows
 pub mod Dumps
 pub mod FittingParts
+pub mod FixedTexts
 pub mod FixedPoint
 pub mod LeftToWrite
 pub mod Lines

@@ -9,7 +9,7 @@ use Rattle.ufmt_core.specs.Decimal.{decimal, sign_of}
 use Rattle.ufmt_core.proofs.DecimalTexts.{IsAscii-decimal}
 use Rattle.ufmt_core.proofs.NumeralTexts.{IsAscii-text}
 use Rattle.ufmt.specs.Column.{PadsToWidth}
-use Rattle.ufmt.specs.FixedPoint.{fixed_digits}
+use Rattle.ufmt_fixed.specs.Text.{fixed_digits}
 use Rattle.ufmt.specs.Hex.{padded_hexadecimal}
 use Rattle.ufmt.specs.Radix.{base_of, digits_in, padded_after, padded_in, pads_first, prefix_in, radix_prefix}
 use Rattle.ufmt.specs.Zeros.{zero_filled, zero_padded}
@@ -22,14 +22,14 @@ use Rattle.ufmt.proofs.DecimalsAreLeaves.{IsAscii-fixed_digits}
 use Rattle.ufmt.proofs.RadixTexts.{byte-ascii, digits-in_base}
 
 -- each byte of an ASCII text is a character
-char_count-ascii : (text : List ℕ) → IsAscii text → char_count text ≡ length text
+pub char_count-ascii : (text : List ℕ) → IsAscii text → char_count text ≡ length text
 unfolding char_count
 char_count-ascii [] ascii = refl
 char_count-ascii (b ∷ text) ascii =
     let one : is_char_start b ≡ true = begins b (inl (ascii 0)) in
     rw one (omega (arith, char_count-ascii text (λ i. ascii (suc i))))
 
-char_count-pad : (n pad : ℕ) → pad < 128 → char_count (replicate n pad) ≡ n
+pub char_count-pad : (n pad : ℕ) → pad < 128 → char_count (replicate n pad) ≡ n
 char_count-pad n pad low = char_count-ascii (replicate n pad) (IsAscii-replicate n pad low) ∙ length-replicate n pad
 
 module _ (prefix payload : List ℕ) (prefix_ascii : IsAscii prefix) (payload_ascii : IsAscii payload) where

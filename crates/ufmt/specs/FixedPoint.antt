@@ -1,16 +1,8 @@
 -- Texts of fixed-point numbers: a number of the least unit, and how many of its digits come after the point.
-use Rattle.std.specs.Prelude.{◌≡◌, ℕ, zero, suc, ℤ, pos, nat_abs, ◌/◌, ◌%◌, ◌^◌, ◌<◌, List, [], ◌∷◌, ◌++◌, map, length, slice_index, codes}
+use Rattle.std.specs.Prelude.{◌≡◌, ℕ, ℤ, nat_abs, ◌<◌, List, [], ◌∷◌, ◌++◌, map, length, slice_index, codes}
 use Rattle.std.specs.List.{All}
-use Rattle.ufmt_core.specs.Decimal.{decimal, decimal_byte, last_digits, sign_of, value_in_base}
-
--- the digits after the point, and the point: without places nothing
-abbrev pub point_and_last : ℕ → ℕ → List ℕ
-point_and_last zero n = []
-point_and_last (suc places) n = codes "." ++ last_digits (suc places) (n % 10 ^ suc places)
-
--- the digits of an unsigned fixed-point number: those of the whole number, and those after the point
-abbrev pub fixed_digits : ℕ → ℕ → List ℕ
-fixed_digits places n = decimal (pos (n / 10 ^ places)) ++ point_and_last places n
+use Rattle.ufmt_core.specs.Decimal.{decimal_byte, sign_of, value_in_base}
+use Rattle.ufmt_fixed.specs.Text.{fixed_digits}
 
 -- the text of a fixed-point number
 abbrev pub fixed : ℕ → ℤ → List ℕ

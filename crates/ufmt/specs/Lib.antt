@@ -26,6 +26,8 @@ pub use Rattle.ufmt_core.specs.Quoted
 pub use Rattle.ufmt_core.specs.Shift
 pub use Rattle.ufmt_core.specs.ValueDocuments
 pub use Rattle.ufmt_core.specs.Writes
+pub use Rattle.ufmt_fixed.specs.Nearest
+pub use Rattle.ufmt_fixed.specs.Text
 pub use Rattle.ufmt_grammar.specs.FloatLaws
 pub use Rattle.ufmt_grammar.specs.Leaves
 pub use Rattle.ufmt_grammar.specs.NormalFormLaws

@@ -4,7 +4,8 @@ ghost use Rattle.std.specs.Int.{is_negative};
 ghost use Rattle.ufmt_core.specs.Decimal.{sign_of};
 ghost use Rattle.ufmt_core.specs.Document.{leaf};
 ghost use Rattle.ufmt_core.specs.Formatter.{Prints};
-ghost use Rattle.ufmt.specs.FixedPoint.{fixed, fixed_digits};
+ghost use Rattle.ufmt.specs.FixedPoint.{fixed};
+ghost use Rattle.ufmt_fixed.specs.Text.{fixed_digits};
 ghost use Rattle.ufmt.specs.Zeros.{zero_filled};
 
 use crate::display::uDisplay;

@@ -26,7 +26,9 @@ use crate::display::uDisplay;
 use crate::hex::{HexOptions, uDisplayHex};
 use crate::pieces::Line;
 use crate::{pieces, uwrite, uwriteln};
-pub use floats::floats_display_their_texts;
+pub use floats::{
+    floats_display_their_texts, floats_print_decimals, line_of_decimals, uwrite_decimals,
+};
 pub use numbers::{
     decimals_denote_their_values, digits_are_one_text, integers_print_zeros, line_of_numbers,
     nonzero_prints_one_radix_text, nonzero_prints_zeros, padding_reaches_length,
@@ -51,6 +53,7 @@ pub use ufmt_core::laws::{
     documents_of_unsorted_collections, documents_of_wrappers, references_print_what_they_refer_to,
 };
 use ufmt_core::{Formatter, uDebug, uWrite};
+pub use ufmt_fixed::laws::nearest_is_closest;
 pub use ufmt_float::laws::{float_texts_are_parsed, floats_have_one_text};
 pub use ufmt_grammar::laws::{
     float_texts_are_leaves, normal_forms, numbers_are_words, plain_reads_one_way,

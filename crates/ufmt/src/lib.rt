@@ -9,6 +9,7 @@ mod device;
 mod display;
 mod dump;
 mod fields;
+mod fixed;
 mod ghost_text;
 mod hex;
 pub mod laws;
@@ -25,6 +26,7 @@ pub use decimal::Decimal;
 pub use device::Device;
 pub use display::uDisplay;
 pub use dump::{HexDump, hex_dump_into, write_hex_dump};
+pub use fixed::{Fixed, uDisplayFixed};
 pub use hex::{HexOptions, uDisplayHex};
 pub use pieces::Line;
 pub use print::{

@@ -7,7 +7,7 @@ mod column;
 mod marks;
 
 pub use column::InColumn;
-pub use marks::{Debug, Display, Hex, InRadix, Mark, Marked, Pretty, Zeros};
+pub use marks::{Debug, Decimals, Display, Hex, InRadix, Mark, Marked, Pretty, Zeros};
 use ufmt_core::{Formatter, uWrite};
 
 /// Pieces in a row, as a value: a text, a value with its mark, the items of a slice, nothing, or two
@@ -97,8 +97,8 @@ impl<T, M: Mark<T>> Each<'_, T, M> {
 /// Makes a line of pieces, as one value: `line_into(buffer, &pieces!(text "n = ", debug n))?`.
 ///
 /// A piece is `text e` for a `&str`, or `display e`, `debug e`, `pretty e`, `hex e with options`,
-/// `bin e with options`, `oct e with options` or `zeros e to width` for a value, each of which may be
-/// followed by `in column`. The items of a slice are `each debug e between s`,
+/// `bin e with options`, `oct e with options`, `zeros e to width` or `fixed e to decimals` for a value, each
+/// of which may be followed by `in column`. The items of a slice are `each debug e between s`,
 /// `each hex e with options between s` or `each e by mark between s`; `s` is a `&str`, and `mark` a `Mark`
 /// of your own. An expression before `with`, `to`, `in`, `by` or `between` is a name, a literal, or in
 /// parentheses.
@@ -166,6 +166,7 @@ macro_rules! wrong_piece {
     (mark hex) => { compile_error!("`hex e` needs `with options` after it") };
     (mark bin) => { compile_error!("`bin e` needs `with options` after it") };
     (mark oct) => { compile_error!("`oct e` needs `with options` after it") };
+    (mark fixed) => { compile_error!("`fixed e` needs `to decimals` after it") };
     (mark zeros) => { compile_error!("`zeros e` needs `to width` after it") };
     (mark $kind:ident) => { compile_error!(concat!("no kind of piece: `", stringify!($kind), "`")) };
     (mark $kind:ident with $options:tt) => {
@@ -254,6 +255,7 @@ macro_rules! piece_mark {
     (oct with $options:expr) => {
         $crate::pieces::InRadix { radix: $crate::Radix::Octal, options: $options }
     };
+    (fixed to $count:expr) => { $crate::pieces::Decimals { count: $count } };
     (zeros to $width:expr) => { $crate::pieces::Zeros { width: $width } };
     (by $mark:expr) => { $mark };
     ($kind:ident $(with $options:tt)? $(to $width:tt)?, in $column:expr) => {

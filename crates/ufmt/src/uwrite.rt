@@ -3,8 +3,8 @@
 /// Writes pieces to a formatter, one after another, and returns the first error.
 ///
 /// A piece is `text e` for a `&str`, or `display e`, `debug e`, `pretty e`, `hex e with options`,
-/// `bin e with options`, `oct e with options` or `zeros e to width` for a value, each of which may be
-/// followed by `in column`. A value before `with`, `to` or `in` is a name, a literal, or in parentheses.
+/// `bin e with options`, `oct e with options`, `zeros e to width` or `fixed e to decimals` for a value, each
+/// of which may be followed by `in column`. A value before `with`, `to` or `in` is a name, a literal, or in parentheses.
 /// The formatter is evaluated first, then each piece in order, each of them once. After an error nothing
 /// more is evaluated.
 #[macro_export]
@@ -52,6 +52,9 @@ macro_rules! write_piece {
     };
     ($f:ident, (oct with $options:expr) $value:expr) => {
         $crate::uDisplayRadix::fmt_radix(&$value, $f, $crate::Radix::Octal, $options)
+    };
+    ($f:ident, (fixed to $count:expr) $value:expr) => {
+        $crate::uDisplayFixed::fmt_fixed(&$value, $f, $count)
     };
     ($f:ident, (zeros to $width:expr) $value:expr) => {
         $crate::uDisplayZeros::fmt_zeros(&$value, $f, $width)

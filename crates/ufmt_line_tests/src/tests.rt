@@ -4,6 +4,7 @@ mod asserts;
 mod columns;
 mod cursors;
 mod cuts;
+mod decimals;
 mod dumps;
 mod fixed;
 mod hexadecimal;

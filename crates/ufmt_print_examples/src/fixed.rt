@@ -5,18 +5,18 @@ use ufmt::{Full, uWrite};
 
 /// Keeps at most `N` bytes, and takes no memory.
 #[derive(Drop)]
-pub struct Fixed<const N: usize> {
+pub struct FixedBuffer<const N: usize> {
     bytes: [u8; N],
     count: usize,
     ghost within: { count ≤ N },
 }
 
-impl<const N: usize> Fixed<N> {
+impl<const N: usize> FixedBuffer<N> {
     /// Makes a writer that has written nothing yet.
     pub fn new() -> Self
-        ensures { ⟦<Fixed<N> as uWrite>⟧.seen.text result ≡ [] }
+        ensures { ⟦<FixedBuffer<N> as uWrite>⟧.seen.text result ≡ [] }
     {
-        Fixed {
+        FixedBuffer {
             bytes: [0; N],
             count: 0,
         }
@@ -24,14 +24,14 @@ impl<const N: usize> Fixed<N> {
 
     /// Returns the bytes that were written.
     pub fn written(&self) -> &[u8]
-        ensures { result.now ≡ ⟦<Fixed<N> as uWrite>⟧.seen.text self.now }
+        ensures { result.now ≡ ⟦<FixedBuffer<N> as uWrite>⟧.seen.text self.now }
     {
         &self.bytes[..self.count]
     }
 }
 
 /// Fails with `Full` if a piece has more bytes than are left, and then takes nothing of it.
-impl<const N: usize> uWrite for Fixed<N> {
+impl<const N: usize> uWrite for FixedBuffer<N> {
     type Error = Full;
 
     ghost seen = { record {

@@ -23,7 +23,7 @@ pub use clock::{Time, write_status, write_time};
 pub use cut_log::log_cut;
 pub use enums::{Letter, Y};
 pub use events::LinkEvent;
-pub use fixed::Fixed;
+pub use fixed::FixedBuffer;
 pub use logger::{ByChannel, Measurement, dump_packet, list_measurements, log};
 pub use message::{Message, print};
 pub use packet::show_packet;

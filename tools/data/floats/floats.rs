@@ -6,11 +6,15 @@ use std::io::{self, BufWriter, Cursor, Read, Write};
 fn count(input: &str, turns: u64) -> u64 {
     let mut length = 0;
     for line in input.lines() {
-        let x = f64::from_bits(u64::from_str_radix(line, 16).unwrap());
+        let (bits, decimals) = line.split_once(' ').map_or((line, None), |(bits, decimals)| (bits, decimals.parse::<usize>().ok()));
+        let x = f64::from_bits(u64::from_str_radix(bits, 16).unwrap());
         for _turn in 0..turns {
             let mut buffer = [0; 400];
             let mut cursor = Cursor::new(&mut buffer[..]);
-            write!(cursor, "{:?}", black_box(x)).unwrap();
+            match black_box(decimals) {
+                None => write!(cursor, "{:?}", black_box(x)).unwrap(),
+                Some(decimals) => write!(cursor, "{:.*}", decimals, black_box(x)).unwrap(),
+            }
             length += cursor.position();
         }
     }
@@ -43,6 +47,16 @@ fn digest(from: u64, to: u64) -> u64 {
     digest.0
 }
 
+fn write_fixed<W: Write>(output: &mut W, bits: &str, decimals: usize) {
+    if bits.len() == 16 {
+        let x = f64::from_bits(u64::from_str_radix(bits, 16).unwrap());
+        writeln!(output, "{x:.decimals$}").unwrap();
+    } else {
+        let x = f32::from_bits(u32::from_str_radix(bits, 16).unwrap());
+        writeln!(output, "{x:.decimals$}").unwrap();
+    }
+}
+
 fn main() {
     let arguments: Vec<String> = std::env::args().skip(1).collect();
     if let [from, to] = &arguments[..] {
@@ -58,7 +72,9 @@ fn main() {
         return;
     }
     for line in input.lines() {
-        if line.len() == 16 {
+        if let Some((bits, decimals)) = line.split_once(' ') {
+            write_fixed(&mut output, bits, decimals.parse().unwrap());
+        } else if line.len() == 16 {
             let x = f64::from_bits(u64::from_str_radix(line, 16).unwrap());
             writeln!(output, "{x:?} {x}").unwrap();
         } else {

@@ -1,14 +1,17 @@
-"""Instructions of one `{:?}` of an `f64`, beside core::fmt."""
+"""Instructions of one `{:?}` of an `f64`, and of one with a number of decimals, beside core::fmt."""
 from lib.bench import counter
 from lib.floats import patterns, programs
 
 VALUES = "21.5 0.1 1.0 3.141592653589793 1e-7 1e23 1e-20 1.5e100 1e300 5e-324".split()
+# A float, and how many decimals it is printed with.
+FIXED = "21.5:2 0.125:2 0.1:3 3.141592653589793:15 -123456.789:0 0.1:20 1e23:2 1e300:2 1e-20:40 0.1:60 5e-324:300".split()
 FEW, MANY = 1000, 3000
 
 
 def instructions(program, value):
-    """How many instructions a call takes, with the loop around it."""
-    bits = b"%016x" % patterns.bits_of(value, 64)
+    """How many instructions a call takes, with the loop around it. A number of decimals may follow the value, after a colon."""
+    number, _, decimals = value.partition(":")
+    bits = b"%016x" % patterns.bits_of(number, 64) + (b" " + decimals.encode() if decimals else b"")
     few, many = (counter.counted([program, "%x" % turns], bits)[0] for turns in (FEW, MANY))
     return (many - few) // (MANY - FEW)
 
@@ -17,5 +20,5 @@ def measured(room):
     """Prints a line for each value."""
     made = programs.ours(room), programs.theirs(room)
     print("%-20s%10s%12s" % ("instructions", "ours", "core::fmt"))
-    for value in VALUES:
+    for value in VALUES + FIXED:
         print("%-20s%10d%12d" % (value, *(instructions(program, value) for program in made)), flush=True)

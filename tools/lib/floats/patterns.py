@@ -61,9 +61,29 @@ def patterns(width, count, seed):
     return some + [bits ^ sign for bits in some] + [dice.getrandbits(width) for _ in range(count)]
 
 
+# How many decimals are tried. After 1,074 all are zeros.
+DECIMALS = (0, 1, 2, 3, 17, 20, 60, 400, 1100)
+
+
+def plain_lines(width, count, seed):
+    """Of each pattern the bits."""
+    return ("%0*x\n" % (width // 4, bits) for bits in patterns(width, count, seed))
+
+
+def fixed_lines(width, count, seed):
+    """Of each pattern, and of halves between two numbers with so many decimals, the bits and a number of decimals. More than 60 are
+    tried for one pattern of ten."""
+    dice = random.Random(seed * 100 + width + 1)
+    ties = [bits_of("%de-%d" % (number * 10**places // 2**places, places), width) for places in range(1, 9) for number in range(1, 2**places, 2)]
+    for bits in [*patterns(width, count, seed), *ties]:
+        some = DECIMALS if dice.random() < 0.1 else DECIMALS[:7]
+        for decimals in dice.sample(some, 2):
+            yield "%0*x %d\n" % (width // 4, bits, decimals)
+
+
 def lines(count, seed):
     """The input of both programs."""
-    return "".join("%0*x\n" % (width // 4, bits) for width in FORMATS for bits in patterns(width, count, seed))
+    return "".join(line for width in FORMATS for some in (plain_lines, fixed_lines) for line in some(width, count, seed))
 
 
 # What a test has rows of: plain numbers, ends of Debug's plain texts, ties, powers of two, subnormals, and the largest.
@@ -78,3 +98,18 @@ ROWS_32 = "0 -0.0 0.1 16777216 8388608 1e16 9.999999e15 0.0001 0.00009999999 1.4
 def rows(width):
     """The bits of the rows."""
     return [bits_of(text, width) for text in (ROWS_64 if width == 64 else ROWS_32)]
+
+
+# What a test has rows of with decimals: ties, a sign that stays, digits that carry, more decimals than a float has, and the ends.
+FIXED_64 = """
+    0:0 -0.0:2 -0.001:2 0.125:2 0.375:2 0.5:0 1.5:0 2.5:0 -2.5:0 21.5:2 0.1:20 0.1:3 9.995:2 1.005:2 999999.995:2 0.96:1 1:3 1e15:19 1e19:0 1e19:1
+    1e23:2 3.141592653589793:4 9007199254740993:1 18446744073709551615:0 1.7976931348623157e308:1 5e-324:3 1e-40:2 0.3:55 -1.5:30 1e-20:40 1e-300:320
+    5e-324:1074 2.2250738585072014e-308:1100 inf:2 -inf:0 nan:3
+""".split()
+FIXED_32 = "0:2 -0.0:0 0.1:2 0.1:30 16777217:2 0.5:0 1.5:0 3.4028235e38:2 1.4e-45:149 1.4e-45:152 -0.125:2 inf:1 nan:0".split()
+
+
+def fixed_rows(width):
+    """The bits of the rows with decimals, and how many those are."""
+    split = (word.split(":") for word in (FIXED_64 if width == 64 else FIXED_32))
+    return [(bits_of(text, width), int(decimals)) for text, decimals in split]

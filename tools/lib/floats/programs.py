@@ -1,4 +1,4 @@
-"""The two programs that print floats: over ufmt_float, and by rustc."""
+"""The two programs that print floats: over ufmt_float and ufmt_fixed, and by rustc."""
 import pathlib
 import shutil
 import subprocess
@@ -10,12 +10,13 @@ DATA = TOP / "tools" / "data" / "floats"
 
 
 def ours(room):
-    """Built over a copy of ufmt_float, with nothing proved."""
-    shutil.copytree(TOP / "crates" / "ufmt_float" / "src", room / "crates" / "ufmt_float" / "src")
+    """Built over copies of ufmt_float, ufmt_fixed and what is below them, with nothing proved."""
+    below = build.libraries(TOP, ["ufmt_fixed"])
+    build.copied(TOP, room, below)
     source = room / "crates" / "floats" / "src" / "main.rt"
     source.parent.mkdir(parents=True)
     shutil.copy(DATA / "floats.rt.txt", source)
-    return build.program(room, "floats", {"ufmt_float": []})
+    return build.program(room, "floats", below)
 
 
 def theirs(room):

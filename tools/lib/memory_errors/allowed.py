@@ -169,6 +169,7 @@ IN_BODIES = [
     (TURNS, "ufmt_core/src/quoted.rt", "write_escaped", "loop"),
     (TURNS, "ufmt/src/column.rt", "Column::write_each_fill", "for _fill in 0..count"),
     (TURNS, "ufmt/src/column.rt", "write_spaces", "for _piece in 0..count/64"),
+    (TURNS, "ufmt/src/fixed.rt", "write_zeros", "for _piece in 0..count/64"),
     (TURNS, "ufmt/src/dump.rt", "write_spaces", "while left>0"),
     (TURNS, "ufmt/src/hex.rt", "HexOptions::write_padding", "for _pad in 0..count"),
     (TURNS, "ufmt_doc/src/doc.rt", "decoded_bytes", "while let Some((byte, after))=split_escaped(quote, rest)"),

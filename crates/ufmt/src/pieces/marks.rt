@@ -7,6 +7,7 @@ ghost use Rattle.ufmt.specs.Pieces.{Piece, hex, pieces_text, pretty, shown, text
 use super::Line;
 use crate::column::{CharacterCounter, missing_after};
 use crate::display::uDisplay;
+use crate::fixed::uDisplayFixed;
 use crate::hex::{HexOptions, uDisplayHex};
 use crate::print::fmt_pretty;
 use crate::radix::{Radix, uDisplayRadix};
@@ -153,6 +154,25 @@ impl<T: uDisplayZeros> Mark<T> for Zeros {
         }
         let printed = value.fmt_zeros(&mut counting, self.width);
         missing_after(printed, counting)
+    }
+}
+
+/// With this number of decimals.
+#[derive(Clone, Copy, Drop)]
+pub struct Decimals {
+    pub count: usize,
+}
+
+impl<T: uDisplayFixed> Mark<T> for Decimals {
+    ghost pieces = { λ m x. text (T.fixed_text x m.count) ∷ [] };
+
+    #[inline(always)]
+    fn print_value<W: uWrite>(&self, value: &T, f: &mut Formatter<W>) -> Result<(), W::Error> {
+        value.fmt_fixed(f, self.count)
+    }
+
+    fn missing_characters<W: uWrite>(&self, value: &T, _f: &Formatter<W>, width: usize) -> usize {
+        value.missing_fixed(self.count, width)
     }
 }
 

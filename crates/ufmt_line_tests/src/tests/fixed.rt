@@ -1,11 +1,15 @@
 //! Tests of a user's own writer, which keeps its bytes in a fixed array.
 use super::asserts::has_wanted_rows;
 use ufmt::{Full, uWrite, write_debug};
-use ufmt_print_examples::Fixed;
+use ufmt_print_examples::FixedBuffer;
 use ufmt_test_rows::rows::Table;
 
 // Adds a row of what a call returned, and of what is written then.
-fn put_fixed<const N: usize>(table: &mut Table, outcome: Result<(), Full>, writer: &Fixed<N>) {
+fn put_fixed<const N: usize>(
+    table: &mut Table,
+    outcome: Result<(), Full>,
+    writer: &FixedBuffer<N>,
+) {
     let outcome = outcome.map(|()| writer.written().len());
     table.put_outcome(outcome, writer.written());
 }
@@ -14,7 +18,7 @@ fn put_fixed<const N: usize>(table: &mut Table, outcome: Result<(), Full>, write
 fn a_fixed_writer_takes_pieces_whole(rt: HostRuntime) {
     let mut table = Table::new(rt.alloc());
     // A piece that fits exactly is taken, and nothing of one that doesn't fit.
-    let mut writer = Fixed::<5>::new();
+    let mut writer = FixedBuffer::<5>::new();
     for (piece, wanted) in [
         ("", "Ok(0) "),
         ("ab", "Ok(2) ab"),
@@ -27,11 +31,11 @@ fn a_fixed_writer_takes_pieces_whole(rt: HostRuntime) {
         put_fixed(&mut table, outcome, &writer);
         table.wants(wanted);
     }
-    let mut writer = Fixed::<7>::new();
+    let mut writer = FixedBuffer::<7>::new();
     let outcome = write_debug(&mut writer, &[1u8, 23]);
     put_fixed(&mut table, outcome, &writer);
     table.wants("Ok(7) [1, 23]");
-    let mut writer = Fixed::<6>::new();
+    let mut writer = FixedBuffer::<6>::new();
     let outcome = write_debug(&mut writer, &[1u8, 23]);
     put_fixed(&mut table, outcome, &writer);
     table.wants("Err(Full) [1, 23");

@@ -1,11 +1,11 @@
 use Rattle.std.proofs.Common.{◌≡◌, ◌-◌, take, replicate, ap, ◌∙◌, arith}
 use Rattle.std.proofs.lemmas.List.{take-replicate}
 use Rattle.ufmt_core.specs.Bytes.{space}
-use Rattle.ufmt.proofs.Columns.{IsCharBoundary-spaces}
+use Rattle.ufmt.proofs.Columns.{IsCharBoundary-bytes}
 use Rattle.ufmt.proofs.column.spaces.Goals as goal
 
 pub range-requires-clause-end_boundary : goal.range-requires-clause-end_boundary
-range-requires-clause-end_boundary c = IsCharBoundary-spaces c.args.count c.requires
+range-requires-clause-end_boundary c = IsCharBoundary-bytes space c.args.count (omega arith) c.requires
 
 pub returns : goal.returns
 returns c =

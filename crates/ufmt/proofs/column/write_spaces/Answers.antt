@@ -1,16 +1,17 @@
 use Rattle.std.proofs.Common.{arith}
+use Rattle.ufmt_core.specs.Bytes.{space}
 use Rattle.ufmt_core.proofs.Writing.{Prints-then, Prints-fails, Prints-err}
-use Rattle.ufmt.proofs.Columns.{spaces-front, spaces-more, spaces-rest}
+use Rattle.ufmt.proofs.Columns.{bytes-front, bytes-more, bytes-rest}
 use Rattle.ufmt.proofs.column.write_spaces.Goals as goal
 
 pub returns-in_err-write_str : goal.returns-in_err-write_str
 returns-in_err-write_str g c =
-    rw (spaces-front c.loop-piece._piece c.args.count c.loop-piece-test.true)
+    rw (bytes-front space c.loop-piece._piece c.args.count c.loop-piece-test.true)
     (Prints-err _ c.from_residual.ensures.0 (Prints-fails _ (Prints-then c.loop-piece.invariant c.in_err-write_str.ensures.prints)))
 
 pub loop-piece-preserved : goal.loop-piece-preserved
-loop-piece-preserved g c = rw (spaces-more c.loop-piece._piece) (Prints-then c.loop-piece.invariant c.in_ok-write_str.ensures.prints)
+loop-piece-preserved g c = rw (bytes-more space c.loop-piece._piece) (Prints-then c.loop-piece.invariant c.in_ok-write_str.ensures.prints)
 
 pub returns-in_default : goal.returns-in_default
-returns-in_default g c = rw (spaces-rest c.loop-piece._piece c.args.count (omega arith))
+returns-in_default g c = rw (bytes-rest space c.loop-piece._piece c.args.count (omega arith))
     (Prints-then c.loop-piece.invariant (rw c.spaces.ensures at c.write_str-in_default.ensures.prints))

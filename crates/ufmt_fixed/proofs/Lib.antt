@@ -1,0 +1,6 @@
+pub mod Naturals
+pub mod Puts
+pub mod Roundings
+pub mod Texts
+pub mod Values
+pub mod WorkedTexts

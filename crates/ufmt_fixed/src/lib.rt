@@ -1,0 +1,16 @@
+#![tactic(auto)]
+
+//! Floats with a number of decimals, exactly: which digits they have, and their texts as Rust's `{:.2}` prints them. Nothing here
+//! takes memory.
+
+pub mod laws;
+mod natural;
+mod parts;
+mod put;
+mod rounding;
+mod text;
+
+pub use text::{LongText, ShortText};
+
+#[cfg(test)]
+mod tests;

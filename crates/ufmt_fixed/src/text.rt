@@ -1,0 +1,163 @@
+//! Texts of floats with a number of decimals.
+ghost use Rattle.std.specs.Prelude.{◌≡◌, ◌++◌, ◌*◌, ◌/◌, ◌^◌, ◌<◌, ◌≤◌, ◌⊎◌, List, ℕ, IsAscii, IfSome, length, drop, replicate};
+ghost use Rattle.core.specs.Fmt.{sign_text};
+ghost use Rattle.ufmt_float.specs.Put.{IsPut};
+ghost use Rattle.ufmt_fixed.specs.Nearest.{nearest};
+ghost use Rattle.ufmt_fixed.specs.Text.{fixed_digits, fixed_text};
+
+use crate::parts::{Parts, parts_of};
+use crate::put::{put_byte, put_decimals, put_fixed, put_natural, put_point, put_sign};
+use crate::rounding::{long_digits, short_digits};
+use std::marker::Model;
+use ufmt_float::Float;
+
+/// A text of a float below 2 ^ 53, or a little more, with few decimals.
+#[derive(Drop)]
+pub struct ShortText {
+    bytes: [u8; 48],
+    start: usize,
+}
+
+impl Model for ShortText {
+    ghost Value = { List ℕ };
+
+    ghost view = { λ t. drop t.start t.bytes };
+
+    ghost invariant = { λ t. (t.start ≤ 48) × IsAscii (drop t.start t.bytes) };
+}
+
+impl ShortText {
+    /// Returns the text of `x` with so many decimals, unless `LongText` must make it.
+    #[inline(always)]
+    pub fn of<F: Float>(x: F, decimals: usize) -> Option<ShortText>
+        ensures { IfSome result (λ t. t ≡ fixed_text decimals (F.value x)) }
+    {
+        let Parts::Finite {
+            negative,
+            significand,
+            twos,
+            halves,
+        } = parts_of(x)
+        else {
+            return None;
+        };
+        let digits = short_digits(significand, twos, halves, decimals)?;
+        let mut bytes = [0; 48];
+        let start = put_fixed(&mut bytes, 48, digits, decimals);
+        let start = put_sign(&mut bytes, start, negative);
+        Some(ShortText { bytes, start })
+    }
+
+    /// Returns the bytes of the text.
+    #[inline(always)]
+    pub fn as_bytes(&self) -> &[u8]
+        ensures text { result.now ≡ self.now }
+        ensures ascii { IsAscii result.now }
+    {
+        &self.bytes[self.start..]
+    }
+}
+
+// A sign, 309 digits, a point and 1,074 digits.
+const SIZE: usize = 1385;
+
+/// A text of any float with any number of decimals. Zeros at its end are counted only.
+#[derive(Drop)]
+pub struct LongText {
+    bytes: [u8; SIZE],
+    start: usize,
+    zeros: usize,
+}
+
+impl Model for LongText {
+    ghost Value = { List ℕ };
+
+    ghost view = { λ t. drop t.start t.bytes ++ replicate t.zeros 48 };
+
+    ghost invariant = { λ t. (t.start ≤ 1385) × IsAscii (drop t.start t.bytes) };
+}
+
+impl LongText {
+    /// Returns the text of `x` with so many decimals.
+    pub fn of<F: Float>(x: F, decimals: usize) -> LongText
+        ensures { result ≡ fixed_text decimals (F.value x) }
+    {
+        let mut bytes = [0; SIZE];
+        let (start, zeros) = put_float(&mut bytes, x, decimals);
+        LongText {
+            bytes,
+            start,
+            zeros,
+        }
+    }
+
+    /// Returns the bytes of the text, and how many zeros come after them.
+    #[inline(always)]
+    pub fn parts(&self) -> (&[u8], usize)
+        ensures text { result.0.now ++ replicate result.1 48 ≡ self.now }
+        ensures ascii { IsAscii result.0.now }
+    {
+        (&self.bytes[self.start..], self.zeros)
+    }
+}
+
+/// Writes a float at the end of the buffer, without some of the zeros at its end. Returns where it starts, and how many zeros are left out.
+fn put_float<F: Float>(buffer: &mut [u8], x: F, decimals: usize) -> (usize, usize)
+    requires { length buffer.old ≡ 1385 }
+    ensures text { drop result.0 buffer.new ++ replicate result.1 48 ≡ fixed_text decimals (F.value x) }
+    ensures ascii { IsAscii (drop result.0 buffer.new) }
+    ensures within { result.0 ≤ 1385 }
+    ensures same { length buffer.new ≡ length buffer.old }
+{
+    match parts_of(x) {
+        Parts::NotANumber => (put_word(buffer, *b"NaN"), 0),
+        Parts::Infinite { negative } => {
+            let end = put_word(buffer, *b"inf");
+            (put_sign(buffer, end, negative), 0)
+        }
+        Parts::Finite {
+            negative,
+            significand,
+            twos,
+            halves,
+        } => {
+            let (end, zeros) = put_finite(buffer, significand, twos, halves, decimals);
+            (put_sign(buffer, end, negative), zeros)
+        }
+    }
+}
+
+/// Writes three bytes at the end of the buffer.
+fn put_word(buffer: &mut [u8], word: [u8; 3]) -> usize
+    requires { length buffer.old ≡ 1385 }
+    ensures { IsPut word 1385 buffer.old result buffer.new }
+{
+    let [first, second, third] = word;
+    let end = put_byte(buffer, SIZE, third);
+    let end = put_byte(buffer, end, second);
+    put_byte(buffer, end, first)
+}
+
+/// Writes `significand * 2 ^ twos / 2 ^ halves` at the end of the buffer, without some of the zeros at its end. Returns where it starts, and how many zeros are left
+/// out.
+fn put_finite(
+    buffer: &mut [u8],
+    significand: u64,
+    twos: u64,
+    halves: u64,
+    decimals: usize,
+) -> (usize, usize)
+    requires size { (significand < 2 ^ 53) × (twos ≤ 972) × (halves ≤ 1074) × ((twos ≡ 0) ⊎ (halves ≡ 0)) }
+    requires room { length buffer.old ≡ 1385 }
+    ensures text { drop result.0 buffer.new ++ replicate result.1 48 ≡
+        fixed_digits decimals (nearest (significand * 2 ^ twos * 10 ^ decimals) (2 ^ halves)) }
+    ensures ascii { IsAscii (drop result.0 buffer.new) }
+    ensures within { (0 < result.0) × (result.0 ≤ 1385) }
+    ensures same { length buffer.new ≡ length buffer.old }
+{
+    let places = decimals.min(halves as usize);
+    let mut digits = long_digits(significand, twos, halves, places as u64);
+    let end = put_decimals(buffer, SIZE, &mut digits, places);
+    let end = put_point(buffer, end, decimals > 0);
+    (put_natural(buffer, end, &mut digits), decimals - places)
+}
