@@ -11,6 +11,7 @@ use ufmt_core::layout::{Count, Kind};
 use ufmt_core::uDebug;
 use ufmt_parser::entries::{EntryParser, Pair, Value};
 use ufmt_parser::mode::ParseMode;
+use ufmt_parser::need::Need;
 use ufmt_parser::parser::{Fault, Parser};
 use ufmt_parser::parses_by::ParsesBy;
 
@@ -99,6 +100,7 @@ pub fn parse_entries<A: Allocator + Copy, M: ParseMode, E: Drop, P: EntryParser<
         return Ok(Vec::new(alloc));
     }
     if !parser.opens_block() {
+        parser.needs(Need::Count);
         return Err(Fault::NotText);
     }
     let entries = tri!(parse_some(alloc, parser, kind, by));

@@ -12,6 +12,7 @@ use ufmt_core::layout::{Count, Kind};
 use ufmt_core::uDebug;
 use ufmt_parser::entries::{EntryParser, Named, Value};
 use ufmt_parser::mode::ParseMode;
+use ufmt_parser::need::Need;
 use ufmt_parser::parser::{Fault, Parser};
 use ufmt_parser::parses_by::ParsesBy;
 
@@ -188,12 +189,14 @@ fn parse_block<A: Copy, M: ParseMode, V: Drop, R: FieldParsers<A, M, V>>(
     ensures shrinks { length (rest parser.new) ≤ length (rest parser.old) }
 {
     if !parser.eats(name) {
+        parser.needs(Need::Name);
         return Err(Fault::NotText);
     }
     if !parser.eats(kind.opening()) {
         return Err(Fault::NotText);
     }
     if !parser.opens_block() {
+        parser.needs(Need::Count);
         return Err(Fault::NotText);
     }
     let values = tri!(fields.parse_rest(alloc, parser, kind, Count::Zero, names));

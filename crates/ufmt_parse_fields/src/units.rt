@@ -6,6 +6,7 @@ ghost use Rattle.ufmt_parser.specs.Next.{IsNotNext, NextLeaves};
 ghost use Rattle.ufmt_parser.specs.Taking.{IsTaken, open_blocks, rest};
 
 use ufmt_parser::mode::ParseMode;
+use ufmt_parser::need::Need;
 use ufmt_parser::parser::{Fault, Parser};
 
 /// Takes a name, as `parse_from` does a value that prints as its name alone. The name may be the beginning
@@ -27,6 +28,7 @@ pub fn parse_unit<M: ParseMode>(parser: &mut Parser<'_, M>, name: &str) -> Resul
     if parser.eats(name) {
         Ok(())
     } else {
+        parser.needs(Need::Name);
         Err(Fault::NotText)
     }
 }

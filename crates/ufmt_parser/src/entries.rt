@@ -5,6 +5,7 @@ ghost use Rattle.ufmt_core.specs.declared.layout.Setting.{Setting};
 ghost use Rattle.ufmt_parser.specs.Taking.{Fits, Takes, open_blocks, rest, setting_in};
 
 use crate::mode::ParseMode;
+use crate::need::Need;
 use crate::parser::{Fault, Parser};
 use crate::parses_by::ParsesBy;
 use ufmt_core::layout::COLON;
@@ -74,6 +75,7 @@ impl<'a, A: Copy, M: ParseMode, T: uDebug, P: ParsesBy<A, M, T>> EntryParser<A, 
     #[inline(always)]
     fn parse_entry(&self, alloc: A, parser: &mut Parser<'_, M>) -> Result<T, Fault> {
         if !parser.eats(self.0) {
+            parser.needs(Need::Name);
             return Err(Fault::NotText);
         }
         if !parser.eats(COLON) {

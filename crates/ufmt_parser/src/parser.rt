@@ -6,7 +6,7 @@ ghost use Rattle.ufmt_core.specs.declared.layout.Count.TheVariants.{Zero};
 ghost use Rattle.ufmt_core.specs.Document.{Document};
 ghost use Rattle.ufmt_grammar.specs.Leaves.{begins_with, is_spaced};
 ghost use Rattle.ufmt_parser.specs.Naming.{document_name, ends_name, is_debug_name, is_past_name};
-ghost use Rattle.ufmt_parser.specs.Needs.{need, need_of};
+ghost use Rattle.ufmt_parser.specs.Needs.{need};
 ghost use Rattle.ufmt_parser.specs.Next.{IsNotNext, NextLeaves};
 ghost use Rattle.ufmt_parser.specs.Taking.{Eats, open_blocks, rest, setting_in};
 
@@ -24,8 +24,8 @@ pub enum Fault {
     OutOfMemory,
 }
 
-/// What is left of a text in the mode `M`, how many blocks are open there, and what was missing when a call
-/// last failed.
+/// What is left of a text in the mode `M`, how many blocks are open there, and what is missing where a
+/// call failed.
 #[derive(Drop)]
 pub struct Parser<'t, M> {
     rest: &'t [u8],
@@ -43,7 +43,7 @@ impl<'t, M: ParseMode> Parser<'t, M> {
         Parser {
             rest: text,
             open_blocks: 0,
-            need: Need::Name,
+            need: Need::Punctuation,
             mode: PhantomData,
         }
     }
@@ -63,7 +63,6 @@ impl<'t, M: ParseMode> Parser<'t, M> {
         ensures shrinks { length (rest self.new) ≤ length (rest self.old) }
         ensures blocks { open_blocks self.new ≡ open_blocks self.old }
         ensures counted { open_blocks self.old ≤ 255 }
-        ensures needs { result ≡ false → need self.new ≡ need_of piece.now }
     {
         let _blocks = self.open_blocks;
         match strip_piece(piece, self.rest) {
@@ -71,10 +70,7 @@ impl<'t, M: ParseMode> Parser<'t, M> {
                 self.rest = rest;
                 true
             }
-            None => {
-                self.need = Need::of(piece);
-                false
-            }
+            None => false,
         }
     }
 
@@ -102,17 +98,13 @@ impl<'t, M: ParseMode> Parser<'t, M> {
         ensures shrinks { length (rest self.new) ≤ length (rest self.old) }
         ensures blocks { open_blocks self.new ≡ open_blocks self.old }
         ensures counted { open_blocks self.old ≤ 255 }
-        ensures needs { result ≡ false → need self.new ≡ Need.Punctuation }
     {
         match strip_lead(M::mode(), self.open_blocks, kind, count, self.rest) {
             Some(rest) => {
                 self.rest = rest;
                 true
             }
-            None => {
-                self.need = Need::Punctuation;
-                false
-            }
+            None => false,
         }
     }
 
@@ -125,17 +117,13 @@ impl<'t, M: ParseMode> Parser<'t, M> {
         ensures stays { result ≡ false → rest self.new ≡ rest self.old }
         ensures shrinks { length (rest self.new) ≤ length (rest self.old) }
         ensures blocks { open_blocks self.new ≡ open_blocks self.old }
-        ensures needs { result ≡ false → need self.new ≡ Need.Punctuation }
     {
         match strip_ending(M::mode(), self.open_blocks - 1, kind, count, self.rest) {
             Some(rest) => {
                 self.rest = rest;
                 true
             }
-            None => {
-                self.need = Need::Punctuation;
-                false
-            }
+            None => false,
         }
     }
 
@@ -146,17 +134,13 @@ impl<'t, M: ParseMode> Parser<'t, M> {
             ((open_blocks self.old < 255) × (open_blocks self.new ≡ suc (open_blocks self.old)))
             ((255 ≤ open_blocks self.old) × (open_blocks self.new ≡ open_blocks self.old)) }
         ensures rest { rest self.new ≡ rest self.old }
-        ensures needs { result ≡ false → need self.new ≡ Need.Count }
     {
         match self.open_blocks.checked_add(1) {
             Some(blocks) => {
                 self.open_blocks = blocks;
                 true
             }
-            None => {
-                self.need = Need::Count;
-                false
-            }
+            None => false,
         }
     }
 
@@ -181,7 +165,8 @@ impl<'t, M: ParseMode> Parser<'t, M> {
         self.rest
     }
 
-    /// Says what is missing, before the caller fails with `NotText`. The calls that take pieces say so themselves.
+    /// Says what is missing, before the caller fails with `NotText`. Without this call it is punctuation, so a parser
+    /// that goes on after another one failed says it always.
     #[inline(always)]
     pub fn needs(&mut self, missing: Need)
         ensures needs { need self.new ≡ missing }
@@ -191,7 +176,7 @@ impl<'t, M: ParseMode> Parser<'t, M> {
         self.need = missing;
     }
 
-    /// What was missing when a call last failed.
+    /// What is missing where a call failed.
     pub fn need(&self) -> Need
         ensures { result ≡ need self.now }
     {
@@ -216,17 +201,13 @@ impl<'t, M: ParseMode> Parser<'t, M> {
         ensures shrinks { length (rest self.new) ≤ length (rest self.old) }
         ensures blocks { open_blocks self.new ≡ open_blocks self.old }
         ensures counted { open_blocks self.old ≤ 255 }
-        ensures needs { result ≡ false → need self.new ≡ Need.Punctuation }
     {
         match strip_ending(M::mode(), self.open_blocks, kind, Count::Zero, self.rest) {
             Some(rest) => {
                 self.rest = rest;
                 true
             }
-            None => {
-                self.need = Need::Punctuation;
-                false
-            }
+            None => false,
         }
     }
 }

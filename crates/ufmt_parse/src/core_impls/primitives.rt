@@ -5,6 +5,7 @@ ghost use Rattle.ufmt_parse.specs.declared.expected.Expected.TheVariants.{Name, 
 
 use crate::uparse::uParse;
 use ufmt_parser::mode::ParseMode;
+use ufmt_parser::need::Need;
 use ufmt_parser::parser::{Fault, Parser};
 
 #[tactic(auto, unfolding(ufmt_parser::specs::Next::IsNotNext, ufmt_parser::specs::Next::NextLeaves))]
@@ -25,6 +26,7 @@ impl<A: Copy> uParse<A> for bool {
         if parser.eats("false") {
             return Ok(false);
         }
+        parser.needs(Need::Name);
         Err(Fault::NotText)
     }
 }
@@ -44,6 +46,7 @@ impl<A: Copy> uParse<A> for () {
         if parser.eats("()") {
             Ok(())
         } else {
+            parser.needs(Need::Punctuation);
             Err(Fault::NotText)
         }
     }
