@@ -17,8 +17,9 @@ from lib.log_model.logs import CHUNK
 SIZE = 32 * 1024
 # How much longer a log is whose reads and writes are counted, and that must pass in the memory of one half as long.
 LONGER = 16
-# How many bytes of memory the longer log may take more, and how many for each byte of its longest line or group and of its longest write.
-SLACK = 64 * 1024
+# How many bytes of memory the longer log may take more, since the buffer for a read of 64 KiB may double once more, and how many for each
+# byte of its longest line or group and of its longest write. The longer log has more bytes than that.
+SLACK = 160 * 1024
 MEMORY = 4
 # By how much a shape may cost more steps than were measured: compilers differ.
 SPARE = 1.4
