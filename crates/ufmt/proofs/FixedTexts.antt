@@ -1,8 +1,7 @@
 -- Texts of floats with a number of decimals: how many characters they have, and that they are leaves of debug documents.
 use Rattle.std.proofs.Common.{◌≡◌, ℕ, ◌-◌, ◌*◌, ◌^◌, List, [], ◌∷◌, ◌++◌, length, replicate, Bool, true, false, pos, negsuc, refl, sym, ap, ◌∙◌, subst, arith}
-use Rattle.std.specs.Fmt.{char_count}
+use Rattle.std.specs.Fmt.{char_count, sign_text}
 use Rattle.std.specs.Str.{IsAscii}
-use Rattle.core.specs.Fmt.{sign_text}
 use lib.Ieee.{Float, nan, inf, fin, up, down}
 use Rattle.ufmt_fixed.specs.Nearest.{nearest}
 use Rattle.ufmt_fixed.specs.Text.{fixed_digits, fixed_text}
