@@ -3,8 +3,8 @@ import re
 
 LIBRARIES = ("ufmt_core", "ufmt", "ufmt_snapshot")
 # A type parameter with one of these bounds is a value, a mark, a line or a chain of values that is printed.
-BOUND = re.compile(r": (?:[\w:<>]+ \+ )*(?:uDebug|uDisplay|uDisplayHex|uDisplayRadix|uDisplayZeros|Mark<|Line\b|NamedFields<|UnnamedFields<)")
-TRAIT = re.compile(r"(?:uDebug|uDisplay|uDisplayHex|uDisplayRadix|uDisplayZeros|Mark<T>|Line|NamedFields<'a>|UnnamedFields<'a>) for [^{]+?(?= \{)")
+BOUND = re.compile(r": (?:[\w:<>]+ \+ )*(?:uDebug|uDisplay|uDisplayFixed|uDisplayHex|uDisplayRadix|uDisplayZeros|Mark<|Line\b|NamedFields<|UnnamedFields<)")
+TRAIT = re.compile(r"(?:uDebug|uDisplay|uDisplayFixed|uDisplayHex|uDisplayRadix|uDisplayZeros|Mark<T>|Line|NamedFields<'a>|UnnamedFields<'a>) for [^{]+?(?= \{)")
 HEAD = re.compile(r"(?:\bimpl|\bpub fn (\w+))(?=<)")
 
 
