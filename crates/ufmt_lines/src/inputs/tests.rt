@@ -108,7 +108,7 @@ const RUNS: [(&[&str], &[u8], bool, &str); 9] = [
     ),
 ];
 
-fn shelf(alloc: Global, most: usize) -> Shelf<'static> {
+fn shelf_of(alloc: Global, most: usize) -> Shelf<'static> {
     Shelf {
         rows: ROWS,
         most,
@@ -140,7 +140,7 @@ fn read_all<O: Opener>(
 fn inputs_are_read_as_one(rt: HostRuntime) -> Result<(), Fail> {
     for (names, bytes, has_missed, notes) in RUNS {
         for size in [2, WHOLE] {
-            let shelf = shelf(rt.alloc(), 2);
+            let shelf = shelf_of(rt.alloc(), 2);
             let mut inputs = Inputs::new(&shelf, names);
             let read = read_all(rt.alloc(), &mut inputs, size)?;
             same(&rt, read.as_slice() == bytes, true, notes);
@@ -156,7 +156,7 @@ fn inputs_are_read_as_one(rt: HostRuntime) -> Result<(), Fail> {
 // Nothing is opened before it is read, and a read with no room opens and closes nothing.
 #[test]
 fn inputs_are_opened_when_their_turn_comes(rt: HostRuntime) {
-    let shelf = shelf(rt.alloc(), 2);
+    let shelf = shelf_of(rt.alloc(), 2);
     let mut inputs = Inputs::new(&shelf, &["b", "a"]);
     let rows: [(usize, usize, &str); 6] = [
         (0, 0, ""),
@@ -182,7 +182,7 @@ fn inputs_are_opened_when_their_turn_comes(rt: HostRuntime) {
 #[test]
 fn groups_go_over_inputs(rt: HostRuntime) -> Result<(), AllocError> {
     for most in [1, 2, WHOLE] {
-        let shelf = shelf(rt.alloc(), most);
+        let shelf = shelf_of(rt.alloc(), most);
         let names = ["value", "value's end", "a", "none"];
         let mut input = Watched::new(Inputs::new(&shelf, &names));
         let mut output = Watched::new(Sink::new(rt.alloc(), WHOLE, NEVER, false));
