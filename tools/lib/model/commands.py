@@ -1,4 +1,5 @@
 """Compares what ufmt_conv and ufmt_lines take of steps, memory and calls of their devices with bounds."""
+from concurrent.futures import ThreadPoolExecutor
 from typing import NamedTuple
 
 from lib.log_model import log_model
@@ -19,7 +20,6 @@ BYTE_STEPS, LINE_STEPS = 40, 600
 READ_INDENTATION, SPLIT_INDENTATION = 1, 17
 # What is before the text of a line, as in a log.
 STAMP = "12:00: "
-FIRST = "the first line"
 
 
 class Run(NamedTuple):
@@ -121,8 +121,7 @@ class LogGroup(NamedTuple):
 
 
 def lines(is_plain):
-    """A group for each shape. The first one is for what a run takes at its start, with its own memory."""
-    yield LogGroup(FIRST, "x", "x", bounds.Case(rough(""), 1, 1))
+    """A group for each shape."""
     for name, make in {**shapes.documents(), **shapes.debug_documents()}.items():
         document = make(4 * COUNTED_SIZE)
         texts = plain(document), pretty(document)
@@ -150,47 +149,47 @@ def line_steps(line):
 
 
 def line_faults(counter, program, is_plain):
-    """The faults of runs of ufmt_lines on a log of all shapes, and how many lines were counted."""
+    """The faults of runs of ufmt_lines on a log of all shapes and on each group by itself, and how many groups were counted."""
     arguments = [program] + ["--plain"] * is_plain
     name = "ufmt_lines --plain" if is_plain else "ufmt_lines"
     log = list(lines(is_plain))
     data = "".join(line.group + "\n" for line in log).encode()
-    output, counts = counter.run(arguments, data, name, of_writes=True, seconds=SECONDS)
+    output, _counts = counter.run(arguments, data, name, seconds=SECONDS)
     if output != "".join(line.output + "\n" for line in log).encode():
         return [name + ": another output for a log of all shapes"], len(log)
-    if len(counts) != len(log) + 1:
-        return ["%s: %d writes of %d outputs" % (name, len(counts) - 1, len(log))], len(log)
-    wrong = list(map(line_memory_fault, log, counts, longest(log)))
-    if counter.valgrind:
-        wrong += map(line_steps_fault, log, counter.steps(arguments, data, name, of_writes=True, seconds=SECONDS))
-    return ["%s, %s" % (name, fault) for fault in wrong if fault], len(log)
+    with ThreadPoolExecutor() as pool:
+        wrong = pool.map(lambda it: line_fault(counter, arguments, "%s %d" % (name, it[0]), it[1]), enumerate(log))
+        return ["%s, %s" % (name, fault) for fault in wrong if fault], len(log)
+
+
+def line_fault(counter, arguments, name, line):
+    """What is wrong with a run on this group alone, if anything is."""
+    data = (line.group + "\n").encode()
+    output, counts = counter.run(arguments, data, name, seconds=SECONDS)
+    if output != (line.output + "\n").encode():
+        return line.name + ": another output"
+    wrong = line_memory_fault(line, counts[0])
+    if wrong is None and counter.valgrind:
+        wrong = line_steps_fault(line, counter.steps(arguments, data, name, seconds=SECONDS)[0])
+    return wrong
 
 
 def line_steps_fault(line, steps):
-    most = line_steps(line) + START_STEPS * (line.name == FIRST)
+    most = line_steps(line) + START_STEPS
     return "%s: %d steps, and not at most %d" % (line.name, steps, most) if steps > most else None
 
 
-def longest(log):
-    """How many bytes the longest group and output so far have together."""
-    group = output = 0
-    for line in log:
-        group = max(group, len(line.group.encode()))
-        output = max(output, len(line.output.encode()))
-        yield group + output
-
-
-def line_memory_fault(line, counts, longest_so_far):
+def line_memory_fault(line, counts):
     """The program makes a chunk at its start, and one room for groups and one for outputs, which grow."""
-    is_first = line.name == FIRST
-    held = START_BYTES + 2 * longest_so_far
+    longest = len(line.group.encode()) + len(line.output.encode())
+    held = START_BYTES + 2 * longest
     allowed = {
-        "allocations": 10 * is_first,
-        "growths": 2 * longest_so_far.bit_length(),
-        "bytes": START_BYTES * is_first + 4 * longest_so_far,
+        "allocations": 10,
+        "growths": 2 * longest.bit_length(),
+        "bytes": START_BYTES + 4 * longest,
         "most": held,
         "held": held,
-        "writes": 1,
+        "writes": 1 + len(line.group) // CHUNK,
         "reads": 2 + len(line.group) // CHUNK,
     }
     wrong = over(counts, allowed)
