@@ -6,7 +6,6 @@ use std::cell::RefCell;
 use std::fmt;
 use std::io::ErrorKind;
 use std::process::Abort;
-use std::test::Fail;
 use ufmt::layout::Mode;
 use ufmt_io::testing::{NEVER, Sink, Source, WHOLE};
 
@@ -70,87 +69,12 @@ const ROWS: &[Row] = &[
     ("fails at once", b"abcd", 1),
 ];
 
-// The names of a run, what is read of them by two bytes a read, and what is noted.
-const RUNS: [(&[&str], &[u8], bool, &str); 9] = [
-    (&["a"], b"one\ntw", false, "a "),
-    (&["a", "b"], b"one\ntwo\nthree", false, "a b "),
-    (
-        &["a", "empty", "empty", "b"],
-        b"one\ntwo\nthree",
-        false,
-        "a empty empty b ",
-    ),
-    (&["a", "a"], b"one\ntwone\ntw", false, "a a "),
-    (&["empty"], b"", false, "empty "),
-    (
-        &["a", "none", "b"],
-        b"one\ntwo\nthree",
-        true,
-        "a none !none missing b ",
-    ),
-    (
-        &["none", "neither"],
-        b"",
-        true,
-        "none !none missing neither !neither missing ",
-    ),
-    (
-        &["fails", "b"],
-        b"abo\nthree",
-        true,
-        "fails !fails reset b ",
-    ),
-    (
-        &["b", "fails at once"],
-        b"o\nthree",
-        true,
-        "b fails at once !fails at once reset ",
-    ),
-];
-
 fn shelf_of(alloc: Global, most: usize) -> Shelf<'static> {
     Shelf {
         rows: ROWS,
         most,
         notes: RefCell::new(String::new(alloc)),
     }
-}
-
-// All that is read by buffers of this size. The end is read twice.
-fn read_all<O: Opener>(
-    alloc: Global,
-    inputs: &mut Inputs<'_, O>,
-    size: usize,
-) -> io::Result<Vec<u8>> {
-    let mut all = Vec::new(alloc);
-    let mut buffer = vec![in alloc; 0u8; size]?;
-    let mut ends = 0usize;
-    for _ in 0..1000u32 {
-        let count = inputs.read(&mut buffer)?;
-        all.extend_from_slice(&buffer[..count.min(size)])?;
-        ends = ends.saturating_add(usize::from(count == 0));
-        if ends == 2 {
-            break;
-        }
-    }
-    Ok(all)
-}
-
-#[test]
-fn inputs_are_read_as_one(rt: HostRuntime) -> Result<(), Fail> {
-    for (names, bytes, has_missed, notes) in RUNS {
-        for size in [2, WHOLE] {
-            let shelf = shelf_of(rt.alloc(), 2);
-            let mut inputs = Inputs::new(&shelf, names);
-            let read = read_all(rt.alloc(), &mut inputs, size)?;
-            same(&rt, read.as_slice() == bytes, true, notes);
-            same(&rt, inputs.has_missed(), has_missed, notes);
-            drop(inputs);
-            let noted = shelf.notes.into_inner();
-            same(&rt, noted.as_str(), notes, notes);
-        }
-    }
-    Ok(())
 }
 
 // Nothing is opened before it is read, and a read with no room opens and closes nothing.
