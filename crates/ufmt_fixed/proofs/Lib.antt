@@ -4,3 +4,4 @@ pub mod Roundings
 pub mod Texts
 pub mod Values
 pub mod WorkedTexts
+pub mod Zeros

@@ -1,5 +1,5 @@
 //! Texts of floats with a number of decimals.
-ghost use Rattle.std.specs.Prelude.{◌≡◌, ◌++◌, ◌*◌, ◌/◌, ◌^◌, ◌<◌, ◌≤◌, ◌⊎◌, List, ℕ, IsAscii, IfSome, length, drop, replicate};
+ghost use Rattle.std.specs.Prelude.{◌≡◌, ◌++◌, ◌*◌, ◌/◌, ◌^◌, ◌<◌, ◌≤◌, ◌⊎◌, [], List, ℕ, IsAscii, IfSome, codes, length, drop, replicate, if◌then◌else◌};
 ghost use Rattle.core.specs.Fmt.{sign_text};
 ghost use Rattle.ufmt_float.specs.Put.{IsPut};
 ghost use Rattle.ufmt_fixed.specs.Nearest.{nearest};
@@ -7,7 +7,7 @@ ghost use Rattle.ufmt_fixed.specs.Text.{fixed_digits, fixed_text};
 
 use crate::parts::{Parts, parts_of};
 use crate::put::{put_byte, put_decimals, put_fixed, put_natural, put_point, put_sign};
-use crate::rounding::{long_digits, short_digits};
+use crate::rounding::{is_below_half, long_digits, short_digits};
 use std::marker::Model;
 use ufmt_float::Float;
 
@@ -155,9 +155,23 @@ fn put_finite(
     ensures within { (0 < result.0) × (result.0 ≤ 1385) }
     ensures same { length buffer.new ≡ length buffer.old }
 {
+    if is_below_half(significand, halves, decimals) {
+        return (put_zero(buffer, decimals > 0), decimals);
+    }
     let places = decimals.min(halves as usize);
     let mut digits = long_digits(significand, twos, halves, places as u64);
     let end = put_decimals(buffer, SIZE, &mut digits, places);
     let end = put_point(buffer, end, decimals > 0);
     (put_natural(buffer, end, &mut digits), decimals - places)
+}
+
+/// Writes a 0 at the end of the buffer, and a point after it if `has_decimals`.
+#[inline(always)]
+fn put_zero(buffer: &mut [u8], has_decimals: bool) -> usize
+    requires { length buffer.old ≡ 1385 }
+    ensures { IsPut (codes "0" ++ (if has_decimals then (codes ".") else [])) 1385 buffer.old result
+        buffer.new }
+{
+    let end = put_point(buffer, SIZE, has_decimals);
+    put_byte(buffer, end, b'0')
 }

@@ -110,6 +110,14 @@ module _ (m below A B q : ℕ) (s : IsScaled m below A B) (from : q * B ≤ m * 
       let h' : 4 * (m * A) + m % 2 ≤ 4 * (10 * d * B) + below * A = subst (λ x. 4 * (m * A) + m % 2 ≤ 4 * (x * B) + below * A) is h in
       subst (IsChosen m below A B) (sym is) (chosen_ten d (record { from = h'; to = omega (arith, top_pos) }))
 
+  -- a multiple of ten that is the float itself
+  pub chosen_exact : q * B ≡ m * A → q % 10 ≡ 0 → IsChosen m below A B q
+  chosen_exact exact ten =
+      let least : 1 ≤ below = elim s.sides [ inl e ↦ omega arith | inr e ↦ omega arith ] in
+      let is : q - q % 10 ≡ q = omega arith in
+      let inside : 4 * (m * A) + m % 2 ≤ 4 * (q * B) + below * A = omega (arith, exact, top_pos, mul-le-mul_right A least) in
+      subst (IsChosen m below A B) is (chosen_tens (subst (λ x. 4 * (m * A) + m % 2 ≤ 4 * (x * B) + below * A) (sym is) inside))
+
   pub chosen_next_tens : 4 * ((q - q % 10 + 10) * B) + m % 2 ≤ 4 * (m * A) + 2 * A → IsChosen m below A B (q - q % 10 + 10)
   chosen_next_tens h =
       let d = q / 10 + 1 in
@@ -198,3 +206,6 @@ pub taken_off : (m below A : ℕ) → 0 < m → below ≤ 2 → (4 * m - below) 
 taken_off m below A M L =
     let e : 4 * m - below + below ≡ 4 * m = omega arith in
     omega (arith, ap (λ x. x * A) e)
+
+pub exact_chosen : (m below A B digits tenth : ℕ) → IsScaled m below A B → digits ≡ 10 * tenth → digits * B ≡ m * A → IsChosen m below A B digits
+exact_chosen m below A B digits tenth s ten exact = chosen_exact m below A B digits s (omega (arith, exact)) (omega (arith, exact, s.some)) exact (omega (arith, ten))

@@ -1,7 +1,9 @@
 pub mod AsciiTexts
 pub mod Choices
 pub mod Decimals
+pub mod ExactDecimals
 pub mod Existence
+pub mod FivePowers
 pub mod FloatParts
 pub mod FloatTexts
 pub mod Intervals
@@ -9,6 +11,7 @@ pub mod LimbSteps
 pub mod NumberBytes
 pub mod Parsing
 pub mod Puts
+pub mod Remainders
 pub mod Scales
 pub mod Shortness
 pub mod TextLaws

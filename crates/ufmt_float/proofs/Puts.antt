@@ -1,11 +1,11 @@
 -- Texts that are written from the right.
-use Rattle.core.specs.Prelude.{◌≡◌, ◌≢◌, ℕ, zero, suc, ◌+◌, ◌-◌, ◌*◌, ◌/◌, ◌%◌, ◌^◌, ◌<◌, ◌≤◌, List, [], ◌∷◌, ◌++◌, length, drop, set, replicate, Bool, true, false, ◌&&◌, nat_lt, leb, ltb}
+use Rattle.core.specs.Prelude.{◌≡◌, ◌≢◌, ℕ, zero, suc, ◌+◌, ◌-◌, ◌*◌, ◌/◌, ◌%◌, ◌^◌, ◌<◌, ◌≤◌, ◌⊎◌, List, [], ◌∷◌, ◌++◌, length, drop, set, replicate, Bool, true, false, ◌&&◌, nat_lt, leb, ltb}
 use mathlib.Core.Path.{refl, sym, ap, ◌∙◌, subst}
 use mathlib.Core.Logic.{inl, inr}
 use native.Mathlib.Omega.{arith}
-use native.Mathlib.Nat.{eq-zero-or-pos, div-div-eq-div-mul, div-one, div-le_self, pow-suc, pow-succ', le-div_iff_mul-le, div-lt_iff_lt-mul}
+use native.Mathlib.Nat.{eq-zero-or-pos, div-eq_of_lt, div-div-eq-div-mul, div-one, div-le_self, pow-suc, pow-succ', le-div_iff_mul-le, div-lt_iff_lt-mul}
 use mathlib.Core.Bool.{false≢true}
-use borrow.Author.Tests.{lt-ltb, le-ltb, leb-true, ltb-true}
+use borrow.Author.Tests.{lt-ltb, le-ltb, le-leb, leb-true, ltb-true}
 use native.Mathlib.Numerals.{add-one}
 use lib.Pow.{pow-add}
 use Rattle.core.proofs.dec2flt.LimbsLemmas.{power_pos}
@@ -119,21 +119,43 @@ length-digits n h = length-decimal-le 17 n (omega arith) h (omega arith)
 pub length-exponent : (n : ℕ) → n < 1000 → length (decimal n) ≤ 3
 length-exponent n h = length-decimal-le 3 n (omega arith) (omega arith) (omega arith)
 
-pub length-fixed-le : (digits places : ℕ) → digits < 10 ^ 17 → length (fixed_text digits places) ≤ 18 + places
-length-fixed-le digits places h =
-    let less : digits / 10 ^ places ≤ digits = div-le_self digits (10 ^ places) in
-    omega (arith, length-fixed digits places, length-digits (digits / 10 ^ places) (omega arith))
+-- without its last digits a number has so many digits fewer
+pub length-cut : (places n unit : ℕ) → n < 2 ^ 64 → unit ≡ 10 ^ places → unit ≤ n → length (decimal n) ≡ length (decimal (n / unit)) + places
+length-cut places n unit small e h = rw e (go places n small (rw e at h))
+  where
+    go : (k m : ℕ) → m < 2 ^ 64 → 10 ^ k ≤ m → length (decimal m) ≡ length (decimal (m / 10 ^ k)) + k
+    go zero m s l = ap (λ x. length (decimal x)) (sym (div-one m)) ∙ omega arith
+    go (suc k) m s l =
+        let tens : 10 ^ suc k ≡ 10 ^ k * 10 = pow-suc 10 k in
+        let ten : 10 ≤ m = omega (arith, l, tens, ten_power k) in
+        let less : 10 ^ k ≤ m / 10 = (le-div_iff_mul-le (omega arith)).1 (omega (arith, l, tens)) in
+        let quotient : m / 10 / 10 ^ k ≡ m / 10 ^ suc k = div-div-eq-div-mul m 10 (10 ^ k) ∙ ap (λ x. m / x) (sym (pow-succ' 10 k)) in
+        omega (arith, longer_decimal m ten s, go k (m / 10) (omega arith) less, ap (λ x. length (decimal x)) quotient)
 
-pub length-plain : (debug : Bool) (digits power : ℕ) → digits < 10 ^ 17 → length (plain_text debug digits power) ≤ 19 + (400 - power) + (power - 400)
+-- a text with decimals is as long as its digits and the point, or has one digit before the decimals
+pub length-fixed-le : (digits places : ℕ) → digits < 10 ^ 17 → length (fixed_text digits places) ≤ 18 + (places - 16)
+length-fixed-le digits places h =
+    let few = length-digits digits h in
+    let is = length-fixed digits places in
+    elim (eq-zero-or-pos (digits + 1 - 10 ^ places)) [
+      | inl z ↦ (
+          let none : digits / 10 ^ places ≡ 0 = div-eq_of_lt (omega arith) in
+          omega (arith, is, ap (λ x. length (decimal x)) none, one_digit 0 (omega arith))
+          )
+      | inr p ↦ omega (arith, is, few, length-cut places digits (10 ^ places) (omega arith) refl (omega arith), decimal_bounds (digits / 10 ^ places) (omega (arith, div-le_self digits (10 ^ places))))
+    ]
+
+pub length-plain : (debug : Bool) (digits power : ℕ) → digits < 10 ^ 17
+    → length (plain_text debug digits power) ≤ 19 + (400 - power - 16) + (length (decimal digits) + (power - 400) - 17)
 length-plain debug digits power h =
     elim (eq-zero-or-pos (400 - power)) [
       | inl z ↦ rw (le-ltb power 400 (omega arith)) (mark debug)
       | inr p ↦ rw (lt-ltb power 400 (omega arith)) (omega (arith, length-fixed-le digits (400 - power) h))
     ]
   where
-    mark : (d : Bool) → length (decimal digits ++ (replicate (power - 400) 48 ++ (if d then (codes ".0") else []))) ≤ 19 + (400 - power) + (power - 400)
-    mark true = omega (arith, length-digits digits h, length-append (decimal digits) (replicate (power - 400) 48 ++ codes ".0"), length-append (replicate (power - 400) 48) (codes ".0"), length-replicate {A = ℕ} (power - 400) 48)
-    mark false = omega (arith, length-digits digits h, length-append (decimal digits) (replicate (power - 400) 48 ++ []), length-append {A = ℕ} (replicate (power - 400) 48) [], length-replicate {A = ℕ} (power - 400) 48)
+    mark : (d : Bool) → length (decimal digits ++ (replicate (power - 400) 48 ++ (if d then (codes ".0") else []))) ≤ 19 + (400 - power - 16) + (length (decimal digits) + (power - 400) - 17)
+    mark true = omega (arith, length-append (decimal digits) (replicate (power - 400) 48 ++ codes ".0"), length-append (replicate (power - 400) 48) (codes ".0"), length-replicate {A = ℕ} (power - 400) 48)
+    mark false = omega (arith, length-append (decimal digits) (replicate (power - 400) 48 ++ []), length-append {A = ℕ} (replicate (power - 400) 48) [], length-replicate {A = ℕ} (power - 400) 48)
 
 pub length-sign : (negative : Bool) → length (sign_text negative) ≤ 1
 length-sign true = omega arith
@@ -154,12 +176,12 @@ plain_range digits power h =
     go true b f g e = (f refl, g e)
     go false b f g e = absurd (false≢true e)
 
-pub length-debug : (digits power : ℕ) → digits < 10 ^ 17 → is_plain digits power ≡ true → length (plain_text true digits power) ≤ 40
+pub length-debug : (digits power : ℕ) → digits < 10 ^ 17 → is_plain digits power ≡ true → length (plain_text true digits power) ≤ 31
 length-debug digits power h p =
     let r = plain_range digits power p in
     omega (arith, length-plain true digits power h, length-digits digits h)
 
-pub more_room : (debug : Bool) → (if debug then 40 else 343) + 1 ≡ (if debug then 41 else 344)
+pub more_room : (debug : Bool) → (if debug then 31 else 343) + 1 ≡ (if debug then 32 else 344)
 more_room true = refl
 more_room false = refl
 
@@ -167,18 +189,15 @@ more_room false = refl
 pub put_at_end : (text old new : List ℕ) (start : ℕ) → IsPut text (length old) old start new → drop start new ≡ text
 put_at_end text old new start p = p.written ∙ ap (λ xs. text ++ xs) (drop-length old) ∙ append-nil text
 
--- without its last digits a number has so many digits fewer
-pub length-cut : (places n unit : ℕ) → n < 2 ^ 64 → unit ≡ 10 ^ places → unit ≤ n → length (decimal n) ≡ length (decimal (n / unit)) + places
-length-cut places n unit small e h = rw e (go places n small (rw e at h))
-  where
-    go : (k m : ℕ) → m < 2 ^ 64 → 10 ^ k ≤ m → length (decimal m) ≡ length (decimal (m / 10 ^ k)) + k
-    go zero m s l = ap (λ x. length (decimal x)) (sym (div-one m)) ∙ omega arith
-    go (suc k) m s l =
-        let tens : 10 ^ suc k ≡ 10 ^ k * 10 = pow-suc 10 k in
-        let ten : 10 ≤ m = omega (arith, l, tens, ten_power k) in
-        let less : 10 ^ k ≤ m / 10 = (le-div_iff_mul-le (omega arith)).1 (omega (arith, l, tens)) in
-        let quotient : m / 10 / 10 ^ k ≡ m / 10 ^ suc k = div-div-eq-div-mul m 10 (10 ^ k) ∙ ap (λ x. m / x) (sym (pow-succ' 10 k)) in
-        omega (arith, longer_decimal m ten s, go k (m / 10) (omega arith) less, ap (λ x. length (decimal x)) quotient)
+-- a decimal that ends after the point, and starts at most four places after it
+pub plain_near : (digits power : ℕ) → digits < 10 ^ 17 → power < 400 → (396 ≤ power) ⊎ ((384 ≤ power) × (10 ^ 12 ≤ digits)) → is_plain digits power ≡ true
+plain_near digits power h to near =
+    let few = length-digits digits h in
+    let from : 396 ≤ power + more_digits digits = elim near [
+      | inl s ↦ omega arith
+      | inr s ↦ omega (arith, length-cut 12 digits (10 ^ 12) (omega arith) refl s.1, decimal_bounds (digits / 10 ^ 12) (omega (arith, div-le_self digits (10 ^ 12))), s.0)
+    ] in
+    rw (le-leb 396 (power + more_digits digits) from, lt-ltb (power + more_digits digits) 416 (omega (arith, few))) refl
 
 pub cut_less : (n unit : ℕ) → 0 < unit → n < unit * unit → n / unit < unit
 cut_less n unit u h = (div-lt_iff_lt-mul u).1 h

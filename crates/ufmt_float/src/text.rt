@@ -1,5 +1,5 @@
 //! Texts of decimals, written from the right.
-ghost use Rattle.core.specs.Prelude.{◌≡◌, ℕ, List, ◌+◌, ◌-◌, ◌*◌, ◌/◌, ◌%◌, ◌^◌, ◌<◌, ◌≤◌, [], ◌∷◌, ◌++◌, length, drop, replicate, true, false, if◌then◌else◌};
+ghost use Rattle.core.specs.Prelude.{◌≡◌, ℕ, List, ◌+◌, ◌-◌, ◌*◌, ◌/◌, ◌%◌, ◌^◌, ◌<◌, ◌≤◌, ◌⊎◌, [], ◌∷◌, ◌++◌, length, drop, replicate, true, false, IsTrue, if◌then◌else◌};
 ghost use lib.Chars.{codes};
 ghost use Rattle.core.specs.Str.{IsAscii};
 ghost use Rattle.core.specs.Fmt.{decimal, sign_text};
@@ -120,6 +120,9 @@ fn put_decimal(buffer: &mut [u8], end: usize, n: u64) -> usize
     requires { (length (decimal n) ≤ end) × (end ≤ length buffer.old) }
     ensures { IsPut (decimal n) end buffer.old result buffer.new }
 {
+    if n < 10 {
+        return put_byte(buffer, end, b'0' + n as u8);
+    }
     let count = count_digits(n);
     put_last_digits(buffer, end, n, count);
     end - count
@@ -198,11 +201,13 @@ fn put_exponent(buffer: &mut [u8], end: usize, power: u64) -> usize
 }
 
 /// Writes a decimal with one digit before the point, and an exponent.
+// Not inlined: else its registers would be saved for each plain text too.
+#[inline(never)]
 fn put_scientific(buffer: &mut [u8], end: usize, digits: u64, power: u64) -> usize
     requires sizes { (digits < 10 ^ 17) × (power < 900) }
-    requires room { (40 ≤ end) × (end ≤ length buffer.old) }
+    requires room { (31 ≤ end) × (end ≤ length buffer.old) }
     ensures text { IsPut (scientific_text digits power) end buffer.old result buffer.new }
-    ensures short { end ≤ result + 40 }
+    ensures short { end ≤ result + 31 }
 {
     let places = count_digits(digits) - 1;
     let end = put_exponent(buffer, end, power + places as u64);
@@ -213,12 +218,24 @@ fn put_scientific(buffer: &mut [u8], end: usize, digits: u64, power: u64) -> usi
     }
 }
 
+/// Whether the first digit is at most four places after the point, and the last one after it, as far as a few comparisons
+/// tell. It may say no of digits that are.
+#[inline(always)]
+fn ends_near_point(digits: u64, power: u64) -> bool
+    ensures { IsTrue result → (power < 400) × ((396 ≤ power) ⊎ ((384 ≤ power) × (10 ^ 12 ≤ digits))) }
+{
+    power < 400 && (396 <= power || (384 <= power && 1_000_000_000_000 <= digits))
+}
+
 /// Whether Debug prints a decimal with no exponent.
 #[inline(always)]
 fn is_plain(digits: u64, power: u64) -> bool
-    requires { power < 1000 }
+    requires { (digits < 10 ^ 17) × (power < 1000) }
     ensures { result ≡ is_plain digits power }
 {
+    if ends_near_point(digits, power) {
+        return true;
+    }
     let first = power + (count_digits(digits) - 1) as u64;
     396 <= first && first < 416
 }
@@ -226,9 +243,9 @@ fn is_plain(digits: u64, power: u64) -> bool
 /// Writes a decimal as Debug prints it.
 fn put_debug(buffer: &mut [u8], end: usize, decimal: Decimal) -> usize
     requires sizes { (decimal.digits < 10 ^ 17) × (decimal.power < 711) }
-    requires room { (40 ≤ end) × (end ≤ length buffer.old) }
+    requires room { (31 ≤ end) × (end ≤ length buffer.old) }
     ensures text { IsPut (decimal_text true decimal.digits decimal.power) end buffer.old result buffer.new }
-    ensures short { end ≤ result + 40 }
+    ensures short { end ≤ result + 31 }
 {
     if is_plain(decimal.digits, decimal.power) {
         put_plain(buffer, end, true, decimal.digits, decimal.power)
@@ -250,9 +267,9 @@ fn put_display(buffer: &mut [u8], end: usize, decimal: Decimal) -> usize
 /// Writes a decimal as Debug or Display prints it.
 fn put_number(buffer: &mut [u8], end: usize, debug: bool, decimal: Decimal) -> usize
     requires sizes { (decimal.digits < 10 ^ 17) × (76 ≤ decimal.power) × (decimal.power < 711) }
-    requires room { ((if debug then 40 else 343) ≤ end) × (end ≤ length buffer.old) }
+    requires room { ((if debug then 31 else 343) ≤ end) × (end ≤ length buffer.old) }
     ensures text { IsPut (decimal_text debug decimal.digits decimal.power) end buffer.old result buffer.new }
-    ensures short { end ≤ result + (if debug then 40 else 343) }
+    ensures short { end ≤ result + (if debug then 31 else 343) }
 {
     if debug {
         put_debug(buffer, end, decimal)
@@ -276,7 +293,7 @@ fn put_word(buffer: &mut [u8], end: usize, word: [u8; 3]) -> usize
 /// Writes a float at the end of the buffer, as Debug or Display prints it.
 #[inline(always)]
 fn put_float<F: Float>(buffer: &mut [u8], debug: bool, x: F) -> usize
-    requires { (if debug then 41 else 344) ≤ length buffer.old }
+    requires { (if debug then 32 else 344) ≤ length buffer.old }
     ensures text { IsFloatText F.format debug (F.value x) (drop result buffer.new) }
     ensures ascii { IsAscii (drop result buffer.new) }
     ensures within { result ≤ length buffer.old }
@@ -315,7 +332,7 @@ fn put_float<F: Float>(buffer: &mut [u8], debug: bool, x: F) -> usize
 /// The text of a float as Debug prints it, `{:?}`.
 #[derive(Drop)]
 pub struct DebugText {
-    bytes: [u8; 41],
+    bytes: [u8; 32],
     start: usize,
 }
 
@@ -324,7 +341,7 @@ impl Model for DebugText {
 
     ghost view = { λ t. drop t.start t.bytes };
 
-    ghost invariant = { λ t. (t.start ≤ 41) × IsAscii (drop t.start t.bytes) };
+    ghost invariant = { λ t. (t.start ≤ 32) × IsAscii (drop t.start t.bytes) };
 }
 
 impl DebugText {
@@ -333,7 +350,7 @@ impl DebugText {
     pub fn of<F: Float>(x: F) -> DebugText
         ensures { IsFloatText F.format true (F.value x) result }
     {
-        let mut bytes = [0; 41];
+        let mut bytes = [0; 32];
         let start = put_float(&mut bytes, true, x);
         DebugText { bytes, start }
     }

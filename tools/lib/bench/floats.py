@@ -1,10 +1,10 @@
-"""Instructions of one `{:?}` of an `f64`, and of one with a number of decimals, beside core::fmt."""
+"""Instructions of one `{:?}` of an `f64`, beside core::fmt and the kit's ryu, and of one with a number of decimals, beside core::fmt."""
 from lib.bench import counter
 from lib.floats import patterns, programs
 
 VALUES = "21.5 0.1 1.0 3.141592653589793 1e-7 1e23 1e-20 1.5e100 1e300 5e-324".split()
 # A float, and how many decimals it is printed with.
-FIXED = "21.5:2 0.125:2 0.1:3 3.141592653589793:15 -123456.789:0 0.1:20 1e23:2 1e300:2 1e-20:40 0.1:60 5e-324:300".split()
+FIXED = "21.5:2 0.125:2 0.1:3 3.141592653589793:15 -123456.789:0 0.1:20 1e23:2 1e300:2 1e-20:40 0.1:60 5e-324:300 5e-324:330".split()
 FEW, MANY = 1000, 3000
 
 
@@ -18,7 +18,9 @@ def instructions(program, value):
 
 def measured(room):
     """Prints a line for each value."""
-    made = programs.ours(room), programs.theirs(room)
-    print("%-20s%10s%12s" % ("instructions", "ours", "core::fmt"))
-    for value in VALUES + FIXED:
-        print("%-20s%10d%12d" % (value, *(instructions(program, value) for program in made)), flush=True)
+    made = [build_in(room / name) for name, build_in in (("ours", programs.ours), ("rustc", programs.theirs), ("ryu", programs.ryu))]
+    print("%-24s%8s%12s%8s" % ("instructions", "ours", "core::fmt", "ryu"))
+    for value in VALUES:
+        print("%-24s%8d%12d%8d" % (value, *(instructions(program, value) for program in made)), flush=True)
+    for value in FIXED:
+        print("%-24s%8d%12d" % (value, *(instructions(program, value) for program in made[:2])), flush=True)

@@ -8,7 +8,14 @@ use Rattle.ufmt_float.proofs.Puts.{put_before}
 use Rattle.ufmt_fixed.specs.Natural.{value_of}
 use Rattle.ufmt_fixed.proofs.Puts.{put_last}
 use Rattle.ufmt_fixed.proofs.Texts.{whole_bound, length-whole, length-if_point, finite_written, IsAscii-digits}
+use Rattle.ufmt_fixed.proofs.Zeros.{below_half, zero_written}
 use Rattle.ufmt_fixed.proofs.text.put_finite.Goals as goal
+
+pub returns-then-is_below_half-clause-text : goal.returns-then-is_below_half-clause-text
+returns-then-is_below_half-clause-text c =
+    let a = c.args in
+    ap (λ (text : List ℕ). text ++ replicate a.decimals 48) (put_last _ _ _ 1385 _ c.requires.room c.put_zero.ensures)
+    ∙ zero_written a.decimals _ (below_half a.significand a.twos a.halves a.decimals c.requires.size.3 (c.if-is_below_half.ensures refl))
 
 pub put_point-end-requires : goal.put_point-end-requires
 put_point-end-requires c =

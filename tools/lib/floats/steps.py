@@ -1,0 +1,28 @@
+"""Bounds of the instructions that ufmt takes to print a float, and one with a number of decimals."""
+import shutil
+
+from lib.bench import floats
+from lib.floats import programs
+
+# What a call takes today, with the loop around it: `{:?}` of a float, and after a colon `fixed x to N`.
+TAKEN = {
+    "21.5": 418, "0.1": 486, "1.0": 360, "3.141592653589793": 576, "1e-7": 541, "1e23": 654, "1e-20": 1053, "1e300": 2290,
+    "5e-324": 3075, "21.5:2": 492, "3.141592653589793:15": 705, "-123456.789:0": 483, "0.1:20": 4579, "1e300:2": 24712,
+    "5e-324:300": 954,
+}
+# A call may take so many times as much.
+MOST = 1.3
+
+
+def counted(room):
+    """What each call takes. None is counted without valgrind."""
+    if not shutil.which("valgrind"):
+        return {}
+    program = programs.by_ufmt(room)
+    return {value: floats.instructions(program, value) for value in TAKEN}
+
+
+def faults(counts):
+    """A line for each call that takes more than its bound."""
+    return ["%s takes %d instructions, and not at most %d" % (value, count, MOST * TAKEN[value])
+            for value, count in counts.items() if count > MOST * TAKEN[value]]
