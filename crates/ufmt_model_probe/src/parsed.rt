@@ -2,8 +2,8 @@
 use crate::parsing::parse_in_mode;
 use crate::shapes;
 use crate::types::{
-    Floats, FurtherKeys, Keyed, Leaves, Lists, Nested, NonZeros, Numbers, Owned, Results, Shared,
-    Slices, Tuples, Types, Wrappers,
+    Decimals, Floats, FurtherKeys, Keyed, Leaves, Lists, Nested, NonZeros, Numbers, Owned, Results,
+    Shared, Slices, Tuples, Types, Wrappers,
 };
 use std::alloc::{AllocError, Global};
 use ufmt::{pieces, write_line};
@@ -67,6 +67,7 @@ fn letters(calls: Calls<'_>) -> Result<TypeLetters, Fault> {
     Nested::add_all(calls, alloc, "678", &mut letters)?;
     Tuples::add_all(calls, (), "αβγδεζηθικλμ", &mut letters)?;
     Floats::add_all(calls, (), "пр", &mut letters)?;
+    Decimals::add_all(calls, (), "д", &mut letters)?;
     Ok(letters)
 }
 

@@ -11,6 +11,7 @@ use std::num::{
 use std::ops::{Bound, ControlFlow, RangeFull};
 use std::rc::{Rc, RcSlice, RcStr};
 use std::sync::{Arc, ArcSlice, ArcStr};
+use ufmt::Decimal;
 use ufmt::cells::CellValue;
 use ufmt_parse::uParse;
 use ufmt_parse_examples::{Node, Tree};
@@ -210,6 +211,9 @@ type B = bool;
 
 /// Floats: `пр`.
 pub type Floats = (f32, (f64, ()));
+
+/// Fixed-point numbers: `д`.
+pub type Decimals = (Decimal, ());
 
 /// Tuples of one field to twelve: `αβγδεζηθικλμ`.
 pub type Tuples = (

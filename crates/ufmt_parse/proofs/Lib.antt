@@ -1,3 +1,4 @@
+pub mod DecimalsTaken
 pub mod Expecting
 pub mod Forms
 pub mod KeysInARow

@@ -10,9 +10,11 @@ use std::num::{
     NonZeroU16, NonZeroU32, NonZeroU64, NonZeroU128, NonZeroUsize, Saturating, Wrapping,
 };
 use std::ops::{Bound, ControlFlow, RangeFull};
+use ufmt::Decimal;
 use ufmt::cells::CellValue;
 
-/// Integers, nonzero integers, floats, truth values, `()`, characters, orderings and `..` hold no memory.
+/// Integers, nonzero integers, floats, fixed-point numbers, truth values, `()`, characters, orderings and `..`
+/// hold no memory.
 pub fn leaves_hold_no_memory<A: Copy>()
     ensures of_u8 { ⟦<u8 as uParse<A>>⟧.holds_no_memory }
     ensures of_u16 { ⟦<u16 as uParse<A>>⟧.holds_no_memory }
@@ -44,6 +46,7 @@ pub fn leaves_hold_no_memory<A: Copy>()
     ensures of_unit { ⟦<() as uParse<A>>⟧.holds_no_memory }
     ensures of_char { ⟦<char as uParse<A>>⟧.holds_no_memory }
     ensures of_ordering { ⟦<Ordering as uParse<A>>⟧.holds_no_memory }
+    ensures of_decimal { ⟦<Decimal as uParse<A>>⟧.holds_no_memory }
     ensures of_range_full { ⟦<RangeFull as uParse<A>>⟧.holds_no_memory }
 {}
 

@@ -16,6 +16,7 @@ macro_rules! tri {
 
 mod by;
 mod core_impls;
+mod decimal;
 mod error;
 mod expected;
 mod keys;

@@ -12,6 +12,7 @@ mod node;
 mod read_back;
 mod sample;
 mod snapshot;
+mod supply;
 mod switch;
 mod tree;
 
@@ -23,5 +24,6 @@ pub use node::Node;
 pub use read_back::celsius;
 pub use sample::Sample;
 pub use snapshot::{changes, print_alike};
+pub use supply::Supply;
 pub use switch::Switch;
 pub use tree::Tree;

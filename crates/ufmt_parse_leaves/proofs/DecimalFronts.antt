@@ -28,10 +28,10 @@ value_after_ge n (c ∷ t) = go (is_ascii_digit c) (value_after_ge (n * 10 + (c 
 abbrev AreDigits : List ℕ → Type 0
 AreDigits digits = All (λ digit. digit < 10) digits
 
-byte_is_digit : (digit : ℕ) → digit < 10 → is_ascii_digit (decimal_byte digit) ≡ true
+pub byte_is_digit : (digit : ℕ) → digit < 10 → is_ascii_digit (decimal_byte digit) ≡ true
 byte_is_digit digit low = grind (arith, nat_tests)
 
-digit_of : (c : ℕ) → is_ascii_digit c ≡ true → (48 ≤ c) × (c < 58)
+pub digit_of : (c : ℕ) → is_ascii_digit c ≡ true → (48 ≤ c) × (c < 58)
 digit_of c h = (grind (arith, nat_tests), grind (arith, nat_tests))
 
 -- ---- a text that begins with these digits
@@ -176,11 +176,11 @@ no_magnitude bound t begins = λ n u low ends same.
 
 -- ---- by the first byte
 
-value_after-none : (n : ℕ) (t : List ℕ) → begins_digit t ≡ false → value_after n t ≡ n
+pub value_after-none : (n : ℕ) (t : List ℕ) → begins_digit t ≡ false → value_after n t ≡ n
 value_after-none n [] none = refl
 value_after-none n (c ∷ t) none = rw none refl
 
-after_digits-none : (t : List ℕ) → begins_digit t ≡ false → after_digits t ≡ t
+pub after_digits-none : (t : List ℕ) → begins_digit t ≡ false → after_digits t ≡ t
 after_digits-none [] none = refl
 after_digits-none (c ∷ t) none = rw none refl
 

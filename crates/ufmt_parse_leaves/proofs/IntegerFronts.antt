@@ -1,7 +1,7 @@
 -- Integers taken from the front of a text: the sign, and then the digits.
 use Rattle.std.proofs.Common.{◌≡◌, inl, inr, refl, sym, ap, ◌∙◌, subst, ℕ, ◌≤◌, ◌==◌, Bool, true, false, List, [], ◌∷◌, ◌++◌, ℤ, pos, negsuc, nat_abs, arith, eqb-true, Ok, Err, None}
 use Rattle.std.specs.Char.{is_ascii_digit}
-use Rattle.ufmt_core.specs.Decimal.{decimal}
+use Rattle.ufmt_core.specs.Decimal.{decimal, sign_of}
 use Rattle.ufmt_core.specs.Document.{leaf}
 use Rattle.ufmt_core.specs.ValueDocuments.{integer}
 use Rattle.ufmt_core.proofs.DecimalTexts.{decimal-negative}
@@ -15,7 +15,7 @@ use Rattle.ufmt_parser.specs.declared.parser.Fault.TheVariants.{NotText}
 use Rattle.ufmt_parse_leaves.proofs.DecimalFronts.{begins_with}
 
 -- what may follow a value begins with no digit
-follower_no_digit : (u : List ℕ) → IsDebugFollower u → begins_digit u ≡ false
+pub follower_no_digit : (u : List ℕ) → IsDebugFollower u → begins_digit u ≡ false
 follower_no_digit [] h = refl
 follower_no_digit (c ∷ []) h = each_ender (λ b. is_ascii_digit b ≡ false) refl refl refl refl c h
 follower_no_digit (c ∷ b ∷ u) (inl h) = each_ender (λ b. is_ascii_digit b ≡ false) refl refl refl refl c h
@@ -40,14 +40,17 @@ with_minus : (t : List ℕ) → begins_minus t ≡ true → t ≡ 45 ∷ after_m
 with_minus [] minus = absurd (cc)
 with_minus (c ∷ t) minus = rw minus (ap (λ b. b ∷ t) (eqb-true c 45 minus))
 
+-- a sign before digits is what is cut
+pub sign_before : (z : ℤ) (t : List ℕ) → begins_number t ≡ true → IsSigned (begins_minus (sign_of z ++ t)) (nat_abs z) z × (after_minus (sign_of z ++ t) ≡ t)
+sign_before (pos n) t begins = let none = no_minus t begins in ((none, refl), without_minus t none)
+sign_before (negsuc n) t begins = ((refl, refl), refl)
+
 sign_of_front : (z : ℤ) (u : List ℕ) → begins_digit u ≡ false
     → IsSigned (begins_minus (decimal z ++ u)) (nat_abs z) z × (after_minus (decimal z ++ u) ≡ decimal (pos (nat_abs z)) ++ u)
-sign_of_front (pos n) u ends =
-    let text = decimal (pos n) ++ u in
-    let none = no_minus text (begins_with n u ends).begins in ((none, refl), without_minus text none)
+sign_of_front (pos n) u ends = sign_before (pos n) (decimal (pos n) ++ u) (begins_with n u ends).begins
 sign_of_front (negsuc n) u ends = rw (decimal-negative (negsuc n) refl) ((refl, refl), refl)
 
-minus_text : (t : List ℕ) → t ≡ sign (begins_minus t) ++ after_minus t
+pub minus_text : (t : List ℕ) → t ≡ sign (begins_minus t) ++ after_minus t
 minus_text t = go (begins_minus t) refl
   where
     go : (minus : Bool) → begins_minus t ≡ minus → t ≡ sign (begins_minus t) ++ after_minus t
@@ -78,11 +81,11 @@ decimal_fits : (z : ℤ) (blocks : ℕ) → blocks ≤ 255 → Fits blocks (leaf
 decimal_fits z blocks most = ((tokens_are_debug (integer z) (IsBuilt-integer z, omega arith)).0, omega arith)
 
 -- two numbers at the front are one
-record OneFront (m n : ℕ) (u new : List ℕ) : Type 0 where
-  value : m ≡ n
-  after : u ≡ new
+pub record OneFront (m n : ℕ) (u new : List ℕ) : Type 0 where
+  pub value : m ≡ n
+  pub after : u ≡ new
 
-one_front : (t : List ℕ) (m n : ℕ) (u new : List ℕ) → begins_digit u ≡ false → t ≡ decimal (pos m) ++ u → IsFront t (pos n) new → OneFront m n u new
+pub one_front : (t : List ℕ) (m n : ℕ) (u new : List ℕ) → begins_digit u ≡ false → t ≡ decimal (pos m) ++ u → IsFront t (pos n) new → OneFront m n u new
 one_front t m n u new ends is front =
     let here = begins_with n new front.ends in
     let other = begins_with m u ends in

@@ -1,9 +1,12 @@
 pub mod CharacterFronts
 pub mod DecimalFronts
+pub mod FixedFronts
 pub mod FloatFronts
 pub mod IntegerFronts
 pub mod PackedDigits
+pub mod PlaceFronts
 pub mod PlainFronts
 pub mod PlainLanes
 pub mod QuotedTaken
 pub mod SpelledTexts
+pub mod WorkedFixed

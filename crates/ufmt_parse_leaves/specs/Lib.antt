@@ -1,3 +1,4 @@
+pub mod FixedPoint
 pub mod Private
 pub mod Spelling
 pub mod Values

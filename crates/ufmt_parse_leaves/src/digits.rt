@@ -95,11 +95,11 @@ impl Magnitude for u128 {
     }
 }
 
-// The number that the digits at the front denote after those of `start`, if it isn't too large, and what
-// follows them.
+/// The number that the digits at the front denote after those of `start`, if it isn't too large, and what
+/// follows them.
 #[inline(always)]
 #[tactic(auto, using(crate::proofs::DecimalFronts::value_after_ge))]
-fn split_more<N: Magnitude>(start: N, input: &[u8]) -> Option<(N, &[u8])>
+pub(crate) fn split_more<N: Magnitude>(start: N, input: &[u8]) -> Option<(N, &[u8])>
     requires { N.value start < N.bound }
     ensures { MatchOption result (N.bound ≤ value_after (N.value start) input.now)
         (λ found. (N.value found.0 ≡ value_after (N.value start) input.now) × (N.value found.0 < N.bound)

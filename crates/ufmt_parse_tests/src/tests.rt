@@ -3,6 +3,7 @@
 mod allocators;
 mod by_parsers;
 mod collections;
+mod decimals;
 mod deep;
 mod enums;
 mod errors;

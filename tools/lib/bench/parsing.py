@@ -1,14 +1,17 @@
-"""Instructions that parsing takes for each byte of a text and for each value, beside serde_json and ron."""
+"""Instructions that parsing takes for each byte of a text and for each value, beside serde_json and ron, and the bytes of one more
+type that is parsed."""
 import subprocess
 import sys
 
-from lib.bench import build, peers, values
+from lib.bench import build, calls, peers, values
 from lib.bench.counter import counted
 
 ROWS = (("u64", "plain"), ("u32", "plain"), ("measurement", "plain"), ("measurement", "pretty"), ("strings", "plain"),
         ("escapes", "plain"), ("options", "plain"), ("event", "plain"), ("event", "pretty"), ("map", "plain"))
 # Of smaller texts a list is copied when it grows, not mapped to another place.
 SIZES = (500_000, 1_000_000)
+# Of a struct of two numbers, of three, and of an enum: the case with one type, and with a second one.
+TYPES = (("struct of two", "two"), ("struct of three", "three"), ("enum", "enum"))
 DEPENDENCIES = ('serde = { version = "1", features = ["derive"] }', 'serde_json = "1"', 'ron = "0.7"')
 
 
@@ -41,8 +44,19 @@ def line(told, cells):
                                      for cell in cells), flush=True)
 
 
+def sizes(top, room):
+    """A line for each kind of type: bytes of a program that parses one, and how many more with a second one."""
+    build.over_copies(top, room, "parse_sizes", ["ufmt_parse"])
+    helpers = calls.memory(top, room)
+    print("%-20s%9s%9s" % ("bytes", "one", "one more"))
+    for told, case in TYPES:
+        one, both = (calls.bytes_of(room, room / "module.o", helpers, "case_" + case + more) for more in ("", "_and_another"))
+        print("%-20s%9d%9d" % (told, one, both - one), flush=True)
+
+
 def table(top, room, script):
-    """Prints a line for each kind of values. With a script, it calls that with the program in place of its own counting."""
+    """Prints a line for each kind of values, and one for each kind of type. With a script, it calls that with the program in place
+    of its own counting."""
     program = build.over_copies(top, room, "parse", ["ufmt_parse"])
     if script:
         return subprocess.call([script, program])
@@ -60,4 +74,6 @@ def table(top, room, script):
         # 3 and -4, so often.
         cells.append((None, one([peer, "one", other], b"%d" % (-3000 % (1 << 64))) if has_peer else None))
     line("one measurement", cells)
+    (room / "sizes").mkdir()
+    sizes(top, room / "sizes")
     return 0

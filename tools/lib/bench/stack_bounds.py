@@ -17,4 +17,4 @@ CALLS = {
     "doc_to_string": (304, 208), "drop_doc": (336, 256),
 }
 # By its name: at most, and a level more. Those of ufmt_model_probe were measured by runs.
-PROGRAMS = {"ufmt_conv": (12864, 0), "ufmt_lines": (28960, 0), "ufmt_model_probe": (16384, 1200)}
+PROGRAMS = {"ufmt_conv": (12864, 0), "ufmt_lines": (29400, 0), "ufmt_model_probe": (16384, 1200)}

@@ -1,6 +1,7 @@
 """Compares what each call takes of memory, steps and time with its bounds, on a text of each shape."""
 from typing import NamedTuple
 
+from lib import measures
 from lib.model import bounds, requests, shapes
 from lib.model.features import Features, features, indentation, past_ascii
 from lib.model.model import DEBUG, PlainReader, PrettyReader, plain, pretty
@@ -11,6 +12,8 @@ TIMED_SIZE = 64 * 1024
 # Texts are counted side by side in so many parts.
 PARTS = 4
 SECONDS = 600
+# What calls took when they were measured. Without it, only the bounds of bounds.py hold.
+MEASURED = "texts"
 # And so many for all requests: they take less than one, and with the steps counted less than ten.
 REQUEST_SECONDS = 30
 # The program prints by a request's options to a buffer of so many bytes.
@@ -148,7 +151,31 @@ def counted_faults(counter, program, texts, name, is_counted, seconds):
     if len(lines) != len(texts) or len(counts) < made:
         return ["%d lines and %d counts of %d texts" % (len(lines), len(counts), len(texts))], made, []
     counted, fault = iter(counts), steps_fault if is_counted else memory_fault
-    return [wrong for one, line in zip(texts, lines) for wrong in judged(one, line, counted, fault)], made, lines
+    wrong = [wrong for one, line in zip(texts, lines) for wrong in judged(one, line, counted, fault)]
+    table = measures.Table(MEASURED)
+    if is_counted and table.rows:
+        wrong += table.faults(rows_of(texts, lines, counts), is_whole=False)
+    return wrong, made, lines
+
+
+def rows_of(texts, lines, counts):
+    """The steps of each text's calls, a row for each half of a line. What the marks around a call take isn't in them."""
+    calls = [("%s: %s" % (one.name, half), call) for one, line in zip(texts, lines) for half, call in calls_of(line)]
+    around, rows = min(counts), {}
+    for (name, call), steps in zip(calls, counts):
+        rows.setdefault(name, []).append(("%s: steps" % call, steps - around))
+    return rows
+
+
+def measured_rows(counter, program):
+    """The rows of all texts and requests."""
+    rows = {}
+    for texts in [*(list(samples(COUNTED_SIZE, number)) for number in range(PARTS)), list(map(request_sample, requests.huge()))]:
+        data = b"".join(b"%d\n%s" % (len(one.data), one.data) for one in texts)
+        output, _memory = counter.run([program, "costs"], data, "measured", seconds=SECONDS)
+        steps = counter.steps([program, "costs"], data, "measured", seconds=SECONDS)
+        rows.update(rows_of(texts, output.decode().splitlines(), steps))
+    return rows
 
 
 def request_faults(counter, program, is_counted):

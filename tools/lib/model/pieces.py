@@ -168,9 +168,26 @@ def of_text(document, is_pretty):
     return "pieces printed %s, converted %s" % (digest(printed(document, is_pretty)), digest(converted(document, not is_pretty)))
 
 
-def of_values(document, is_pretty, count):
-    """The pieces of so many values with this document."""
-    return digest(printed(document, is_pretty, of_value) * count if count else b"")
+ZEROS = re.compile(r"(-?)(0*)([0-9]+)(?:(\.)(0*)([0-9]+))?")
+
+
+def with_zeros(text):
+    """The pieces of a number's text that may begin with zeros."""
+    sign, zeros, digits, point, more_zeros, places = (part or "" for part in ZEROS.fullmatch(text).groups())
+    before = by_text(*filter(None, [sign])) + by_character("0") * len(zeros) + by_text(digits)
+    return before + (by_text(point) + by_character("0") * len(more_zeros) + by_text(places) if point else b"")
+
+
+# The letter of `Decimal` among the types that are parsed.
+DECIMAL = "\u0434"
+
+
+def of_values(document, is_pretty, letters):
+    """The pieces of the values with this document, one of each type with a letter here."""
+    if not letters:
+        return digest(b"")
+    value = printed(document, is_pretty, of_value)
+    return digest(b"".join(with_zeros(document) if letter == DECIMAL else value for letter in letters))
 
 
 # ---- Texts with names, leaves and blocks at each bound.

@@ -20,6 +20,7 @@ WORDS = {
     "End": "the end of the text",
 }
 DIGITS = re.compile(rb"[0-9]*")
+DECIMAL = re.compile(rb"-?[0-9]*(?:\.[0-9]*)?")
 FLOAT_BYTES = re.compile(rb"[-.0-9eNainf]*")
 LONGEST_FLOAT = 400
 DEEPEST = 255
@@ -82,6 +83,12 @@ class Texts:
     def float(self, kind, at, _blocks):
         text = FLOAT_BYTES.match(self.data, at)[0].decode()
         if not text or len(text) > LONGEST_FLOAT or not kind.has(text):
+            raise Stop(at, "Number")
+        return at + len(text)
+
+    def decimal(self, kind, at, _blocks):
+        text = DECIMAL.match(self.data, at)[0].decode()
+        if not kind.has(text):
             raise Stop(at, "Number")
         return at + len(text)
 
@@ -204,6 +211,7 @@ class Texts:
 TAKERS = {
     values.Number: Texts.number,
     values.Float: Texts.float,
+    values.Decimal: Texts.decimal,
     values.Word: Texts.word,
     values.Quoted: Texts.quoted,
     values.Choice: Texts.choice,

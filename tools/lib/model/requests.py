@@ -25,7 +25,7 @@ from typing import NamedTuple
 
 from lib.model import floats
 from lib.model.model import Block, add_pretty, plain, pretty, quoted
-from lib.model.pieces import by_character, by_text, digest, of_value, printed
+from lib.model.pieces import by_character, by_text, digest, of_value, printed, with_zeros
 
 REQUEST_PREFIX = b"\0pieces "
 DEEPEST_LISTS = 260
@@ -98,16 +98,6 @@ def hexadecimal(request, number, bits, letter="x"):
     """A number in the radix with this letter."""
     digits = format(number % 2**bits, letter)
     return padded(request, digits.upper() if request.upper_case else digits, letter)
-
-
-ZEROS = re.compile(r"(-?)(0*)([0-9]+)(?:(\.)(0*)([0-9]+))?")
-
-
-def with_zeros(text):
-    """The pieces of a number's text that may begin with zeros."""
-    sign, zeros, digits, point, more_zeros, places = (part or "" for part in ZEROS.fullmatch(text).groups())
-    before = by_text(*filter(None, [sign])) + by_character("0") * len(zeros) + by_text(digits)
-    return before + (by_text(point) + by_character("0") * len(more_zeros) + by_text(places) if point else b"")
 
 
 def with_places(number, places, width):
@@ -323,7 +313,7 @@ def verdict(data):
 
 
 BOUNDS = (0, 1, 31, 32, 33, 63, 64, 65, 127, 128, 129, 255, 256, 257, 1000, 4096)
-FILLS = " *\u00e9\u20ac\U0001f980\0\x7f"
+FILLS = " *0\u00e9\u20ac\U0001f980\0\x7f"
 # What payloads are made of: words, escapes, characters of two to four bytes.
 KINDS = ("a", "ab\n", "\u00e9", "a\"\u20ac", "\x1b'", "\U0001f980")
 OFFSETS = (0, 1, 0xFFFFFF, 0x1000000, 0xFFFFFFF, 0x10000000, 0xFFFFFFDF, 0xFFFFFFFF, 2**32)

@@ -8,6 +8,9 @@ from lib.model import floats
 from lib.model.model import Block, plain, quoted, unquoted
 
 NUMBER = re.compile(r"0|-?[1-9][0-9]*")
+# A sign, the digits of the whole number, and those after a point.
+DECIMAL = re.compile(r"(-?)(0|[1-9][0-9]*)(?:\.([0-9]+))?")
+MOST_PLACES = 255
 # No number of a type has more digits.
 LONGEST = 40
 
@@ -56,6 +59,38 @@ class Float:
         if form < 0.9:
             return floats.debug(bits, self.width) + random.choice("05")
         return random.choice(("4", "4.50", "+4.5", "1E5", "1e5", "-NaN", "nan", "infinity", "-0", ".5", "4."))
+
+
+class Decimal:
+    """A signed number of 64 bits, with a point before its last digits, if there is one."""
+
+    def has(self, document):
+        if not isinstance(document, str) or len(document) > LONGEST + MOST_PLACES:
+            return False
+        found = DECIMAL.fullmatch(document)
+        if not found or len(found[3] or "") > MOST_PLACES:
+            return False
+        value = int(document.replace(".", ""))
+        return -(2**63) <= value < 2**63 and (value != 0 or not found[1])
+
+    def made(self, random):
+        """A number of the type, or one past its bounds, or what is nearly a number."""
+        form, places = random.random(), random.choice((0, 1, 2, 3, 9, 18, 19, 20, random.randrange(256), MOST_PLACES))
+        if form < 0.8:
+            size = random.choice((0, 1, random.randrange(10 ** random.randrange(1, 19)), 2**63 - 1))
+            return decimal_text(random.choice((size, -size, -(2**63))), places)
+        if form < 0.95:
+            return decimal_text(random.choice((2**63, -(2**63) - 1, 2**64 - 1, 2**64, 10**39)), places)
+        if form < 0.97:
+            return decimal_text(random.choice((0, 1, -1)), MOST_PLACES + 1)
+        return random.choice(("-0", "-0.0", "-0.00", "00.5", "01.5", "1.", "-1.", ".5", "-.5", "+1.5", "1.5e5", "1..5", "1.5.5", "1_0.5"))
+
+
+def decimal_text(value, places):
+    """A value with a point before so many of its digits, and zeros before these if there are fewer."""
+    digits = str(abs(value)).rjust(places + 1, "0")
+    whole = len(digits) - places
+    return "-" * (value < 0) + digits[:whole] + ("." + digits[whole:] if places else "")
 
 
 class Word:
@@ -331,6 +366,7 @@ TYPES = {
         *(few(count) for count in range(2, 13)),
     ),
     **row("\u043f\u0440", Float(32), Float(64)),
+    **row("\u0434", Decimal()),
 }
 
 

@@ -31,7 +31,7 @@ def parsed(document, data, is_pretty):
     letters = values.letters(document) if document is not None else ""
     fields = values.fields(document) if document is not None else ""
     errors = digest(places.stops(data, is_pretty))
-    return "types [%s] in pieces %s, fields %s, errors %s" % (letters, pieces.of_values(document, is_pretty, len(letters)), digest(fields), errors)
+    return "types [%s] in pieces %s, fields %s, errors %s" % (letters, pieces.of_values(document, is_pretty, letters), digest(fields), errors)
 
 
 def of_classes(text, document, debug_document, is_pretty):
