@@ -4,8 +4,8 @@
  *   No call takes memory, keeps a pointer or has state, so any thread may make any call. From a library of C
  *   the archive needs `memmove`, and of the compiler's own library `__udivti3`, at most.
  *   The steps of each call are bounded by the sizes of its inputs and of its buffer, and a constant, whatever
- *   values the members of a struct have. Of a width or a row that is longer than what the buffer shows, the
- *   rest is only counted. So a width of SIZE_MAX returns UFMT_FULL at once, also with no buffer.
+ *   values the members of a struct have. Of a width, a row or decimals that are more than what the buffer
+ *   shows, the rest is only counted. So a width of SIZE_MAX returns UFMT_FULL at once, also with no buffer.
  *
  * What each call that writes does
  *   It writes a text to the front of `buffer`, which has `size` bytes. No byte of zero is added.
@@ -41,7 +41,7 @@ extern "C" {
 /* The version of the library, in the same way. */
 uint32_t ufmt_version(void);
 
-/* The input is no text of the kind that the call takes. */
+/* The input is no text of the kind that the call takes, or the line has no such field. */
 #define UFMT_NO_TEXT ((ptrdiff_t)-1)
 /* The text doesn't fit into the buffer. `*detail` is its length, or SIZE_MAX if that is more. */
 #define UFMT_FULL ((ptrdiff_t)-2)
@@ -76,6 +76,16 @@ bool ufmt_is_text(uint32_t text_class, uint32_t mode, const char *input, size_t 
  * to its end. */
 ptrdiff_t ufmt_convert(char *buffer, size_t size, uint32_t text_class, uint32_t to, const char *input, size_t length, size_t *detail);
 
+/* Finds a field in a line of a log, which may be any bytes: of the values in the line, from the left on, the first that is a
+ * struct with this field, where the field is a leaf. A value is a plain text of this class with entries, with anything before
+ * and after it; nothing inside one is looked at. If a struct has several fields with this name, the first counts.
+ * Returns how many bytes the leaf's text has, and `*detail` becomes where it begins: it is at
+ * `line + *detail`, a text in quotes with its quotes. Returns UFMT_NO_TEXT if and only if there is no such field; `*detail`
+ * stays. Returns UFMT_BAD_OPTION if there is no such class, and else UFMT_NOT_UTF8 if the name isn't UTF-8. The
+ * steps of most lines are as their length. With brackets in brackets that make no value they may be up to 256 times that, and in
+ * a line made against it as the square of its length. */
+ptrdiff_t ufmt_field(uint32_t text_class, const char *line, size_t length, const char *name, size_t name_length, size_t *detail);
+
 /* Texts in quotes. */
 
 /* Writes the input in quotation marks, with the escapes that `{:?}` writes; each character past ASCII is
@@ -100,6 +110,10 @@ ptrdiff_t ufmt_signed(char *buffer, size_t size, int64_t number, size_t *detail)
 /* Writes the shortest decimal that reads as the float, as Rust's {:?} does: 1.0, 0.1, 1e-7, 1.5e300, inf, NaN. 24 bytes are
  * enough. No two floats have one text, and all NaN have one. */
 ptrdiff_t ufmt_float(char *buffer, size_t size, double number, size_t *detail);
+/* Writes the float with so many decimals, as Rust's {:.2} does with two: 2.50, -0.00, inf, NaN. Its exact value is rounded,
+ * and of two decimals that are as close the even one is taken. Without decimals there is no point. Any float takes at most
+ * 311 bytes more than its decimals. */
+ptrdiff_t ufmt_float_fixed(char *buffer, size_t size, double number, size_t decimals, size_t *detail);
 
 /* The input is what ufmt_unsigned, ufmt_signed or ufmt_float writes of some number. Leaves that number in
  * `*number`, and returns 0. `*detail` stays. Of any other input it returns UFMT_NO_TEXT, and `*number` stays.
@@ -177,6 +191,10 @@ static inline ptrdiff_t ufmt_convert_or_null(char *buffer, size_t size, uint32_t
     size_t unused = 0;
     return ufmt_convert(buffer, size, text_class, to, input, length, detail ? detail : &unused);
 }
+static inline ptrdiff_t ufmt_field_or_null(uint32_t text_class, const char *line, size_t length, const char *name, size_t name_length, size_t *detail) {
+    size_t unused = 0;
+    return ufmt_field(text_class, line, length, name, name_length, detail ? detail : &unused);
+}
 static inline ptrdiff_t ufmt_quote_or_null(char *buffer, size_t size, const char *input, size_t length, size_t *detail) {
     size_t unused = 0;
     return ufmt_quote(buffer, size, input, length, detail ? detail : &unused);
@@ -200,6 +218,10 @@ static inline ptrdiff_t ufmt_signed_or_null(char *buffer, size_t size, int64_t n
 static inline ptrdiff_t ufmt_float_or_null(char *buffer, size_t size, double number, size_t *detail) {
     size_t unused = 0;
     return ufmt_float(buffer, size, number, detail ? detail : &unused);
+}
+static inline ptrdiff_t ufmt_float_fixed_or_null(char *buffer, size_t size, double number, size_t decimals, size_t *detail) {
+    size_t unused = 0;
+    return ufmt_float_fixed(buffer, size, number, decimals, detail ? detail : &unused);
 }
 static inline ptrdiff_t ufmt_parse_unsigned_or_null(uint64_t *number, const char *input, size_t length, size_t *detail) {
     size_t unused = 0;
@@ -239,12 +261,14 @@ static inline ptrdiff_t ufmt_difference_or_null(char *buffer, size_t size, const
 }
 
 #define ufmt_convert ufmt_convert_or_null
+#define ufmt_field ufmt_field_or_null
 #define ufmt_quote ufmt_quote_or_null
 #define ufmt_unquote ufmt_unquote_or_null
 #define ufmt_unquote_debug ufmt_unquote_debug_or_null
 #define ufmt_unsigned ufmt_unsigned_or_null
 #define ufmt_signed ufmt_signed_or_null
 #define ufmt_float ufmt_float_or_null
+#define ufmt_float_fixed ufmt_float_fixed_or_null
 #define ufmt_parse_unsigned ufmt_parse_unsigned_or_null
 #define ufmt_parse_signed ufmt_parse_signed_or_null
 #define ufmt_parse_float ufmt_parse_float_or_null

@@ -1,6 +1,7 @@
 pub mod CharacterNumbers
 pub mod Fronts
 pub mod NarrowColumns
+pub mod NarrowFixed
 pub mod NarrowDumps
 pub mod NarrowNumbers
 pub mod Puts

@@ -2,6 +2,7 @@ pub mod Calls
 pub mod Conversions
 pub mod DebugQuotes
 pub mod Differences
+pub mod Fields
 pub mod Numbers
 pub mod Options
 pub mod Private

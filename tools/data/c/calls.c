@@ -126,6 +126,16 @@ static void call_is_text(void) {
     free(from.at);
 }
 
+static void call_field(void) {
+    size_t detail = DETAIL;
+    uint32_t text_class = (uint32_t)number();
+    bytes line = input(), name = input();
+    ptrdiff_t result = ufmt_field(text_class, line.at, line.size, name.at, name.size, place(&detail));
+    print(result, detail, (bytes){NULL, 0});
+    free(line.at);
+    free(name.at);
+}
+
 static void call_parse(const char *name) {
     size_t detail = DETAIL;
     bytes left = room(8), from = input();
@@ -150,6 +160,9 @@ static void call_number(const char *name) {
         result = ufmt_unsigned(to.at, to.size, number(), place(&detail));
     } else if (!strcmp(name, "float")) {
         result = ufmt_float(to.at, to.size, float_of(number()), place(&detail));
+    } else if (!strcmp(name, "float_fixed")) {
+        double value = float_of(number());
+        result = ufmt_float_fixed(to.at, to.size, value, number(), place(&detail));
     } else if (!strcmp(name, "signed")) {
         result = ufmt_signed(to.at, to.size, strtoll(word(), NULL, 10), place(&detail));
     } else {
@@ -209,12 +222,14 @@ static void call(const char *name) {
         call_on_bytes(name);
     } else if (!strcmp(name, "is_text")) {
         call_is_text();
+    } else if (!strcmp(name, "field")) {
+        call_field();
     } else if (!strcmp(name, "version")) {
         print(ufmt_version(), DETAIL, (bytes){NULL, 0});
     } else if (!strcmp(name, "parse_unsigned") || !strcmp(name, "parse_signed") || !strcmp(name, "parse_float")) {
         call_parse(name);
-    } else if (!strcmp(name, "unsigned") || !strcmp(name, "signed") || !strcmp(name, "float") || !strcmp(name, "hexadecimal") ||
-               !strcmp(name, "binary")) {
+    } else if (!strcmp(name, "unsigned") || !strcmp(name, "signed") || !strcmp(name, "float") || !strcmp(name, "float_fixed") ||
+               !strcmp(name, "hexadecimal") || !strcmp(name, "binary")) {
         call_number(name);
     } else if (!strcmp(name, "dump") || !strcmp(name, "in_column")) {
         call_styled(name);

@@ -40,6 +40,7 @@ unsafe extern "C" {
     fn ufmt_version() -> u32;
     fn ufmt_is_text(text_class: u32, mode: u32, input: *const u8, length: usize) -> bool;
     fn ufmt_convert(buffer: *mut u8, size: usize, text_class: u32, to: u32, input: *const u8, length: usize, detail: &mut usize) -> isize;
+    fn ufmt_field(text_class: u32, line: *const u8, length: usize, name: *const u8, name_length: usize, detail: &mut usize) -> isize;
     fn ufmt_parse_unsigned(number: &mut u64, input: *const u8, length: usize, detail: &mut usize) -> isize;
     fn ufmt_parse_signed(number: &mut i64, input: *const u8, length: usize, detail: &mut usize) -> isize;
     fn ufmt_quote(to: *mut u8, size: usize, input: *const u8, length: usize, detail: &mut usize) -> isize;
@@ -48,6 +49,7 @@ unsafe extern "C" {
     fn ufmt_unsigned(to: *mut u8, size: usize, number: u64, detail: &mut usize) -> isize;
     fn ufmt_signed(to: *mut u8, size: usize, number: i64, detail: &mut usize) -> isize;
     fn ufmt_float(to: *mut u8, size: usize, number: f64, detail: &mut usize) -> isize;
+    fn ufmt_float_fixed(to: *mut u8, size: usize, number: f64, decimals: usize, detail: &mut usize) -> isize;
     fn ufmt_parse_float(number: &mut f64, input: *const u8, length: usize, detail: &mut usize) -> isize;
     fn ufmt_hexadecimal(to: *mut u8, size: usize, number: u64, style: &HexStyle, detail: &mut usize) -> isize;
     fn ufmt_binary(to: *mut u8, size: usize, number: u64, style: &HexStyle, detail: &mut usize) -> isize;
@@ -106,6 +108,12 @@ fn is_text(words: &mut Words) -> isize {
     let (text_class, mode, input) = (words.number(), words.number(), words.input());
     let (at, length) = from(&input);
     isize::from(unsafe { ufmt_is_text(text_class, mode, at, length) })
+}
+
+fn field(words: &mut Words, detail: &mut usize) -> isize {
+    let (text_class, line, name) = (words.number(), words.input(), words.input());
+    let ((line, length), (name, name_length)) = (from(&line), from(&name));
+    unsafe { ufmt_field(text_class, line, length, name, name_length, detail) }
 }
 
 fn convert(to: *mut u8, size: usize, words: &mut Words, detail: &mut usize) -> isize {
@@ -187,6 +195,10 @@ fn written(name: &str, buffer: &mut Option<Vec<u8>>, words: &mut Words, detail: 
         "unsigned" => unsafe { ufmt_unsigned(to, size, words.number(), detail) },
         "signed" => unsafe { ufmt_signed(to, size, words.number(), detail) },
         "float" => unsafe { ufmt_float(to, size, f64::from_bits(words.number()), detail) },
+        "float_fixed" => {
+            let number = f64::from_bits(words.number());
+            unsafe { ufmt_float_fixed(to, size, number, words.number::<usize>(), detail) }
+        }
         "hexadecimal" => on_number(ufmt_hexadecimal, to, size, words, detail),
         "binary" => on_number(ufmt_binary, to, size, words, detail),
         "convert" => convert(to, size, words, detail),
@@ -204,6 +216,7 @@ fn main() -> io::Result<()> {
         let result = match name.as_str() {
             "version" => (unsafe { ufmt_version() }) as isize,
             "is_text" => is_text(&mut words),
+            "field" => field(&mut words, &mut detail),
             "parse_unsigned" | "parse_signed" | "parse_float" => {
                 let mut left = [FILL; 8];
                 let result = parse(&name, &mut left, &mut words, &mut detail);

@@ -22,6 +22,7 @@ static int numbers(void) {
     right = right && wrote(ufmt_unsigned(buffer, sizeof buffer, 12, NULL), "12") && wrote(ufmt_signed(buffer, sizeof buffer, -12, NULL), "-12");
     right = right && !ufmt_parse_unsigned(&natural, "12", 2, NULL) && !ufmt_parse_signed(&integer, "-12", 3, NULL);
     right = right && wrote(ufmt_float(buffer, sizeof buffer, 1.5, NULL), "1.5") && !ufmt_parse_float(&real, "-0.25", 5, NULL);
+    right = right && wrote(ufmt_float_fixed(buffer, sizeof buffer, 2.675, 2, NULL), "2.67");
     return right && natural == 12 && integer == -12 && real < -0.2 && real > -0.3 && ufmt_parse_unsigned(&natural, "x", 1, NULL) == UFMT_NO_TEXT && natural == 12;
 }
 
@@ -45,5 +46,6 @@ int main(void) {
     int texts = ufmt_is_text(UFMT_DEBUG, UFMT_PLAIN, "[1.5]", 5) && !ufmt_is_text(UFMT_TOKEN, UFMT_PLAIN, "[1.5]", 5) &&
                 wrote(ufmt_convert(buffer, sizeof buffer, UFMT_TOKEN, UFMT_PRETTY, "[1]", 3, NULL), "[\n    1,\n]");
     int quotes = wrote(ufmt_quote(buffer, sizeof buffer, "a\n", 2, NULL), "\"a\\n\"") && wrote(ufmt_unquote(buffer, sizeof buffer, "\"a\\n\"", 5, NULL), "a\n");
-    return texts && quotes && numbers() && padded() && differences() && ufmt_version() == UFMT_VERSION ? 0 : 1;
+    int fields = ufmt_field(UFMT_DEBUG, "got P { x: 1.5 }", 16, "x", 1, NULL) == 3 && ufmt_field(UFMT_DEBUG, "got P { x: 1.5 }", 16, "y", 1, NULL) == UFMT_NO_TEXT;
+    return texts && fields && quotes && numbers() && padded() && differences() && ufmt_version() == UFMT_VERSION ? 0 : 1;
 }

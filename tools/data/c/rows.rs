@@ -54,6 +54,16 @@ fn decimals() {
     }
 }
 
+fn fixed() {
+    let numbers = [0.0, -0.0, 0.5, 1.5, 2.5, 2.675, -1.005, 0.125, 1e21, 5e-324, f64::MAX, f64::MIN_POSITIVE, 9.995, f64::INFINITY, f64::NEG_INFINITY, f64::NAN];
+    for number in numbers {
+        for decimals in [0, 1, 2, 3, 17, 64, 330, 1074, 1100] {
+            let words = [number.to_bits().to_string(), decimals.to_string()];
+            row("float_fixed", &words, &format!("{number:.decimals$}"));
+        }
+    }
+}
+
 fn hexadecimals() {
     let styled = |number: u64, style: [u64; 4], text: String| {
         let words: Vec<String> = [number].iter().chain(&style).map(u64::to_string).collect();
@@ -156,6 +166,7 @@ fn differences() {
 fn main() {
     quotes();
     decimals();
+    fixed();
     hexadecimals();
     binaries();
     columns();

@@ -1,9 +1,11 @@
 """The cases that `tools/try-c` tries: calls of libufmt_c, their arguments, and what each is to do.
 
 What they expect comes from outside: rustc's texts and xxd's dumps in tools/data/c/rows.tsv, the texts of values that rustc
-printed in tools/expected/rows.txt, the model of texts in tools/lib/model/, and Python's own decoding of UTF-8. Texts that are
-longer than any buffer are lists of parts, whose lengths Python adds up as whole numbers of any size.
+printed in tools/expected/rows.txt, the models of texts and of lines in tools/lib/model/ and tools/lib/log_model/, a table of fields as a reader
+sees them in crates/ufmt_values/src/field/tests.rt, and Python's own decoding of UTF-8. Texts that are longer than any buffer are lists
+of parts, whose lengths Python adds up as whole numbers of any size.
 """
+import json
 import pathlib
 import re
 import sys
@@ -15,6 +17,7 @@ sys.setrecursionlimit(20_000)
 
 from lib.expected import rows as expected_rows  # noqa: E402
 from lib.floats import patterns  # noqa: E402
+from lib.log_model import log_model  # noqa: E402
 from lib.model import floats  # noqa: E402
 from lib.model.model import DEBUG, TOKEN, PlainReader, PrettyReader, plain, pretty  # noqa: E402
 
@@ -35,6 +38,7 @@ CALLS = {
     "version": (),
     "is_text": ("uint32_t", "uint32_t", "bytes"),
     "convert": ("buffer", "uint32_t", "uint32_t", "bytes"),
+    "field": ("uint32_t", "bytes", "bytes"),
     "parse_unsigned": ("number", "bytes"),
     "parse_signed": ("number", "bytes"),
     "parse_float": ("number", "bytes"),
@@ -44,6 +48,7 @@ CALLS = {
     "unsigned": ("buffer", "uint64_t"),
     "signed": ("buffer", "int64_t"),
     "float": ("buffer", "double"),
+    "float_fixed": ("buffer", "double", "size_t"),
     "hexadecimal": ("buffer", "uint64_t", "hex"),
     "binary": ("buffer", "uint64_t", "hex"),
     "dump": ("buffer", "bytes", "dump"),
@@ -187,6 +192,46 @@ def version():
     return int(first) * 10_000 + int(second) * 100 + int(third)
 
 
+def field_case(text_class, line, name):
+    """The field with this name in a line, by the model."""
+    asked = (CLASSES[text_class], line, name)
+    try:
+        name.decode()
+    except UnicodeDecodeError as error:
+        return Case("field", asked, result=NOT_UTF8, detail=error.start)
+    found = log_model.field(text_class, line, name)
+    return Case("field", asked, result=NO_TEXT) if found is None else Case("field", asked, result=len(found[1]), detail=found[0])
+
+
+# A class, a line, a field's name, and its text.
+FIELD_ROW = re.compile(r'\(\s*Class::(Token|Debug),\s*("(?:[^"\\]|\\.)*"),\s*("[^"]*"),\s*(?:None|Some\(("(?:[^"\\]|\\.)*")\)),?\s*\)')
+LEAST_FIELDS = 40
+# A text has at most 255 brackets around a leaf.
+DEEP = (254, 255, 256, 300)
+
+
+def fields():
+    """The table of fields; lines that are cut, or longer, or have one byte changed; lines with many brackets; names that aren't UTF-8."""
+    table = FIELD_ROW.findall((TOP / "crates" / "ufmt_values" / "src" / "field" / "tests.rt").read_text())
+    if len(table) < LEAST_FIELDS:
+        raise ValueError("only %d rows of fields" % len(table))
+    for class_name, *texts in table:
+        text_class = {"Token": TOKEN, "Debug": DEBUG}[class_name]
+        line, name, wanted = (json.loads(text or "null") for text in texts)
+        case = field_case(text_class, line.encode(), name.encode())
+        yield case._replace(result=NO_TEXT, detail=None) if wanted is None else case._replace(result=len(wanted.encode()))
+        yield from (field_case(other, line.encode() + end, name.encode()) for other in CLASSES for end in (b"", b" ", b"\xff", b" S { %s: -1 }" % name.encode()))
+    for line, name in ((b"at [1]: P { x: 7, y: \"a\", .. } {", b"x"), (b"f(2) Q { z: (1, 2), y: -2 }", b"y")):
+        changed = [line[:at] for at in range(len(line))]
+        changed += [line[:at] + bytes([byte]) + line[at + 1 :] for at in range(len(line)) for byte in (0x20, 0x22, 0x2C, 0x7F, 0xFF)]
+        yield from (field_case(text_class, data, name) for text_class in CLASSES for data in changed)
+    for opened in (b"[", b"(", b"{", b"a(", b"A { x: ", b"[S { x: 1 }, "):
+        for count in (20, *DEEP) if opened == b"[" else (20, 40):
+            yield from (field_case(DEBUG, opened * count + end, b"x") for end in (b"", b"]", b" S { x: 1 }", b"1" + b"]" * count))
+    for name in NOT_TEXTS:
+        yield from (field_case(text_class, b"S { " + name + b": 1 }", name) for text_class in CLASSES)
+
+
 # How a character is spelled between quotation marks, and whole characters at the front of a text in quotation marks.
 SPELLED = r'(?:\\(?:[0tnr"\\]|u\{(?:[1-8]|[bcef]|1[0-9a-f]|7f)\})|[^\x00-\x1f"\\\x7f])*'
 # As Rust prints them, any character may be written by its number.
@@ -314,6 +359,9 @@ def refusals():
         for data in (b"", b"1", b"[1]"):
             yield Case("convert", (text_class, mode, data), result=BAD_OPTION)
             yield Case("is_text", (text_class, mode, data), result=0)
+    for text_class in (2, 3, 255, 256, 2**31, 2**32 - 1):
+        for name in (b"x", b"", b"\xff"):
+            yield Case("field", (text_class, b"S { x: 1 }", name), result=BAD_OPTION)
     yield Case("version", (), result=version())
 
 
@@ -363,6 +411,23 @@ def column_case(text, width, fill, align):
     return long_text("in_column", (text.encode(), style("column", width, ord(fill), align)), parts)
 
 
+# No float has more decimals that aren't 0.
+MOST_DECIMALS = 1074
+
+
+def fixed_case(bits, decimals):
+    """A float with so many decimals."""
+    text, more = floats.fixed(bits, 64, min(decimals, MOST_DECIMALS)).encode(), max(decimals - MOST_DECIMALS, 0)
+    parts = [(text, 1), (b"0", more * text[-1:].isdigit())]
+    return long_text("float_fixed", (bits, decimals), parts)
+
+
+def many_decimals():
+    for bits in FLOATS:
+        for decimals in (*HUGE, 0, 1, 2, 16, 17, 18, 19, 63, 64, 65, MOST_DECIMALS - 1, MOST_DECIMALS, MOST_DECIMALS + 1, 2000):
+            yield fixed_case(bits, decimals)
+
+
 def wide_columns():
     for text in ("", "a", "\u00e9\u20ac", "a\U0001f980" * 15):
         for fill in ("\0", " ", "0", "\u00e9", "\u20ac", "\U0010ffff"):
@@ -401,10 +466,10 @@ def wide_dumps():
 
 def huge_options():
     """Each option of each call where a text may be longer than any buffer, up to the largest number."""
-    return [*wide_numbers(), *wide_columns(), *wide_dumps()]
+    return [*wide_numbers(), *many_decimals(), *wide_columns(), *wide_dumps()]
 
 
 def all_cases(calls):
     """Every case of these calls, but for those of `huge_options`."""
-    made = [*stored(), *conversions(), *as_rustc_printed(), *refusals(), *misquoted(), *misread(), *floats_both_ways()]
+    made = [*stored(), *conversions(), *as_rustc_printed(), *fields(), *refusals(), *misquoted(), *misread(), *floats_both_ways()]
     return [case for case in made if case.call in calls]

@@ -1,5 +1,6 @@
 """Random cases of every call of libufmt_c, the same ones for each seed. What they expect comes from outside, as in `lib/c/cases.py`."""
 import random
+import re
 
 from lib.c import cases
 from lib.c.cases import BAD_OPTION, NO_TEXT, NOT_UTF8, SIZE_MAX, Case, style
@@ -14,6 +15,9 @@ LONGEST, LONGEST_QUOTED = 200, 60
 TRIES = 4
 # Of each so many cases with options one has an option that means nothing.
 WRONG_EACH = 12
+# What a logger writes around a value, and a field's name.
+AROUND = (b" ", b"12:00:01 INFO app: ", b"k=", b" took=1.5ms", b", ", b"run{id=3}: ", b"[", b" {", b"S { x: 1 }")
+FIELD_NAME = re.compile(rb"([^\x00-\x20\"'(),\[\]{}]+): ")
 
 
 class RandomCases:
@@ -24,7 +28,7 @@ class RandomCases:
     def made(self, count):
         """So many cases: a conversion and the test of the same bytes, and a case of each other call in turn."""
         kinds = (self.conversion, self.quoted, self.conversion, self.unquoted, self.conversion, self.number, self.conversion,
-                 self.based, self.dump, self.conversion, self.column, self.difference, self.number_read, self.float)
+                 self.based, self.dump, self.conversion, self.column, self.difference, self.number_read, self.float, self.field)
         found = []
         while len(found) < count:
             for kind in kinds:
@@ -82,6 +86,15 @@ class RandomCases:
         modes = (("plain", "pretty"), ("pretty", "plain"))
         mode, other = modes[1] if b"\n" in data and self.random.randrange(9) else self.random.choice(modes)
         return cases.converted(self.random.choice((TOKEN, DEBUG)), mode, other, data)
+
+    def field(self):
+        """A field that the line has, or nearly has: one of a document in it, with anything before and after."""
+        line = b"".join(self.random.choice((self.document, self.document, lambda: self.random.choice(AROUND), lambda: self.data(8)))() for _ in range(self.random.randint(1, 4)))
+        names = [name for name in FIELD_NAME.findall(line)] or [b"x"]
+        name = self.random.choice(names) if self.random.randrange(5) else self.data(8)
+        if self.is_wrong():
+            return [Case("field", (self.random.getrandbits(32) | 2, line, name), result=BAD_OPTION)]
+        return [cases.field_case(self.random.choice((TOKEN, DEBUG)), line, name)]
 
     def quoted(self):
         data = self.data(LONGEST)
@@ -155,7 +168,8 @@ class RandomCases:
         bits = self.random.choice((self.random.getrandbits(64), floats.reads("%d.5" % self.random.randrange(10**6), 64)))
         text = floats.debug(bits, 64).encode()
         read = text + self.random.choice((b"", b"", b",", b"0", b".", self.random.randbytes(1)))
-        return Case("float", (bits,), text=text), cases.float_read(read)
+        decimals = self.random.choice((self.random.randrange(30), self.whole_number(SIZE_MAX)))
+        return Case("float", (bits,), text=text), cases.float_read(read), cases.fixed_case(bits, decimals)
 
     def number_read(self):
         sign, digits = self.random.choice((b"", b"", b"-", b"+")), b"%d" % self.whole_number(SIZE_MAX)

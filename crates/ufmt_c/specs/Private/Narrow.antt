@@ -1,5 +1,7 @@
 -- Texts with less width than was asked for, which show the same in a buffer.
 use Rattle.std.specs.Prelude.{◌≡◌, ℕ, ◌+◌, ◌-◌, if◌then◌else◌, List, length, take}
+use Rattle.ufmt.specs.declared.column.Align.TheVariants.{Left}
+use Rattle.ufmt.specs.declared.column.Column.{Column}
 use Rattle.ufmt.specs.Dump.{bytes_per_group, bytes_per_row, digits_width}
 use Rattle.ufmt.specs.declared.dump.HexDump.{HexDump}
 use Rattle.ufmt_c.specs.Calls.{reported}
@@ -16,3 +18,7 @@ row_width dump = digits_width (bytes_per_group dump) (bytes_per_row dump)
 -- how many spaces more a row of the dump has than one of this length, where both are longer than their bytes
 abbrev pub left_out : HexDump → ℕ → ℕ
 left_out dump per_row = if dump.ascii then row_width dump - row_width (record dump { per_row = per_row }) else 0
+
+-- a column that without a text has so many zeros
+abbrev pub zeros_column : ℕ → Column
+zeros_column width = record { width = width; align = Left; fill = 48 }
