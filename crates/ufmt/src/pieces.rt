@@ -179,7 +179,7 @@ macro_rules! wrong_piece {
         compile_error!(concat!("needs a kind, items and `between s`: `each ", stringify!($($other)*), "`"))
     };
     (row $($other:tt)*) => {
-        compile_error!(concat!("no piece, or no comma after it: `", stringify!($($other)*), "`"))
+        compile_error!(concat!("no piece, or no comma after it, or no parentheses around a value before `with`, `to` or `in`: `", stringify!($($other)*), "`"))
     };
 }
 

@@ -17,6 +17,7 @@ mod session;
 mod shared;
 mod structs;
 mod table;
+mod valve_log;
 
 pub use by_hand::{InPrettyMode, Meter, Port, Ports, Scores, Temperature, Users};
 pub use clock::{Time, write_status, write_time};
@@ -33,3 +34,4 @@ pub use session::Session;
 pub use shared::{Link, Window};
 pub use structs::{Braces, I32, Nested, Pair, Parens, Tuple, X};
 pub use table::{Counter, write_row};
+pub use valve_log::{log_valve, write_valve};
