@@ -8,7 +8,8 @@ use Rattle.ufmt.specs.Leaves.{begins_with, is_name_byte, is_opening}
 use Rattle.ufmt_lines.proofs.ConvertedSteps.{convert, given_text, no_bracket, no_value, value_step}
 use Rattle.ufmt_lines.proofs.FirstBrackets.{FirstBracket, Without, first_bracket, without_append}
 use Rattle.ufmt_lines.proofs.ValueStarts.{Apart, could_be_later, from_bracket, start_after, start_is, start_later}
-use Rattle.ufmt_lines.specs.Values.{convert_from, if_pretty, is_in_struct, stays, value_from, value_start, value_text}
+use Rattle.ufmt_lines.specs.Values.{convert_from, if_pretty, stays, value_text}
+use Rattle.ufmt_values.specs.Values.{is_in_struct, value_from, value_start}
 use Rattle.ufmt_lines.specs.declared.run.conversion.Conversion.{Conversion}
 use Rattle.ufmt_scan.specs.Fronts.{has_one_leaf}
 
@@ -39,7 +40,7 @@ module _ (conversion : Conversion) (y : List ℕ) (c : ℕ) (none : Without is_o
     same_stays : (d : Document) (size : ℕ) → stays conversion ((front ++ z) ++ k ∷ r) 0 (length (front ++ z)) d size ≡ stays conversion (z ++ k ∷ r) 0 (length z) d size
     same_stays d size = ap (λ b. if_pretty conversion.to (nat_le size conversion.longer_than || has_one_leaf d || b)) (could_be_later y c z k r no_name spaced)
 
-    -- at a bracket, both go on alike
+    -- at a bracket, both are converted in the same way
     bracket_apart : (n : ℕ) → convert conversion (suc n) (front ++ (z ++ k ∷ r)) ≡ front ++ convert conversion (suc n) (z ++ k ∷ r)
     bracket_apart n = ap (convert conversion (suc n)) (sym (append_assoc front z (k ∷ r))) ∙ go (value_from conversion.to (from_bracket conversion.to z k r)) refl
       where

@@ -15,13 +15,14 @@ use Rattle.ufmt_lines.proofs.ApartTexts.{converted_apart}
 use Rattle.ufmt_lines.proofs.BlockTexts.{BlockTexts, block_texts, entries_block}
 use Rattle.ufmt_lines.proofs.ConvertedSteps.{convert, no_bracket, no_value, value_step, value_whole}
 use Rattle.ufmt_lines.proofs.FirstBrackets.{FirstBracket, Without, first_bracket, one_first, without_append, without_drop}
-use Rattle.ufmt_lines.proofs.FoundValues.{front_value, value_entries, value_read}
+use Rattle.ufmt_values.proofs.FoundValues.{front_value, value_entries, value_read}
 use Rattle.ufmt_lines.proofs.Heads.{opening_no_name, opening_no_space}
 use Rattle.ufmt_lines.proofs.PrettyInside.{first_line, same_struct, was_there}
 use Rattle.ufmt_lines.proofs.StillTexts.{Still, block_of, cut_assoc, still_at, still_rest, still_same}
 use Rattle.ufmt_lines.proofs.ValueStarts.{Apart, could_be_is, from_bracket, start_after, start_same}
 use Rattle.ufmt_lines.specs.OutputLaws.{PlainTextsComeBack, plain_with, pretty_with}
-use Rattle.ufmt_lines.specs.Values.{convert_from, could_be_struct, is_after_name, is_in_struct, stays, value_from, value_text}
+use Rattle.ufmt_lines.specs.Values.{convert_from, could_be_struct, stays, value_text}
+use Rattle.ufmt_values.specs.Values.{is_after_name, is_in_struct, value_from}
 use Rattle.ufmt_scan.specs.Fronts.{begins_with_field, has_entries, has_one_leaf}
 
 -- a document that was found, with entries, is read again from its pretty text, whatever follows it
@@ -174,7 +175,7 @@ module _ (limit : ℕ) where
         (subst (Back (((y ++ (b.ends Plain).front) ++ (b.ends Plain).last ∷ []) ++ later)) (sym (whole ∙ closed rest))
         (part_back n (b.ends Plain).last rest (b.ends Plain).apart back (length (y ++ (b.ends Plain).front)) (y ++ (b.ends Plain).front) (omega arith) (subst (Still limit) (whole ∙ closed rest) still)))
 
-    -- the bytes around the bracket
+    -- the bytes before and after the bracket
     cut : (drop start z ≡ b.head) × (k ≡ b.bracket) × (r ≡ b.plain_tail ++ rest)
     cut = one_first (drop start z) b.head k b.bracket r (b.plain_tail ++ rest) (without_drop is_opening start z none) b.none opens b.opens
         (found.whole ∙ ap (λ t. t ++ rest) b.plain ∙ append_assoc b.head (b.bracket ∷ b.plain_tail) rest)

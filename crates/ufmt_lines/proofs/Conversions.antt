@@ -1,10 +1,11 @@
 -- What a text is converted to, from one bracket to the next.
-use Rattle.std.proofs.Common.{◌≡◌, ◌∙◌, refl, ap, sym, subst, ℕ, zero, suc, List, [], ◌∷◌, ◌++◌, append_assoc, ◌+◌, ◌-◌, ◌<◌, ◌≤◌, nat_lt, Bool, true, false, cond, Option, Some, None, drop, take, length, length-drop, arith}
+use Rattle.std.proofs.Common.{◌≡◌, ◌∙◌, refl, ap, sym, subst, ℕ, zero, suc, List, ◌++◌, append_assoc, ◌+◌, ◌-◌, ◌<◌, ◌≤◌, nat_lt, true, false, cond, Some, None, drop, length, length-drop, arith}
 use Rattle.std.proofs.lemmas.Bool.Decides.{nat_tests}
 use Rattle.ufmt.specs.Document.{Document}
 use Rattle.ufmt.specs.Layout.{layout, setting}
 use Rattle.ufmt_lines.proofs.FoundValues.{same_text}
-use Rattle.ufmt_lines.specs.Values.{before_bracket, bytes_between, convert_bracket, convert_from, convert_value, stays, value_from, value_start, value_text}
+use Rattle.ufmt_lines.specs.Values.{bytes_between, convert_bracket, convert_from, convert_value, stays, value_text}
+use Rattle.ufmt_values.specs.Values.{before_bracket, value_from, value_start}
 use Rattle.ufmt_lines.specs.declared.run.conversion.Conversion.{Conversion}
 
 module _ (conversion : Conversion) (text : List ℕ) (at : ℕ) where

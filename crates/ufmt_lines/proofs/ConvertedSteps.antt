@@ -10,10 +10,11 @@ use Rattle.ufmt_grammar.proofs.ReadingTurns.{read_takes}
 use Rattle.ufmt_grammar.specs.declared.class.Class.TheVariants.{Debug}
 use Rattle.ufmt_lines.proofs.Conversions.{bracket_stays, rest_stays, value_ends}
 use Rattle.ufmt_lines.proofs.FirstBrackets.{FirstBracket, Without, before_first, before_none, first_bracket}
-use Rattle.ufmt_lines.proofs.FoundValues.{value_read}
+use Rattle.ufmt_values.proofs.FoundValues.{value_read}
 use Rattle.ufmt_lines.proofs.Rests.{rest_converted}
 use Rattle.ufmt_lines.proofs.ValueStarts.{from_bracket, start_after, start_is, start_within}
-use Rattle.ufmt_lines.specs.Values.{before_bracket, bytes_between, convert_from, is_in_struct, stays, value_from, value_text}
+use Rattle.ufmt_lines.specs.Values.{bytes_between, convert_from, stays, value_text}
+use Rattle.ufmt_values.specs.Values.{before_bracket, is_in_struct, value_from}
 use Rattle.ufmt_lines.specs.declared.run.conversion.Conversion.{Conversion}
 use Rattle.ufmt_scan.specs.Texts.{other_mode}
 

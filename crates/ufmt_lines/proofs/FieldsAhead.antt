@@ -16,7 +16,7 @@ use Rattle.ufmt_grammar.specs.declared.class.Class.TheVariants.{Debug}
 use Rattle.ufmt_lines.proofs.FirstBrackets.{Without, front_before, passes_not, without_append}
 use Rattle.ufmt_lines.proofs.FoundValues.{some_from}
 use Rattle.ufmt_lines.proofs.Heads.{leaf_or_head, name_without_openings}
-use Rattle.ufmt_lines.specs.Values.{is_in_struct}
+use Rattle.ufmt_values.specs.Values.{is_in_struct}
 use Rattle.ufmt_scan.specs.Fronts.{begins_with_field}
 
 -- a name, a colon and a space, and no closing brace after them

@@ -1,9 +1,9 @@
 -- A text up to its first opening bracket.
-use Rattle.std.proofs.Common.{◌≡◌, ◌⊎◌, inl, inr, ◌∙◌, refl, ap, sym, ℕ, zero, suc, Bool, true, false, cond, List, [], ◌∷◌, ◌++◌, append_assoc, drop, take, length, get_or}
+use Rattle.std.proofs.Common.{◌≡◌, ◌⊎◌, inl, inr, ◌∙◌, refl, ap, sym, ℕ, zero, suc, Bool, true, false, cond, List, [], ◌∷◌, ◌++◌, append_assoc, drop, length, get_or}
 use Rattle.std.proofs.lemmas.Bool.{true≢false}
 use Rattle.std.specs.Prelude.{⊤}
 use Rattle.ufmt.specs.Leaves.{is_opening}
-use Rattle.ufmt_lines.specs.Values.{before_bracket}
+use Rattle.ufmt_values.specs.Values.{before_bracket}
 
 -- no byte of the text passes the test
 abbrev pub Without : (ℕ → Bool) → List ℕ → Type 0

@@ -1,12 +1,10 @@
 -- A value that is found, and its text in the other mode.
-use Rattle.std.proofs.Common.{◌≡◌, ◌∙◌, refl, ap, sym, ℕ, List, ◌++◌, Bool, true, false, Option, Some, None, option_and_then, option_map, Ok, Err, is_some, ◌<◌, ◌≤◌, length, length-append, length-drop, cond, take, drop, arith}
+use Rattle.std.proofs.Common.{◌≡◌, ◌∙◌, refl, ap, sym, ℕ, List, ◌++◌, true, Option, Some, None, option_map, Ok, Err, is_some, ◌≤◌, length, length-append, length-drop, take, drop, arith}
 use Rattle.std.proofs.lemmas.Bool.{false≢true}
 use Rattle.std.proofs.Math.Seq.{take-append_seam}
 use Rattle.std.specs.Prelude.{⊤}
 use Rattle.ufmt_grammar.proofs.NormalForms.{layout-normal}
-use Rattle.ufmt_grammar.proofs.Parsing.{same_parts}
 use Rattle.ufmt_grammar.proofs.ReadingSound.{read_sound, Found}
-use Rattle.ufmt_grammar.proofs.ReadingTurns.{read_takes}
 use Rattle.ufmt_grammar.proofs.ReadingWhole.{reads_each_text, reads_only_texts}
 use Rattle.ufmt.specs.Document.{Document}
 use Rattle.ufmt.specs.Layout.{layout, setting}
@@ -15,14 +13,11 @@ use Rattle.ufmt.specs.Reading.{read_text}
 use Rattle.ufmt.specs.Token.{IsDebugDocument, normal}
 use Rattle.ufmt_core.specs.declared.layout.Mode.{Mode}
 use Rattle.ufmt_lines.specs.Private.Converted.{converted}
-use Rattle.ufmt_lines.specs.Private.FoundValues.{IsFoundValue}
 use Rattle.ufmt_lines.specs.Private.GroupOutput.{output_bytes, output_seen}
-use Rattle.ufmt_lines.specs.Values.{if_entries, value_from}
 use Rattle.ufmt_lines.specs.declared.run.output.GroupOutput.{GroupOutput}
-use Rattle.ufmt_scan.specs.Fronts.{IsFront, has_entries, read_front}
+use Rattle.ufmt_scan.specs.Fronts.{read_front}
 use Rattle.ufmt_scan.specs.Texts.{ConvertsTo, IsConverted, other_mode}
 use Rattle.ufmt_scan.specs.declared.scan.event.ScanError.TheVariants.{NotText}
-use Rattle.ufmt_scan.specs.declared.text.FrontText.{FrontText}
 
 -- the normal form is read from the text
 form_is_read : (mode : Mode) (text : List ℕ) (d : Document) → IsDebugDocument d → layout (setting mode 0) d ≡ text → read_text Debug mode text ≡ Some (normal d)
@@ -91,62 +86,5 @@ module _ (to : Mode) (text : List ℕ) (d : Document) (size : ℕ) (within : siz
       ap (λ t. option_map (layout (setting to 0)) (read_text Debug (other_mode to) t)) front_is
       ∙ ap (option_map (layout (setting to 0))) (reads_each_text Debug (other_mode to) d (found.tokens, found.nests) ∙ ap Some found.is_normal)
 
--- it has a byte
-takes_some : (to : Mode) (text : List ℕ) (d : Document) (size : ℕ) → size ≤ length text → read_front Debug (other_mode to) text ≡ Some (d, drop size text) → 0 < size
-takes_some to text d size within is =
-    let fewer = (read_takes Debug (setting (other_mode to) 0) 255).takes text d (drop size text) is in
-    let left = length-drop size text in
-    omega (arith, fewer, left, within)
-
--- a value is what was read, if that is a block with entries
-module _ (to : Mode) (text : List ℕ) where
-  pub no_front : read_front Debug (other_mode to) text ≡ None → value_from to text ≡ None
-  no_front none = ap (option_and_then if_entries) none
-
-  module _ (front : FrontText) (is : IsFront Debug (other_mode to) text front) where
-    read_as : value_from to text ≡ if_entries (is.document, drop front.len text)
-    read_as = ap (option_and_then if_entries) is.is_read
-
-    pub value_found : front.has_entries ≡ true → IsFoundValue to text front
-    value_found some = record {
-      document = is.document;
-      some = takes_some to text is.document front.len is.within is.is_read;
-      within = is.within;
-      is = read_as ∙ ap (λ b. cond b (Some (is.document, drop front.len text)) None) (sym is.entries ∙ some);
-      leaf = is.leaf;
-    }
-
-    pub no_entries : front.has_entries ≡ false → value_from to text ≡ None
-    no_entries none = read_as ∙ ap (λ b. cond b (Some (is.document, drop front.len text)) None) (sym is.entries ∙ none)
-
-  -- and it was read from the front
-  if_entries_from : (o : Option (Document × List ℕ)) (d : Document) (rest : List ℕ) → option_and_then if_entries o ≡ Some (d, rest) → o ≡ Some (d, rest)
-  if_entries_from None d rest h = absurd (cc)
-  if_entries_from (Some x) d rest h = go (has_entries x.0) h
-    where
-      go : (b : Bool) → cond b (Some x) None ≡ Some (d, rest) → Some x ≡ Some (d, rest)
-      go true k = k
-      go false k = absurd (cc)
-
-  pub value_read : (d : Document) (rest : List ℕ) → value_from to text ≡ Some (d, rest) → read_front Debug (other_mode to) text ≡ Some (d, rest)
-  value_read d rest h = if_entries_from _ d rest h
-
 pub same_text : (a b : List ℕ) → Some a ≡ Some b → a ≡ b
 same_text a b h = cc
-
--- a value has entries
-module _ (to : Mode) (text : List ℕ) (d : Document) (rest : List ℕ) where
-  entries_from : (o : Option (Document × List ℕ)) → option_and_then if_entries o ≡ Some (d, rest) → has_entries d ≡ true
-  entries_from None h = absurd (cc)
-  entries_from (Some x) h = go (has_entries x.0) refl h
-    where
-      go : (b : Bool) → has_entries x.0 ≡ b → cond b (Some x) None ≡ Some (d, rest) → has_entries d ≡ true
-      go true is k = ap has_entries (sym (same_parts x (d, rest) k).0) ∙ is
-      go false is k = absurd (cc)
-
-  pub value_entries : value_from to text ≡ Some (d, rest) → has_entries d ≡ true
-  value_entries h = entries_from (read_front Debug (other_mode to) text) h
-
-  -- and what is read with entries is a value
-  pub front_value : read_front Debug (other_mode to) text ≡ Some (d, rest) → has_entries d ≡ true → value_from to text ≡ Some (d, rest)
-  front_value read entries = ap (option_and_then if_entries) read ∙ ap (λ b. cond b (Some (d, rest)) None) entries

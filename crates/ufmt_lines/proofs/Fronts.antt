@@ -14,7 +14,7 @@ module _ (mode : Mode) where
   no_first : (text : List ℕ) → AreFirstGroups mode [] text text
   no_first text = λ more. refl
 
-  first_before : (groups : List (List ℕ)) (text rest more : List ℕ) → AreFirstGroups mode groups text rest → AreFirstGroups mode groups (text ++ more) (rest ++ more)
+  pub first_before : (groups : List (List ℕ)) (text rest more : List ℕ) → AreFirstGroups mode groups text rest → AreFirstGroups mode groups (text ++ more) (rest ++ more)
   first_before groups text rest more first = λ others.
       ap (groups_of mode) (append_assoc text more others) ∙ first (more ++ others) ∙ ap (λ t. groups ++ groups_of mode t) (sym (append_assoc rest more others))
 
@@ -87,13 +87,18 @@ module _ (conversion : Conversion) where
   written_if_full text middle rest outputs left first second third before more (inr (none, written)) =
       (rest, front_then text middle rest first second third before (gathered_written middle rest outputs second third more written), subst (Gathers conversion rest rest []) (sym none) (nothing_gathered rest []))
 
-  -- the outputs for the groups that ended in a line were gathered
-  pub line_gathered : (middle group line after rest left first outputs more : List ℕ) → rest ≡ line ++ after → Gathers conversion middle (group ++ rest) first outputs
-      → Gathers conversion (group ++ line) left outputs more → Gathers conversion middle (left ++ after) first more
-  line_gathered middle group line after rest left first outputs more is before ended =
-      let cut : group ++ rest ≡ (group ++ line) ++ after = ap (λ t. group ++ t) is ∙ sym (append_assoc group line after) in
-      gathered_then middle (group ++ rest) (left ++ after) first outputs more before
-      (subst (λ t. Gathers conversion t (left ++ after) outputs more) (sym cut) (gathered_before (group ++ line) left after outputs more ended))
+  -- the same, if the front is followed by more
+  pub with_rest : (group front after rest left outputs more : List ℕ) → rest ≡ front ++ after → Gathers conversion (group ++ front) left outputs more → Gathers conversion (group ++ rest) (left ++ after) outputs more
+  with_rest group front after rest left outputs more is ended =
+      let cut : group ++ rest ≡ (group ++ front) ++ after = ap (λ t. group ++ t) is ∙ sym (append_assoc group front after) in
+      subst (λ t. Gathers conversion t (left ++ after) outputs more) (sym cut) (gathered_before (group ++ front) left after outputs more ended)
+
+  -- the outputs for the groups that ended in some lines were gathered
+  pub lines_more : (middle group lines left_group left last first outputs more : List ℕ) → Gathers conversion middle (group ++ (lines ++ last)) first outputs
+      → Gathers conversion (group ++ lines) (left_group ++ left) outputs more → Gathers conversion middle (left_group ++ (left ++ last)) first more
+  lines_more middle group lines left_group left last first outputs more before ended =
+      subst (λ t. Gathers conversion middle t first more) (append_assoc left_group left last)
+      (gathered_then middle (group ++ (lines ++ last)) ((left_group ++ left) ++ last) first outputs more before (with_rest group lines last (lines ++ last) (left_group ++ left) outputs more refl ended))
 
   -- all that was gathered was written
   pub all_written : (text middle rest outputs : List ℕ) (first second third : Option (List ℕ)) → WritesFront conversion text middle first second

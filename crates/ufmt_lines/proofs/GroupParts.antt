@@ -10,13 +10,14 @@ use Rattle.ufmt.specs.Bytes.{line_feed, opening_brace, space}
 use Rattle.ufmt.specs.Leaves.{begins_with, is_ender, is_name_byte, is_opening}
 use Rattle.ufmt_lines.proofs.Heads.{name_no_ender, opening_no_ender}
 use Rattle.ufmt_lines.proofs.LineEnds.{front_in_line, front_indented, opens_long, rest_ended, word_within}
-use Rattle.ufmt_lines.proofs.PlainCuts.{BeginsAnew, EndsLine, Parts, Turns}
+use Rattle.ufmt_lines.proofs.PlainCuts.{BeginsAnew, Parts, Turns}
 use Rattle.ufmt_lines.proofs.PrettyInside.{last_of, last_same, two_fronts}
 use Rattle.ufmt_lines.proofs.Rests.{run_within}
 use Rattle.ufmt_lines.proofs.SteepTexts.{InLine}
 use Rattle.ufmt_lines.specs.Groups.{IsInLine, is_indented, is_spaced_brace, opens, word_start}
 use Rattle.ufmt_lines.specs.Private.Group.{IsEndedLine}
-use Rattle.ufmt_lines.specs.Values.{run_start}
+use Rattle.ufmt_lines.specs.Private.WholeLines.{EndsLine}
+use Rattle.ufmt_values.specs.Values.{run_start}
 
 -- ---- bytes of a word
 

@@ -107,7 +107,7 @@ pub opening_no_ender : (c : ℕ) → is_opening c ≡ true → is_ender c ≡ fa
 opening_no_ender c h = each_opening (λ b. is_ender b ≡ false) refl refl refl c h
 
 -- no name has an opening bracket
-name_no_opening : (c : ℕ) → is_name_byte c ≡ true → is_opening c ≡ false
+pub name_no_opening : (c : ℕ) → is_name_byte c ≡ true → is_opening c ≡ false
 name_no_opening c h = go (is_opening c) refl
   where
     go : (b : Bool) → is_opening c ≡ b → is_opening c ≡ false

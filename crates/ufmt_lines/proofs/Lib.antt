@@ -1,5 +1,4 @@
 pub mod LineLengths
-pub mod NameBytes
 pub mod FirstBytes
 pub mod LineEnds
 pub mod Groups
@@ -33,5 +32,6 @@ pub mod GroupParts
 pub mod WholeOutputs
 pub mod WorkedOutputs
 pub mod Words
-pub mod WithoutEntries
 pub mod Unclosed
+pub mod LinesTogether
+pub mod OpenBlocks

@@ -9,7 +9,7 @@ use Rattle.ufmt.specs.Bytes.{line_feed, opening_brace, space}
 use Rattle.ufmt.specs.Leaves.{is_name_byte, is_opening}
 use Rattle.ufmt_lines.specs.Groups.{IsInLine, is_indented, is_spaced_brace, opens, word_start}
 use Rattle.ufmt_lines.specs.Private.Group.{IsEndedLine}
-use Rattle.ufmt_lines.specs.Values.{run_start}
+use Rattle.ufmt_values.specs.Values.{run_start}
 
 no_feed : (a b : ℕ) (c : Bool) → a ≢ b → ((a == b) && c) ≡ false
 no_feed a b c apart = elim (eqb_tells a b) [ inl h ↦ absurd (apart h.1) | inr h ↦ rw h.0 refl ]

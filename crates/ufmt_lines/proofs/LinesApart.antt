@@ -14,7 +14,8 @@ use Rattle.ufmt_lines.proofs.ReadLines.{field_in_line, no_value_in_line, value_i
 use Rattle.ufmt_lines.proofs.ValueStarts.{Apart, could_be_is, from_bracket, start_after, start_within}
 use Rattle.ufmt_lines.specs.OutputLaws.{pretty_with}
 use Rattle.ufmt_lines.specs.Private.LineLen.{is_line_feed}
-use Rattle.ufmt_lines.specs.Values.{if_pretty, is_after_name, is_in_struct, output_of, stays, value_from, value_text}
+use Rattle.ufmt_lines.specs.Values.{if_pretty, output_of, stays, value_text}
+use Rattle.ufmt_values.specs.Values.{is_after_name, is_in_struct, value_from}
 use Rattle.ufmt_scan.specs.Fronts.{has_one_leaf}
 
 line_feed_apart : Apart line_feed
@@ -59,7 +60,7 @@ module _ (limit : ℕ) where
         (could_be_is z k more ∙ ap (λ b. (k == opening_brace) && is_after_name z 0 (length z) && b) (field_in_line r rest) ∙ sym (could_be_is z k r))
 
     module _ (m n p : ℕ) where
-      -- at a bracket of the line, both go on alike
+      -- at a bracket of the line, both are converted in the same way
       at_bracket : ((line : List ℕ) → length line < length (z ++ k ∷ r) → Without is_line_feed line → AreApart line rest) → length (z ++ k ∷ more) ≤ suc m → length (z ++ k ∷ r) ≤ suc n → length rest ≤ p
           → (o : Option (Document × List ℕ)) → value_from Pretty (from_bracket Pretty z k r) ≡ o
           → convert (pretty_with limit) (suc m) (z ++ k ∷ more) ≡ convert (pretty_with limit) (suc n) (z ++ k ∷ r) ++ line_feed ∷ convert (pretty_with limit) p rest

@@ -15,21 +15,19 @@ use Rattle.ufmt_lines.proofs.BlockTexts.{BlockTexts, block_texts, entries_block}
 use Rattle.ufmt_lines.proofs.ComesBack.{pretty_read}
 use Rattle.ufmt_lines.proofs.ConvertedSteps.{convert, enough, no_bracket, no_value, value_shorter, value_step, value_whole}
 use Rattle.ufmt_lines.proofs.FirstBrackets.{FirstBracket, Without, first_bracket, one_first, without_drop}
-use Rattle.ufmt_lines.proofs.FoundValues.{value_entries, value_read}
+use Rattle.ufmt_values.proofs.FoundValues.{value_entries, value_read}
 use Rattle.ufmt_lines.proofs.PrettyInside.{first_line, last_same, line_steep, two_fronts}
 use Rattle.ufmt_lines.proofs.ReadLines.{field_in_line}
 use Rattle.ufmt_lines.proofs.SteepTexts.{BeginsLine, InLine, Steep, steep_after}
 use Rattle.ufmt_lines.proofs.ValueStarts.{from_bracket, start_after}
 use Rattle.ufmt_lines.specs.OutputLaws.{plain_with}
 use Rattle.ufmt_lines.specs.Private.LineLen.{is_line_feed}
-use Rattle.ufmt_lines.specs.Values.{is_in_struct, output_of, value_from}
+use Rattle.ufmt_lines.specs.Private.WholeLines.{EndsLine}
+use Rattle.ufmt_lines.specs.Values.{output_of}
+use Rattle.ufmt_values.specs.Values.{is_in_struct, value_from}
 use Rattle.ufmt_scan.specs.Fronts.{begins_with_field, has_entries}
 
 -- ---- cuts
-
--- a line begins after these bytes
-abbrev pub EndsLine : List ℕ → Type 0
-EndsLine text = (text ≡ []) ⊎ ((line : List ℕ) × (text ≡ line ++ line_feed ∷ []))
 
 -- a byte that is no space begins a line
 pub record Turns (text : List ℕ) : Type 0 where
@@ -118,7 +116,7 @@ module _ (back : List ℕ) where
       ∙ sym (feed_kept (codes "    ") ended.0 [] spaces_in_line)
       ∙ ap (field_after (codes "    ")) (sym ended.1)
 
-  -- no struct goes on without a line feed
+  -- no struct continues without a line feed
   no_struct : (t : List ℕ) → InLine t → is_in_struct Plain t ≡ false
   no_struct [] line = refl
   no_struct (b ∷ t) line = go (10 == b) refl
@@ -264,7 +262,7 @@ module _ (limit : ℕ) (back : List ℕ) where
     longer : length (z ++ k ∷ (r ++ back)) ≡ length z + suc (length (r ++ back))
     longer = length-append z (k ∷ (r ++ back))
 
-    -- at a bracket of the front, both go on alike
+    -- at a bracket of the front, both are converted in the same way
     at_bracket : (m n p : ℕ) → length (z ++ k ∷ (r ++ back)) ≤ suc m → length (z ++ k ∷ r) ≤ suc n → length back ≤ p → (o : Option (Document × List ℕ)) → value_from Plain (from_bracket Plain z k r) ≡ o
         → convert (plain_with limit) (suc m) (z ++ k ∷ (r ++ back)) ≡ convert (plain_with limit) (suc n) (z ++ k ∷ r) ++ convert (plain_with limit) p back
     at_bracket m n p long short last None is =

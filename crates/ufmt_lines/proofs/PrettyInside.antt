@@ -15,7 +15,8 @@ use Rattle.ufmt_lines.proofs.SteepTexts.{Steep, steep_after, steep_feed, steep_i
 use Rattle.ufmt_lines.proofs.StillTexts.{block_of}
 use Rattle.ufmt_lines.proofs.ValueStarts.{from_bracket, start_after}
 use Rattle.ufmt_lines.specs.OutputLaws.{pretty_with}
-use Rattle.ufmt_lines.specs.Values.{convert_from, is_in_struct, stays, value_from, value_text}
+use Rattle.ufmt_lines.specs.Values.{convert_from, stays, value_text}
+use Rattle.ufmt_values.specs.Values.{is_in_struct, value_from}
 
 -- ---- lists
 

@@ -17,10 +17,10 @@ use Rattle.ufmt_grammar.specs.declared.class.Class.TheVariants.{Debug}
 use Rattle.ufmt_lines.proofs.BlockTexts.{entries_block}
 use Rattle.ufmt_lines.proofs.FieldsAhead.{field_found, field_there, same_answer}
 use Rattle.ufmt_lines.proofs.FirstBrackets.{front_before, without_append}
-use Rattle.ufmt_lines.proofs.FoundValues.{front_value, value_entries, value_read}
+use Rattle.ufmt_values.proofs.FoundValues.{front_value, value_entries, value_read}
 use Rattle.ufmt_lines.proofs.PlainLines.{name_line, plain_line}
 use Rattle.ufmt_lines.specs.Private.LineLen.{is_line_feed}
-use Rattle.ufmt_lines.specs.Values.{value_from}
+use Rattle.ufmt_values.specs.Values.{value_from}
 use Rattle.ufmt_scan.specs.Fronts.{begins_with_field, has_entries, read_front}
 
 -- ---- addresses

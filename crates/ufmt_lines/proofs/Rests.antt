@@ -11,8 +11,9 @@ use Rattle.ufmt_core.specs.declared.layout.Mode.{Mode}
 use Rattle.ufmt_grammar.proofs.ReadingTurns.{read_takes}
 use Rattle.ufmt.specs.Layout.{setting}
 use Rattle.ufmt_grammar.specs.declared.class.Class.TheVariants.{Debug}
-use Rattle.ufmt_lines.proofs.FoundValues.{value_read}
-use Rattle.ufmt_lines.specs.Values.{before_bracket, brace_start, bytes_between, convert_bracket, convert_from, convert_value, could_be_struct, if_pretty, is_after_name, is_in_struct, is_named, run_start, stays, tuple_start, value_from, value_start, value_text}
+use Rattle.ufmt_values.proofs.FoundValues.{value_read}
+use Rattle.ufmt_lines.specs.Values.{bytes_between, convert_bracket, convert_from, convert_value, could_be_struct, if_pretty, stays, value_text}
+use Rattle.ufmt_values.specs.Values.{before_bracket, brace_start, is_after_name, is_in_struct, is_named, run_start, tuple_start, value_from, value_start}
 use Rattle.ufmt_lines.specs.declared.run.conversion.Conversion.{Conversion}
 use Rattle.ufmt_scan.specs.Fronts.{begins_with_field, has_one_leaf}
 use Rattle.ufmt_scan.specs.Texts.{other_mode}

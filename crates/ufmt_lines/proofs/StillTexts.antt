@@ -12,10 +12,11 @@ use Rattle.ufmt_lines.proofs.ApartTexts.{converted_apart}
 use Rattle.ufmt_lines.proofs.BlockTexts.{BlockTexts, block_texts, entries_block}
 use Rattle.ufmt_lines.proofs.ConvertedSteps.{convert, no_bracket, no_value, value_step, value_whole}
 use Rattle.ufmt_lines.proofs.FirstBrackets.{FirstBracket, Without, first_bracket, without_append}
-use Rattle.ufmt_lines.proofs.FoundValues.{value_entries, value_read}
+use Rattle.ufmt_values.proofs.FoundValues.{value_entries, value_read}
 use Rattle.ufmt_lines.proofs.ValueStarts.{Apart, from_bracket, start_after}
 use Rattle.ufmt_lines.specs.OutputLaws.{plain_with}
-use Rattle.ufmt_lines.specs.Values.{convert_from, is_in_struct, value_from}
+use Rattle.ufmt_lines.specs.Values.{convert_from}
+use Rattle.ufmt_values.specs.Values.{is_in_struct, value_from}
 use Rattle.ufmt_lines.specs.declared.run.conversion.Conversion.{Conversion}
 use Rattle.ufmt_scan.specs.Texts.{other_mode}
 
@@ -32,7 +33,7 @@ module _ (limit : ℕ) where
     pub long : length text ≤ fuel
     pub same : convert (plain_with limit) fuel text ≡ text
 
-  -- after a bracket, a plain text doesn't go on as a pretty one does
+  -- after a bracket, a plain text doesn't continue as a pretty one does
   not_pretty : (d : Document) → BlockTexts d → (x y : List ℕ) → layout (setting Plain 0) d ++ x ≡ layout (setting Pretty 0) d ++ y → ⊥
   not_pretty d b x y same =
       let line = line_feed ∷ (indentation 1 ++ (b.text ++ (trail Pretty ++ b.left))) in

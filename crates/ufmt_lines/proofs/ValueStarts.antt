@@ -9,7 +9,8 @@ use Rattle.ufmt.specs.Leaves.{is_name_byte}
 use Rattle.ufmt_core.specs.declared.layout.Mode.{Mode}
 use Rattle.ufmt_grammar.specs.declared.class.Class.TheVariants.{Debug}
 use Rattle.ufmt_lines.proofs.Rests.{after_name_moved, byte_moved, after_name_some, name_before, run_within, start_moved}
-use Rattle.ufmt_lines.specs.Values.{brace_start, could_be_struct, is_after_name, is_in_struct, is_named, run_start, tuple_start, value_start}
+use Rattle.ufmt_lines.specs.Values.{could_be_struct}
+use Rattle.ufmt_values.specs.Values.{brace_start, is_after_name, is_in_struct, is_named, run_start, tuple_start, value_start}
 use Rattle.ufmt_scan.specs.Fronts.{begins_with_field}
 
 -- ---- what follows the bracket doesn't count

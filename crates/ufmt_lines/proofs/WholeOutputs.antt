@@ -16,12 +16,13 @@ use Rattle.ufmt_lines.proofs.GroupParts.{line_parts, word_parts}
 use Rattle.ufmt_lines.proofs.Groups.{groups_only, line_continues, line_ends, nothing_open, pieces_in}
 use Rattle.ufmt_lines.proofs.LineEnds.{rest_ended, word_within}
 use Rattle.ufmt_lines.proofs.LinesApart.{pretty_line}
-use Rattle.ufmt_lines.proofs.PlainCuts.{EndsLine, plain_cut}
+use Rattle.ufmt_lines.proofs.PlainCuts.{plain_cut}
 use Rattle.ufmt_lines.specs.Groups.{IsInLine, continues, if_any, is_indented, opens, word_start}
 use Rattle.ufmt_lines.specs.Output.{outputs_of}
 use Rattle.ufmt_lines.specs.OutputLaws.{OutputsAreTheOutput, PlainLogsComeBack, plain_with, pretty_with}
 use Rattle.ufmt_lines.specs.Private.Group.{IsEndedLine, IsOpen}
 use Rattle.ufmt_lines.specs.Private.LineLen.{is_line_feed}
+use Rattle.ufmt_lines.specs.Private.WholeLines.{EndsLine}
 use Rattle.ufmt_lines.specs.Values.{output_of}
 
 -- the first line of a text, if it has a line feed

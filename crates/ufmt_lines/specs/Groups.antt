@@ -5,7 +5,7 @@ use Rattle.ufmt.specs.Bytes.{line_feed, opening_brace, space}
 use Rattle.ufmt.specs.Leaves.{begins_with, is_opening}
 use Rattle.ufmt_core.specs.declared.layout.Mode.{Mode}
 use Rattle.ufmt_core.specs.declared.layout.Mode.TheVariants.{Plain, Pretty}
-use Rattle.ufmt_lines.specs.Values.{run_start}
+use Rattle.ufmt_values.specs.Values.{run_start}
 
 -- no byte is a line feed
 abbrev pub IsInLine : List ℕ → Type 0

@@ -1,7 +1,7 @@
 pub mod Converted
-pub mod FoundValues
 pub mod GroupOutput
 pub mod Group
 pub mod LineLen
-pub mod WithoutEntries
-pub mod Unclosed
+pub mod StaysAsFound
+pub mod WholeLines
+pub mod OpenBlocks

@@ -11,6 +11,7 @@ mod conversion;
 mod fault;
 mod groups;
 pub mod laws;
+mod open_blocks;
 mod output;
 #[cfg(test)]
 mod tests;

@@ -1,5 +1,5 @@
 -- The document at the front of a text, and what a caller learns of it without building it.
-use Rattle.std.specs.Prelude.{◌≡◌, ◌≤◌, ℕ, Bool, true, false, List, [], ◌∷◌, codes, length, drop, is_some, Option, Some}
+use Rattle.std.specs.Prelude.{◌≡◌, ◌≤◌, ℕ, not, Bool, true, false, List, [], ◌∷◌, codes, length, drop, is_some, Option, Some}
 use Rattle.ufmt_core.specs.Document.{Document}
 use Rattle.ufmt_core.specs.Layout.{next, setting}
 use Rattle.ufmt_core.specs.declared.layout.Count.{Count}
@@ -19,6 +19,18 @@ opened_by before event = before
 abbrev pub opened_after : Bool → List TextEvent → Bool
 opened_after before [] = before
 opened_after before (e ∷ es) = opened_after (opened_by before e) es
+
+-- whether a block begins, with entries or without
+abbrev pub begun_by : Bool → TextEvent → Bool
+begun_by before (Open kind name) = true
+begun_by before (Empty kind) = true
+begun_by before (OnlyDots name) = true
+begun_by before event = before
+
+-- whether one does in these events, or did before them
+abbrev pub begun_after : Bool → List TextEvent → Bool
+begun_after before [] = before
+begun_after before (e ∷ es) = begun_after (begun_by before e) es
 
 -- a leaf, or a block without entries, is one leaf more
 abbrev pub leaves_with : Count → TextEvent → Count
@@ -40,6 +52,10 @@ is_one count = false
 abbrev pub has_entries : Document → Bool
 has_entries d = opened_after false (events_of d)
 
+-- whether no block is in it: it is a leaf
+abbrev pub is_leaf : Document → Bool
+is_leaf d = not (begun_after false (events_of d))
+
 -- whether it has one leaf only; a block in it without entries is one, and a field's name is none
 abbrev pub has_one_leaf : Document → Bool
 has_one_leaf d = is_one (leaves_after Zero (events_of d))
@@ -55,6 +71,7 @@ pub record IsFront (class : Class) (mode : Mode) (t : List ℕ) (front : FrontTe
   pub is_read : read_front class mode t ≡ Some (document, drop front.len t)
   pub entries : front.has_entries ≡ has_entries document
   pub leaf : front.has_one_leaf ≡ has_one_leaf document
+  pub is_leaf : front.is_leaf ≡ is_leaf document
 
 -- a field's name, a colon and a space are at the front of a text
 abbrev pub begins_with_field : Class → List ℕ → Bool

@@ -68,9 +68,9 @@ fn split_token_word(input: &[u8]) -> Front<'_>
     }
 }
 
-/// The name at the front, and what follows it.
+/// Returns the name at the front of a text, as long as it may be, and what follows it.
 #[inline(always)]
-pub(crate) fn split_name(class: Class, input: &[u8]) -> Option<(&str, &[u8])>
+pub fn split_name(class: Class, input: &[u8]) -> Option<(&str, &[u8])>
     ensures { option_map (λ x. (x.0.now, x.1.now)) result ≡ read_name class input.now }
 {
     match split_word_front(class, input) {

@@ -16,5 +16,6 @@ pub mod scan;
 pub mod strip;
 mod text;
 
+pub use front::split_name;
 pub use place::valid_up_to;
 pub use text::{FrontText, begins_with_field, front_text, is_text};

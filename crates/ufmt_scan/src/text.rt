@@ -2,7 +2,7 @@
 ghost use Rattle.std.specs.Prelude.{◌≡◌, IfSome, IsFalse, IsNone, IsTrue, None, ⊤};
 ghost use Rattle.ufmt_core.specs.Document.{Document};
 ghost use Rattle.ufmt_core.specs.Layout.{layout, setting};
-ghost use Rattle.ufmt_scan.specs.Fronts.{IsFront, begins_with_field, leaves_with, opened_by, read_front};
+ghost use Rattle.ufmt_scan.specs.Fronts.{IsFront, begins_with_field, begun_by, leaves_with, opened_by, read_front};
 ghost use Rattle.ufmt_scan.specs.Private.Shapes.{Saw};
 ghost use Rattle.ufmt_scan.specs.Scan.{event_now};
 ghost use Rattle.ufmt_scan.specs.Texts.{IsNormalForm, NoDocumentPrints};
@@ -34,6 +34,8 @@ pub struct FrontText {
     pub has_entries: bool,
     /// Whether it has one leaf only. A block in it without entries is a leaf.
     pub has_one_leaf: bool,
+    /// Whether it is a leaf, and no block, also none without entries.
+    pub is_leaf: bool,
 }
 
 /// Returns what is at the front of a text: the document of the class whose text, in this mode, ends
@@ -44,6 +46,7 @@ pub fn front_text(class: Class, mode: Mode, text: &[u8]) -> Option<FrontText>
 {
     let mut shape = Shape {
         has_entries: false,
+        has_block: false,
         leaves: Count::Zero,
     };
     match scan_front(class, mode, text, &mut shape) {
@@ -51,6 +54,7 @@ pub fn front_text(class: Class, mode: Mode, text: &[u8]) -> Option<FrontText>
             len,
             has_entries: shape.has_entries,
             has_one_leaf: shape.leaves == Count::One,
+            is_leaf: !shape.has_block,
         }),
         Err(_) => None,
     }
@@ -84,11 +88,12 @@ impl Sink for Ignores {
     }
 }
 
-// What the events so far say of a document: whether a block with entries opened, and how many leaves
-// there were.
+// What the events so far say of a document: whether a block with entries opened, whether a block did, and
+// how many leaves there were.
 #[derive(Clone, Copy, Drop)]
 struct Shape {
     has_entries: bool,
+    has_block: bool,
     leaves: Count,
 }
 
@@ -99,7 +104,7 @@ impl Sink for Shape {
 
     ghost stopped = { λ _ _ _. ⊥ };
 
-    ghost begun = { λ s. record { entries = refl; leaves = refl } };
+    ghost begun = { λ s. record { entries = refl; blocks = refl; leaves = refl } };
 
     fn event(&mut self, event: Event<&str>) -> Result<(), Infallible> {
         self.see(event);
@@ -111,11 +116,17 @@ impl Shape {
     #[inline(always)]
     fn see(&mut self, event: Event<&str>)
         ensures entries { self.new.has_entries ≡ opened_by self.old.has_entries (event_now event.entry) }
+        ensures blocks { self.new.has_block ≡ begun_by self.old.has_block (event_now event.entry) }
         ensures leaves { self.new.leaves ≡ leaves_with self.old.leaves (event_now event.entry) }
     {
         match event {
-            Event::Open(_, _) => self.has_entries = true,
-            Event::Leaf(_) | Event::Empty(_) | Event::OnlyDots(_) => {
+            Event::Open(_, _) => {
+                self.has_entries = true;
+                self.has_block = true;
+            }
+            Event::Leaf(_) => self.leaves = self.leaves.next(),
+            Event::Empty(_) | Event::OnlyDots(_) => {
+                self.has_block = true;
                 self.leaves = self.leaves.next();
             }
             _ => {}

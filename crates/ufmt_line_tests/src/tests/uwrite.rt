@@ -2,6 +2,7 @@
 use super::asserts::{has_wanted_rows, same};
 use std::test::Fail;
 use ufmt::{Cursor, Formatter, Full, laws, uWrite, uwrite, uwriteln};
+use ufmt_print_examples::log_valve;
 use ufmt_test_rows::printed::{PREFIXED, Printed};
 use ufmt_test_rows::rows::Table;
 
@@ -221,4 +222,21 @@ fn uwrite_leaves_the_rest_of_a_long_buffer(rt: HostRuntime) {
     same(&rt, cursor.remaining(), 240, "what remains");
     let text = "The answer is 42".as_bytes();
     same(&rt, cursor.written(), text, "the text");
+}
+
+#[test]
+fn log_valve_writes_a_line(rt: HostRuntime) {
+    let mut table = Table::new(rt.alloc());
+    for ((is_open, length), wanted) in [
+        ((true, 24), "Ok(18) valve 7 open=true\n~~~~~~"),
+        ((false, 19), "Ok(19) valve 7 open=false\n~~~~~"),
+        ((true, 17), "Err(Full) valve 7 open=true~~~~~~~"),
+        ((true, 14), "Err(Full) valve 7 open=~~~~~~~~~~~"),
+    ] {
+        let mut bytes = [b'~'; 24];
+        let outcome = log_valve(&mut bytes[..length], 7, is_open);
+        table.put_outcome(outcome, &bytes);
+        table.wants(wanted);
+    }
+    has_wanted_rows(&rt, &table);
 }

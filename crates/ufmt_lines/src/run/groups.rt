@@ -1,5 +1,5 @@
 //! Groups of lines, gathered from what was read, and their outputs, which are written together.
-ghost use Rattle.std.specs.Prelude.{◌≡◌, ◌≢◌, ◌↔◌, ◌<◌, ◌+◌, ◌≤◌, ◌++◌, ◌⊎◌, ◌∷◌, [], List, ℕ, IfErr, IsErr, IsErrOf, IsTrue, MatchOption, OnErr, OnOk, drop, false, length, take, true};
+ghost use Rattle.std.specs.Prelude.{◌≡◌, ◌≢◌, ◌↔◌, ◌<◌, ◌+◌, ◌≤◌, ◌++◌, ◌⊎◌, ◌∷◌, [], List, ℕ, IfErr, IfOk, IsErr, IsErrOf, IsTrue, MatchOption, OnErr, OnOk, drop, false, length, take, true};
 ghost use Rattle.std.specs.Io.KnownBytes.{Appends};
 ghost use Rattle.ufmt.specs.Bytes.{line_feed};
 ghost use Rattle.ufmt_io.specs.Watched.{device_of, has_failed};
@@ -8,19 +8,20 @@ ghost use Rattle.ufmt_lines.specs.Output.{WritesFront, outputs_of};
 ghost use Rattle.ufmt_lines.specs.Groups.{IsInGroup, IsInLine, is_indented, is_spaced_brace, opens, word_start};
 ghost use Rattle.ufmt_lines.specs.Private.Group.{IsEndOf, IsEndedLine};
 ghost use Rattle.ufmt_lines.specs.Private.LineLen.{line_len};
+ghost use Rattle.ufmt_lines.specs.Private.WholeLines.{EndsLine};
 ghost use Rattle.ufmt_lines.specs.Values.{output_of};
 
 use super::conversion::Conversion;
 use super::output::GroupOutput;
-use super::values::{is_opening, run_start};
-use memchr::memchr;
+use memchr::{memchr, memrchr};
 use std::alloc::{AllocError, Global};
 use std::io::Write;
 use ufmt::layout::Mode;
 use ufmt_io::{IoFault, Watched, write_whole};
+use ufmt_values::{is_opening, next_bracket, run_start};
 
 // How many bytes of outputs are written at once, at least, if more groups have ended.
-const LEAST: usize = 1024 * 1024;
+pub(super) const LEAST: usize = 1024 * 1024;
 
 /// The group of lines that is being read, and outputs that aren't written yet.
 #[derive(Drop)]
@@ -75,13 +76,13 @@ impl Group {
         ensures failed { IsErrOf result IoFault.CannotWrite ↔ IsTrue (has_failed output.new) }
         ensures no_reader { IfErr result (λ fault. fault ≢ IoFault.CannotRead) }
     {
-        let mut rest = bytes;
-        while let Some((line, after)) = split_line(rest) {
-            self.end_line(conversion, line)?;
+        let (whole, last) = split_last_line(bytes);
+        let mut lines = whole;
+        'ended: while !lines.is_empty() {
+            lines = self.end_lines(conversion, lines)?;
             self.write_if_full(output)?;
-            rest = after;
         }
-        self.bytes.extend_from_slice(rest)?;
+        self.bytes.extend_from_slice(last)?;
         self.write_gathered(output)
     }
 
@@ -102,8 +103,56 @@ impl Group {
         ensures failed { IsErrOf result IoFault.CannotWrite ↔ IsTrue (has_failed output.new) }
         ensures no_reader { IfErr result (λ fault. fault ≢ IoFault.CannotRead) }
     {
+        // It is written from where it is, if it stays as it is.
+        let Some(_) = next_bracket(&self.bytes, self.bytes.len(), 0) else {
+            return write_some(output, &self.bytes);
+        };
         self.outputs.push_group(conversion, &self.bytes)?;
         self.write_gathered(output)
+    }
+
+    // Ends lines at the front of whole lines, and returns those that are left. Where each line is a group,
+    // all are converted together, up to the line with a bracket of no value.
+    fn end_lines<'a>(
+        &mut self,
+        conversion: Conversion,
+        lines: &'a [u8],
+    ) -> Result<&'a [u8], AllocError>
+        requires reading { IsReading conversion.to self.old }
+        requires whole { EndsLine lines.now }
+        requires some { 0 < length lines.now }
+        ensures reading { OnOk result (IsReading conversion.to self.new) }
+        ensures whole { IfOk result (λ left. EndsLine left.now) }
+        ensures fewer { IfOk result (λ left. length left.now < length lines.now) }
+        ensures ok { IfOk result (λ left. Gathers conversion (group_bytes self.old ++ lines.now)
+            (group_bytes self.new ++ left.now) (gathered self.old) (gathered self.new)) }
+    {
+        match conversion.to {
+            Mode::Pretty if self.bytes.is_empty() => self.outputs.push_lines(conversion, lines),
+            _ => self.end_first(conversion, lines),
+        }
+    }
+
+    // Ends the first of whole lines, and returns the others.
+    fn end_first<'a>(
+        &mut self,
+        conversion: Conversion,
+        lines: &'a [u8],
+    ) -> Result<&'a [u8], AllocError>
+        requires reading { IsReading conversion.to self.old }
+        requires whole { EndsLine lines.now }
+        requires some { 0 < length lines.now }
+        ensures reading { OnOk result (IsReading conversion.to self.new) }
+        ensures whole { IfOk result (λ left. EndsLine left.now) }
+        ensures fewer { IfOk result (λ left. length left.now < length lines.now) }
+        ensures ok { IfOk result (λ left. Gathers conversion (group_bytes self.old ++ lines.now)
+            (group_bytes self.new ++ left.now) (gathered self.old) (gathered self.new)) }
+    {
+        let Some((line, others)) = split_line(lines) else {
+            unreachable!()
+        };
+        self.end_line(conversion, line)?;
+        Ok(others)
     }
 
     // Ends the line with these bytes, the last of which is its line feed. Appends the output for the
@@ -184,12 +233,37 @@ impl Group {
         ensures failed { IsErr result ↔ IsTrue (has_failed output.new) }
         ensures no_other { IfErr result (λ fault. fault ≡ IoFault.CannotWrite) }
     {
-        if self.outputs.as_bytes().is_empty() {
-            return Ok(());
-        }
-        write_whole(output, self.outputs.as_bytes()).map_err(|_| IoFault::CannotWrite)?;
+        write_some(output, self.outputs.as_bytes())?;
         self.outputs.clear();
         Ok(())
+    }
+}
+
+// Writes these bytes, if there are any.
+fn write_some<W: Write>(output: &mut Watched<W>, bytes: &[u8]) -> Result<(), IoFault>
+    requires works { has_failed output.old ≡ false }
+    ensures ok { OnOk result (Appends (W.contents (device_of output.old))
+        (W.contents (device_of output.new)) bytes.now) }
+    ensures cannot_write { OnErr result (AppendsPrefix (W.contents (device_of output.old))
+        (W.contents (device_of output.new)) bytes.now) }
+    ensures failed { IsErr result ↔ IsTrue (has_failed output.new) }
+    ensures no_other { IfErr result (λ fault. fault ≡ IoFault.CannotWrite) }
+{
+    if bytes.is_empty() {
+        return Ok(());
+    }
+    write_whole(output, bytes).map_err(|_| IoFault::CannotWrite)
+}
+
+// The lines that have ended, and the line that hasn't.
+fn split_last_line(text: &[u8]) -> (&[u8], &[u8])
+    ensures text { text.now ≡ result.0.now ++ result.1.now }
+    ensures whole { EndsLine result.0.now }
+    ensures last { IsInLine result.1.now }
+{
+    match memrchr(b'\n', text) {
+        Some(last) => (&text[..last + 1], &text[last + 1..]),
+        None => (&[], text),
     }
 }
 
@@ -250,7 +324,7 @@ fn is_spaced_brace(line: &[u8], bracket: usize) -> bool
 }
 
 // The first line with its line feed, and what follows it, or `None` if there is no line feed.
-fn split_line(text: &[u8]) -> Option<(&[u8], &[u8])>
+pub(super) fn split_line(text: &[u8]) -> Option<(&[u8], &[u8])>
     ensures { MatchOption result (IsInLine text.now) (λ x. IsEndedLine x.0.now
         × (text.now ≡ x.0.now ++ x.1.now)) }
 {

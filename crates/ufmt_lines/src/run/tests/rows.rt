@@ -2,7 +2,7 @@
 use super::*;
 
 // Lines of which values of every length are made pretty, and the same made pretty. Made plain, they come back.
-const LINES: [(&[u8], &[u8]); 39] = [
+const LINES: [(&[u8], &[u8]); 41] = [
     (
         b"12:00 INFO got Reading { channel: 3, gain: 2 }",
         b"12:00 INFO got Reading {\n    channel: 3,\n    gain: 2,\n}",
@@ -63,6 +63,14 @@ const LINES: [(&[u8], &[u8]); 39] = [
     (
         b"[[a, b], (c, d)",
         b"[[\n    a,\n    b,\n], (\n    c,\n    d,\n)",
+    ),
+    (
+        b"(a, (a, (a, (a, (a, (a, (a, [b, c] d",
+        b"(a, (a, (a, (a, (a, (a, (a, [\n    b,\n    c,\n] d",
+    ),
+    (
+        b"[[[[[[[[[f(), 'a', (\"[[[\", b)] c",
+        b"[[[[[[[[[\n    f(),\n    'a',\n    (\n        \"[[[\",\n        b,\n    ),\n] c",
     ),
     (b"S [b, c]", b"S [\n    b,\n    c,\n]"),
     (b"\"a [b, c]", b"\"a [\n    b,\n    c,\n]"),

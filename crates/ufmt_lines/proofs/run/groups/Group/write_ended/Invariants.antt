@@ -2,18 +2,20 @@
 use Rattle.std.proofs.Common.{◌≡◌, ◌++◌, [], ℕ, List, false, length}
 use Rattle.ufmt_lines.specs.Output.{WritesFront}
 use Rattle.ufmt_lines.specs.Private.Group.{Gathers, IsReading, gathered, group_bytes}
+use Rattle.ufmt_lines.specs.Private.WholeLines.{EndsLine}
 use Rattle.ufmt_io.specs.Watched.{device_of, has_failed}
 use Rattle.ufmt_lines.proofs.run.groups.Group.write_ended.Given as goal
 
-abbrev pub invariant-loop-line : goal.invariant-loop-line
-invariant-loop-line g l = record {
+abbrev pub invariant-ended : goal.invariant-ended
+invariant-ended g l = record {
   works : has_failed l.output ≡ false;
   reading : IsReading l.conversion.to l.self;
+  whole : EndsLine l.lines;
   middle : List ℕ;
   so_far : WritesFront l.conversion (group_bytes l.initial.self ++ l.bytes) middle
       (g.W.Write.contents (device_of l.initial.output)) (g.W.Write.contents (device_of l.output));
-  gathers : Gathers l.conversion middle (group_bytes l.self ++ l.rest) [] (gathered l.self);
+  gathers : Gathers l.conversion middle (group_bytes l.self ++ (l.lines ++ l.last)) [] (gathered l.self);
 }
 
-abbrev pub decreases-loop-line : goal.decreases-loop-line
-decreases-loop-line g l = length l.rest
+abbrev pub decreases-ended : goal.decreases-ended
+decreases-ended g l = length l.lines

@@ -1,0 +1,10 @@
+use Rattle.ufmt_lines.proofs.run.open_blocks.Tries.value_at.Goals as goal
+
+pub returns-then-is_barren-clause-known : goal.returns-then-is_barren-clause-known
+returns-then-is_barren-clause-known c = c.is_barren.ensures.known c.args.text.now c.requires.known
+
+pub fail-requires-clause-known : goal.fail-requires-clause-known
+fail-requires-clause-known c = c.is_barren.ensures.known c.args.text.now c.requires.known
+
+pub returns-else-is_none-clause-known : goal.returns-else-is_none-clause-known
+returns-else-is_none-clause-known c = c.is_barren.ensures.known c.args.text.now c.requires.known

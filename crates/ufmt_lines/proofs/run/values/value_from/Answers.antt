@@ -1,5 +1,0 @@
-use Rattle.ufmt_lines.proofs.FoundValues.{value_found}
-use Rattle.ufmt_lines.proofs.run.values.value_from.Goals as goal
-
-pub returns-then-front : goal.returns-then-front
-returns-then-front c = value_found c.args.to c.args.text.now c.in_ok-front.front (rw c.other_mode.ensures at c.in_ok-front.ensures.some) c.if-front.true

@@ -1,0 +1,200 @@
+-- A text without a closing bracket has no value.
+use Rattle.std.proofs.Common.{◌≡◌, inl, ◌∙◌, refl, ap, sym, subst, ℕ, zero, suc, ◌+◌, ◌-◌, ◌≤◌, ◌==◌, ◌&&◌, ◌||◌, nat_le, nat_lt, Bool, true, false, cond, List, [], ◌∷◌, ◌++◌, Option, Some, None, option_and_then, drop, get_or, length, codes, arith}
+use Rattle.std.proofs.lemmas.Bool.Decides.{nat_tests}
+use Rattle.std.proofs.lemmas.Bool.{true≢false}
+use Rattle.std.proofs.lemmas.List.{drop-drop}
+use Rattle.ufmt.specs.Document.{Document, leaf, joined, list_of, set_of, map_of, struct_of, non_exhaustive_of, tuple_of, pretty_part, no_documents, first_document, no_pairs, first_pair, no_fields, first_field}
+use Rattle.ufmt.specs.Leaves.{is_name_byte}
+use Rattle.ufmt.specs.Layout.{block_tail, block_text, count_after, dots_ending, dots_line, ending, frame, framed_all, if_any, inside, layout, lead, line_start, next, setting, trail, tuple_kind, texts, pair_texts, field_texts}
+use Rattle.ufmt_core.specs.declared.layout.Count.{Count}
+use Rattle.ufmt_core.specs.declared.layout.Count.TheVariants.{Zero, One, Several}
+use Rattle.ufmt_core.specs.declared.layout.Kind.{Kind}
+use Rattle.ufmt_core.specs.declared.layout.Kind.TheVariants.{Brackets, Braces, Struct, Tuple, Unnamed}
+use Rattle.ufmt_core.specs.declared.layout.Mode.{Mode}
+use Rattle.ufmt_core.specs.declared.layout.Mode.TheVariants.{Plain, Pretty}
+use Rattle.ufmt_core.specs.declared.layout.Setting.{Setting}
+use Rattle.ufmt_grammar.specs.declared.class.Class.{Class}
+use Rattle.ufmt_grammar.specs.declared.class.Class.TheVariants.{Debug}
+use Rattle.ufmt_grammar.proofs.ReadingSound.{read_sound}
+use Rattle.ufmt_values.specs.Unclosed.{HasNoMore, IsUnclosed, has_closing, is_closing}
+use Rattle.ufmt_values.specs.Values.{brace_start, if_entries, is_in_struct, is_named, run_start, tuple_start, value_from, value_start}
+use Rattle.ufmt_values.proofs.FoundValues.{block_entries, block_read}
+use Rattle.ufmt_scan.specs.Fronts.{has_entries, read_front}
+use Rattle.ufmt_scan.specs.Texts.{other_mode}
+use Rattle.memchr.specs.Find.{IsLastByte, Nowhere, Passes}
+
+-- ---- where closing brackets are
+
+or-true : (b : Bool) → b || true ≡ true
+or-true true = refl
+or-true false = refl
+
+closing_after : (a b : List ℕ) → has_closing b ≡ true → has_closing (a ++ b) ≡ true
+closing_after [] b h = h
+closing_after (c ∷ a) b h = ap (λ x. is_closing c || x) (closing_after a b h) ∙ or-true (is_closing c)
+
+closing_before : (a b : List ℕ) → has_closing a ≡ true → has_closing (a ++ b) ≡ true
+closing_before [] b h = absurd (cc)
+closing_before (c ∷ a) b h = go (is_closing c) h (closing_before a b)
+  where
+    go : (x : Bool) → x || has_closing a ≡ true → (has_closing a ≡ true → has_closing (a ++ b) ≡ true) → x || has_closing (a ++ b) ≡ true
+    go true h rest = refl
+    go false h rest = rest h
+
+-- nor has what is left of it
+rest_unclosed : (k : ℕ) (t : List ℕ) → IsUnclosed t → IsUnclosed (drop k t)
+rest_unclosed zero t h = h
+rest_unclosed (suc k) [] h = h
+rest_unclosed (suc k) (c ∷ t) h = rest_unclosed k t (go (is_closing c) h)
+  where
+    go : (x : Bool) → x || has_closing t ≡ false → has_closing t ≡ false
+    go true h = absurd (cc)
+    go false h = h
+
+-- there is none where a search found none
+later : (c : ℕ) (t : List ℕ) (k : ℕ) → Nowhere (Passes is_closing (c ∷ t)) (suc k) (suc (length t)) → Nowhere (Passes is_closing t) k (length t)
+later c t k none = λ j low high. none (suc j) (omega (arith, low)) (omega (arith, high))
+
+nowhere_unclosed : (t : List ℕ) → Nowhere (Passes is_closing t) 0 (length t) → IsUnclosed t
+nowhere_unclosed [] none = refl
+nowhere_unclosed (c ∷ t) none = go (is_closing c) refl (nowhere_unclosed t (later c t 0 (λ j low high. none j (omega arith) high)))
+  where
+    go : (x : Bool) → is_closing c ≡ x → IsUnclosed t → x || has_closing t ≡ false
+    go true is rest = absurd (none 0 (omega arith) (omega arith) is)
+    go false is rest = rest
+
+after_last : (t : List ℕ) (k : ℕ) → Nowhere (Passes is_closing t) k (length t) → IsUnclosed (drop k t)
+after_last t zero none = nowhere_unclosed t none
+after_last [] (suc k) none = refl
+after_last (c ∷ t) (suc k) none = after_last t k (later c t k none)
+
+pub none_closes : (t : List ℕ) → IsLastByte is_closing t None → IsUnclosed t
+none_closes t found = nowhere_unclosed t found
+
+pub past_last : (t : List ℕ) (k : ℕ) → IsLastByte is_closing t (Some k) → IsUnclosed (drop (k + 1) t)
+past_last t k found = after_last t (k + 1) found.0.after
+
+-- ---- a block with entries has one
+
+closes : (mode : Mode) (kind : Kind) (count : Count) → has_closing ((frame mode kind).closing (next count)) ≡ true
+closes mode Brackets count = refl
+closes mode Braces count = refl
+closes Plain Struct Zero = refl
+closes Plain Struct One = refl
+closes Plain Struct Several = refl
+closes Pretty Struct Zero = refl
+closes Pretty Struct One = refl
+closes Pretty Struct Several = refl
+closes mode Tuple Zero = refl
+closes mode Tuple One = refl
+closes mode Tuple Several = refl
+closes Plain Unnamed Zero = refl
+closes Plain Unnamed One = refl
+closes Plain Unnamed Several = refl
+closes Pretty Unnamed Zero = refl
+closes Pretty Unnamed One = refl
+closes Pretty Unnamed Several = refl
+
+module _ (s : Setting) where
+  ending_closes : (kind : Kind) (count : Count) → has_closing (ending (frame s.mode kind) s (next count)) ≡ true
+  ending_closes kind count = closing_after (if_any (next count) (line_start s.mode s.depth)) ((frame s.mode kind).closing (next count)) (closes s.mode kind count)
+
+  module _ (kind : Kind) where
+    abbrev tail : Count → List (List ℕ) → List ℕ
+    tail count ts = block_tail (frame s.mode kind) s count ts
+
+    -- so has what follows an entry's lead, if this is left of the block
+    entry_closes : (t left : List ℕ) → has_closing left ≡ true → has_closing (t ++ (trail s.mode ++ left)) ≡ true
+    entry_closes t left h = closing_after t (trail s.mode ++ left) (closing_after (trail s.mode) left h)
+
+    tail_closes : (count : Count) (ts : List (List ℕ)) → has_closing (tail (next count) ts) ≡ true
+    tail_closes count [] = ending_closes kind count
+    tail_closes count (t ∷ ts) = closing_after (lead (frame s.mode kind) (inside s) (next count)) (t ++ (trail s.mode ++ tail (next (next count)) ts))
+        (entry_closes t (tail (next (next count)) ts) (tail_closes (next count) ts))
+
+    block_closes : (name t : List ℕ) (ts : List (List ℕ)) → has_closing (block_text kind s name (t ∷ ts)) ≡ true
+    block_closes name t ts =
+        let entries = t ++ (trail s.mode ++ tail One ts) in
+        let led = lead (frame s.mode kind) (inside s) Zero ++ entries in
+        closing_after name ((frame s.mode kind).opening ++ led) (closing_after ((frame s.mode kind).opening) led
+        (closing_after (lead (frame s.mode kind) (inside s) Zero) entries (entry_closes t (tail One ts) (tail_closes Zero ts))))
+
+  dots_close : (count : Count) → has_closing (dots_ending s count) ≡ true
+  dots_close Zero = refl
+  dots_close One = closing_after (dots_line s.mode (inside s).depth) (ending (frame s.mode Struct) s One) (ending_closes Struct Zero)
+  dots_close Several = closing_after (dots_line s.mode (inside s).depth) (ending (frame s.mode Struct) s One) (ending_closes Struct Zero)
+
+  pub entries_close : (d : Document) → has_entries d ≡ true → has_closing (layout s d) ≡ true
+  entries_close (leaf text) h = absurd (cc)
+  entries_close (joined ds) h = absurd (cc)
+  entries_close (list_of no_documents) h = absurd (cc)
+  entries_close (list_of (first_document d ds)) h = block_closes Brackets [] (layout (inside s) d) (texts (inside s) ds)
+  entries_close (set_of no_documents) h = absurd (cc)
+  entries_close (set_of (first_document d ds)) h = block_closes Braces [] (layout (inside s) d) (texts (inside s) ds)
+  entries_close (map_of no_pairs) h = absurd (cc)
+  entries_close (map_of (first_pair key value ps)) h = block_closes Braces [] (layout (inside s) key ++ (codes ": " ++ layout (inside s) value)) (pair_texts (inside s) ps)
+  entries_close (struct_of name no_fields) h = absurd (cc)
+  entries_close (struct_of name (first_field field value fs)) h = block_closes Struct name (field ++ (codes ": " ++ layout (inside s) value)) (field_texts (inside s) fs)
+  entries_close (non_exhaustive_of name fs) h =
+      let shown = framed_all (frame s.mode Struct) (inside s) Zero (field_texts (inside s) fs) in
+      let dots = dots_ending s (count_after Zero (field_texts (inside s) fs)) in
+      closing_after name (shown ++ dots) (closing_after shown dots (dots_close (count_after Zero (field_texts (inside s) fs))))
+  entries_close (tuple_of name no_documents) h = absurd (cc)
+  entries_close (tuple_of name (first_document d ds)) h = block_closes (tuple_kind name) name (layout (inside s) d) (texts (inside s) ds)
+  entries_close (pretty_part d) h = absurd (cc)
+
+-- so such a text begins with no block that has entries
+pub no_block : (class : Class) (mode : Mode) (t : List ℕ) → IsUnclosed t → option_and_then if_entries (read_front class mode t) ≡ None
+no_block class mode t none = go (option_and_then if_entries (read_front class mode t)) refl
+  where
+    closed : (d : Document) (u : List ℕ) → option_and_then if_entries (read_front class mode t) ≡ Some (d, u) → has_closing t ≡ true
+    closed d u is =
+        let found = read_sound class 255 (setting mode 0) t d u (block_read (read_front class mode t) d u is) in
+        ap has_closing found.whole ∙ closing_before (layout (setting mode 0) d) u (entries_close (setting mode 0) d (block_entries (read_front class mode t) d u is))
+
+    go : (o : Option (Document × List ℕ)) → option_and_then if_entries (read_front class mode t) ≡ o → o ≡ None
+    go None is = refl
+    go (Some x) is = absurd (true≢false (sym (closed x.0 x.1 is) ∙ none))
+
+pub no_value : (to : Mode) (t : List ℕ) → IsUnclosed t → value_from to t ≡ None
+no_value to t none = no_block Debug (other_mode to) t none
+
+-- ---- and none begins in such a rest of a text
+
+run_low : (text : List ℕ) (low n : ℕ) → low ≤ n → low ≤ run_start text low n
+run_low text low zero h = h
+run_low text low (suc n) h = go (nat_le low n) (is_name_byte (get_or text n 0)) refl (run_low text low n)
+  where
+    go : (from named : Bool) → nat_le low n ≡ from → (low ≤ n → low ≤ run_start text low n) → low ≤ cond (from && named) (run_start text low n) (suc n)
+    go true true is before = before (grind (arith, nat_tests))
+    go true false is before = h
+    go false named is before = h
+
+pub further_unclosed : (text : List ℕ) (at k : ℕ) → at ≤ k → IsUnclosed (drop at text) → IsUnclosed (drop k text)
+further_unclosed text at k order h =
+    let same : at + (k - at) ≡ k = omega (arith, order) in
+    subst IsUnclosed (drop-drop (k - at) at text ∙ ap (λ i. drop i text) same) (rest_unclosed (k - at) (drop at text) h)
+
+module _ (to : Mode) (text : List ℕ) (at b : ℕ) (order : at ≤ b) where
+  in_name : (named : Bool) → at ≤ cond named (run_start text at b) b
+  in_name true = run_low text at b order
+  in_name false = order
+
+  in_struct : (less spaced named struct : Bool) → nat_lt at b ≡ less → at ≤ cond (((less && spaced) && named) && struct) (run_start text at (b - 1)) b
+  in_struct true true true true is = run_low text at (b - 1) (grind (arith, nat_tests))
+  in_struct true true true false is = order
+  in_struct true true false struct is = order
+  in_struct true false named struct is = order
+  in_struct false spaced named struct is = order
+
+  pub start_low : at ≤ value_start to text at b
+  start_low = go (get_or text b 0 == 123) (get_or text b 0 == 40)
+    where
+      go : (brace parenthesis : Bool) → at ≤ cond brace (brace_start to text at b) (cond parenthesis (tuple_start text at b) b)
+      go true parenthesis = in_struct (nat_lt at b) (get_or text (b - 1) 0 == 32) (is_named text (run_start text at (b - 1)) (b - 1)) (is_in_struct to (drop (b + 1) text)) refl
+      go false true = in_name (is_named text (run_start text at b) b)
+      go false false = order
+
+-- nor does a value begin at the end
+pub none_at_end : (text : List ℕ) (at : ℕ) → length text ≤ at → HasNoMore text at
+none_at_end text at past = inl (omega (arith, past))

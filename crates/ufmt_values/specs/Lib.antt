@@ -1,0 +1,5 @@
+pub mod Fields
+pub mod FoundValues
+pub mod Private
+pub mod Unclosed
+pub mod Values

@@ -1,0 +1,2 @@
+pub mod FieldsLeft
+pub mod WithoutEntries

@@ -1,0 +1,12 @@
+#![tactic(auto)]
+
+//! The values of a text, as a line of a log: where each begins, by its first bracket, and what is there.
+
+mod field;
+mod values;
+
+pub use field::{Field, field_of, find_field};
+pub use values::{
+    before_bracket, begins_with, is_after_name, is_closing, is_name_byte, is_opening, next_bracket,
+    run_start, value_at, value_from, value_start, values_end,
+};
