@@ -4,7 +4,7 @@ A mode is the name of the texts that are written: "pretty", or "plain" for `--pl
 """
 import re
 
-from lib.model.model import DEBUG, STRUCTS, Block, PlainReader, PrettyReader, plain, pretty, quoted  # noqa: E402, F401
+from lib.model.model import DEBUG, STRUCTS, TOKEN, Block, PlainReader, PrettyReader, plain, pretty, quoted  # noqa: E402, F401
 
 MODES = ("pretty", "plain")
 # The readers of texts, and what prints their documents in the other mode.
@@ -98,8 +98,9 @@ def stays(text, opening, after_name, longer_than, document, end, start):
     return after_name and document.kind == "map" and begins_with_field(text, opening + 1)
 
 
-def values(mode, text, longer_than=LONGER_THAN):
-    """The values of a text from the left on: where each begins and ends, and its output, or None if it stays."""
+def found_values(mode, text, read=None):
+    """The values of a text from the left on: where each begins and ends, its document and its bracket, and whether it is a map or a set after a name."""
+    read = read or (lambda start: read_from(mode, text, start))
     at = 0
     while True:
         found = BRACKET.search(text, at)
@@ -107,16 +108,49 @@ def values(mode, text, longer_than=LONGER_THAN):
             return
         opening = found.start()
         start, after_name = start_of(mode, text, at, opening)
-        read = read_from(mode, text, start)
-        if read is None or isinstance(read[0], str) or not read[0].entries:
+        value = read(start)
+        if value is None or isinstance(value[0], str) or not value[0].entries:
             at = opening + 1
             continue
-        document, end = read
+        document, at = value
+        yield start, at, document, opening, after_name
+
+
+def values(mode, text, longer_than=LONGER_THAN):
+    """The values of a text from the left on: where each begins and ends, and its output, or None if it stays."""
+    for start, end, document, opening, after_name in found_values(mode, text):
         if mode == "pretty" and stays(text, opening, after_name, longer_than, document, end, start):
             yield start, end, None
         else:
             yield start, end, PRINTERS[mode](document)
-        at = end
+
+
+# The readers of plain texts, by class.
+PLAIN_READERS = {TOKEN: PlainReader(TOKEN), DEBUG: READERS["pretty"]}
+
+
+def field_place(document, name):
+    """How many characters come before the leaf of the struct's first field with this name, and the leaf; or None."""
+    before = document.name + " { "
+    for label, value in document.entries:
+        before += label + ": "
+        if label == name:
+            return (len(before), value) if isinstance(value, str) else None
+        before += plain(value) + ", "
+    return None
+
+
+def field(text_class, line, name):
+    """Where the leaf of this field begins in a line, and the leaf: of the first value that is a struct with this field, where
+    the field is a leaf. None if there is none."""
+    text, wanted = decoded(line), decoded(name)
+    # A reader that looks back sees only the value.
+    read = lambda start: (lambda found: found and (found[0], start + found[1]))(PLAIN_READERS[text_class].document_at(text[start:], 0, 0))  # noqa: E731
+    for start, _end, document, _opening, _after_name in found_values("pretty", text, read):
+        place = field_place(document, wanted) if document.kind in STRUCTS else None
+        if place:
+            return len(encoded(text[: start + place[0]])), encoded(place[1])
+    return None
 
 
 def output(mode, group, longer_than=LONGER_THAN):

@@ -196,6 +196,22 @@ def each_length():
             yield text + b"a" * (length - len(text) - 1) + b'"]'
 
 
+# More bytes than a short read would take. So many of them fill what ufmt_conv reads at most.
+PAST_SHORT = CHUNK // 16
+
+
+def each_first_byte():
+    """Lines that begin with each byte, twice each, and then lines that end with it, each a chunk: no byte there makes the next read shorter."""
+    starts = [bytes([byte]) for byte in range(256) for _ in range(2)]
+    rest = b"a" * (PAST_SHORT - 2)
+    return [start + rest + b"\n" for start in starts] + [rest + start + b"\n" for start in starts]
+
+
+def each_last_byte():
+    """Chunks that end with each byte, for a program that reads its input whole."""
+    return [b"a" * (PAST_SHORT - 1) + bytes([byte]) for byte in range(256) for _ in range(2)]
+
+
 def first_logs():
     """Logs that come first with every seed, each with its chunks."""
     maker = Maker(0)
@@ -204,6 +220,7 @@ def first_logs():
         yield log, maker.chunks(log)
         log += b"\n"
         yield log, whole(log)
+    yield b"".join(each_first_byte()), each_first_byte()
     for log in (b"", b"\n", b" ", b"\0", b"\r\n", b"[\n", b"[\n ", b"[1]", b"[\n    1,\n]", b"a\n\n\n", b"\n" * 1000, b"[\n" * 1000, b"a\n" * 5000):
         yield log, [log] if log else []
         yield log, [bytes([byte]) for byte in log[:3000]] + ([log[3000:]] if len(log) > 3000 else [])

@@ -17,7 +17,7 @@ from lib.pages.items import items_of
 TOP = pathlib.Path(__file__).resolve().parents[3]
 PAGE = TOP / "docs" / "PROMISES.md"
 SECTION = "### What calls ask for"
-LIBRARIES = ("ufmt_float", "ufmt_core", "ufmt_fixed", "ufmt_grammar", "ufmt", "ufmt_scan", "ufmt_doc", "ufmt_parser", "ufmt_parse_fields", "ufmt_parse_structs", "ufmt_parse_tuples", "ufmt_parse_entries", "ufmt_parse_leaves", "ufmt_parse", "ufmt_snapshot", "ufmt_io", "ufmt_c")
+LIBRARIES = ("ufmt_float", "ufmt_core", "ufmt_fixed", "ufmt_grammar", "ufmt", "ufmt_scan", "ufmt_doc", "ufmt_parser", "ufmt_parse_fields", "ufmt_parse_structs", "ufmt_parse_tuples", "ufmt_parse_entries", "ufmt_parse_leaves", "ufmt_parse", "ufmt_snapshot", "ufmt_values", "ufmt_io", "ufmt_c")
 PROGRAMS = ("ufmt_conv", "ufmt_lines")
 TESTS = {"tests", "tests.rt"}
 

@@ -1,0 +1,62 @@
+"""Builds the program of tools/data/costs with nothing proved, runs it, and counts what each of its calls takes."""
+import pathlib
+import re
+
+from lib.bench import build
+from lib.costs import types
+
+TOP = pathlib.Path(__file__).resolve().parents[3]
+LIBRARIES = ("ufmt_parse_examples", "ufmt_print_probe", "ufmt_parse", "ufmt_snapshot", "ufmt_scan", "ufmt")
+# Each call is printed at the first size and at twice that, and texts are so long.
+SIZES = (100, 200)
+LABELS = ("steps", "allocations", "bytes", "growths", "held", "most", "left")
+SECONDS = 600
+# A call in a line of the output: its name, and whether it returned a value.
+CALL = re.compile(r"(.*?) (?:yes|no), ")
+
+
+def source():
+    """The program, with a row for each type."""
+    rows = dict.fromkeys('        "%s" %s;' % (one.type, one.type) for one in types.types())
+    return (TOP / "tools" / "data" / "costs" / "costs.rt.txt").read_text().replace("TYPES", "\n".join(rows).strip())
+
+
+def built(room):
+    below = build.libraries(TOP, LIBRARIES)
+    build.copied(TOP, room, below)
+    folder = room / "crates" / "costs" / "src"
+    folder.mkdir(parents=True)
+    (folder / "main.rt").write_text(source())
+    return build.quick_program(room, "costs", below)
+
+
+def lines():
+    """What is asked of the program: a name, and a line of its input with the bytes that follow. The first is made once before: what a
+    program does when it first calls a function of the C library isn't counted."""
+    yield "", b"print 10\n"
+    for size in SIZES:
+        yield "%d" % size, b"print %d\n" % size
+    for one in types.types():
+        texts = dict.fromkeys(text for size in SIZES for text in one.texts(size))
+        for number, text in enumerate(texts):
+            data = text.encode()
+            yield "%s, text %d" % (one.type, number), b"parse %d %s\n%s" % (len(data), one.type.encode(), data)
+
+
+def counted(counter, program):
+    """The counts of each call by its name, and faults of the run. Without valgrind steps aren't counted."""
+    asked = list(lines())
+    data = b"".join(line for _, line in asked)
+    output, counts = counter.run([program], data, "costs", seconds=SECONDS)
+    steps = counter.steps([program], data, "costs", seconds=SECONDS) if counter.valgrind else None
+    answers = output.decode().splitlines()
+    made = [(name, call) for (name, _), line in zip(asked, answers) for call in CALL.findall(line)]
+    if len(answers) != len(asked) or len(counts) < len(made) or (steps and len(steps) < len(made)):
+        return {}, ["%d answers to %d lines, %d counts of %d calls" % (len(answers), len(asked), len(counts), len(made))]
+    found = {}
+    around = min(steps or [0])
+    for at, (name, call) in enumerate(made):
+        memory = [getattr(counts[at], label) for label in LABELS[1:]]
+        found["%s: %s" % (name, call)] = list(zip(LABELS, [steps[at] - around if steps else 0, *memory]))
+    twice = [] if len(found) == len(made) else ["two calls have one name"]
+    return {name: row for name, row in found.items() if not name.startswith(":")}, twice
