@@ -37,7 +37,7 @@ extern "C" {
 #endif
 
 /* The version of this header: 10,000 for each of its first number, 100 for each of its second, and its third. */
-#define UFMT_VERSION 300
+#define UFMT_VERSION 400
 /* The version of the library, in the same way. */
 uint32_t ufmt_version(void);
 

@@ -5,7 +5,7 @@ ghost use Rattle.std.specs.Prelude.{◌≡◌};
 /// each of its second, and its third.
 #[unsafe(no_mangle)]
 pub extern "C" fn ufmt_version() -> u32
-    ensures { result ≡ 300 }
+    ensures { result ≡ 400 }
 {
-    300
+    400
 }

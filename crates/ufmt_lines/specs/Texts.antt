@@ -11,4 +11,4 @@ help_text = codes "usage: ufmt_lines [--longer-than N | --plain | --help | --ver
 
 -- the name and the version of the program, a line
 abbrev pub version_text : List ℕ
-version_text = codes "ufmt_lines 0.3.0\n"
+version_text = codes "ufmt_lines 0.4.0\n"

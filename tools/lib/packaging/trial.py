@@ -27,7 +27,7 @@ CARGO = '[package]\nname = "convert"\nversion = "0.1.0"\nedition = "2024"\n'
 FILES = {
     "bin/ufmt_conv": 0o755, "bin/ufmt_lines": 0o755,
     "include/ufmt.h": 0o644,
-    "lib/libufmt_c.a": 0o644, "lib/libufmt_c.so": None, "lib/libufmt_c.so.0.3": None, "lib/libufmt_c.so.0.3.0": 0o755,
+    "lib/libufmt_c.a": 0o644, "lib/libufmt_c.so": None, "lib/libufmt_c.so.0.4": None, "lib/libufmt_c.so.0.4.0": 0o755,
     "lib/pkgconfig/ufmt_c.pc": 0o644,
     "share/doc/ufmt/BUILD": 0o644, "share/doc/ufmt/FILES": 0o644,
     "share/doc/ufmt/LICENSE-APACHE": 0o644, "share/doc/ufmt/LICENSE-MIT": 0o644,

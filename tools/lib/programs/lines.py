@@ -7,7 +7,7 @@ from lib.programs.cases import CLOSED, FOLDER, Cases, texts
 
 LOGS_FOLDER = pathlib.Path(__file__).resolve().parents[2] / "data" / "logs"
 USAGE = "usage: ufmt_lines [--longer-than N | --plain | --help | --version] [--] [FILE..]"
-VERSION = b"ufmt_lines 0.3.0\n"
+VERSION = b"ufmt_lines 0.4.0\n"
 HELP = b"""usage: ufmt_lines [--longer-than N | --plain | --help | --version] [--] [FILE..]
 
 Writes each line of the files, with its long debug texts made pretty. The files are

@@ -30,5 +30,5 @@ pub fn help() -> &'static str
 pub fn version() -> &'static str
     ensures { result.now ≡ version_text }
 {
-    "ufmt_lines 0.3.0\n"
+    "ufmt_lines 0.4.0\n"
 }

@@ -186,7 +186,7 @@ read as one, in their order. Without a file, standard input is read.
 #[test]
 fn texts_are_printed_whole(rt: HostRuntime) {
     same(&rt, usage(), USAGE, "usage");
-    for (text, wanted) in [(help(), HELP), (version(), "ufmt_lines 0.3.0\n")] {
+    for (text, wanted) in [(help(), HELP), (version(), "ufmt_lines 0.4.0\n")] {
         for (most, fails_at, outcome, len) in [
             (WHOLE, NEVER, Ok(()), wanted.len()),
             (1, NEVER, Ok(()), wanted.len()),
