@@ -1,4 +1,5 @@
-"""The most bytes of stack that may be taken: by a call of `tools/bench stack`, and by a level more of it; and by a built program.
+"""The most bytes of stack that may be taken: by a call of `tools/bench stack`, and by a level more of it; by a built program; and by
+a call of the library for C.
 
 Each bound is what was found, and an eighth more, or four registers where that is more, up to a whole 16 bytes: a proved build
 and another LLVM inline other calls, which moves a frame by some registers that are kept. A frame that holds an array more,
@@ -18,3 +19,9 @@ CALLS = {
 }
 # By its name: at most, and a level more. Those of ufmt_model_probe were measured by runs.
 PROGRAMS = {"ufmt_conv": (12864, 0), "ufmt_lines": (29400, 0), "ufmt_model_probe": (16384, 1200)}
+# By its name after `ufmt_`. None of these recurses. Of the library that tools/try-c builds, where no call is put into another.
+FROM_C = {
+    "binary": 320, "convert": 1456, "difference": 672, "dump": 720, "field": 1424, "first_difference": 608, "float": 1440,
+    "float_fixed": 7840, "hexadecimal": 272, "in_column": 352, "is_text": 1024, "parse_float": 3840, "parse_signed": 128,
+    "parse_unsigned": 112, "quote": 224, "signed": 144, "unquote": 240, "unquote_debug": 288, "unsigned": 144, "version": 48,
+}

@@ -53,7 +53,15 @@ def on_texts(size):
         lines = data + b"\n" + b"b\n" * size
         for call in ("difference", "first_difference"):
             yield name + ", equal", cases.Case(call, (lines, lines), text=b"" if call == "difference" else None)
-            yield name + ", another end", cases.Case(call, (lines, lines + b"x"), text=b"" if call == "difference" else None)
+            for change, other in (("another end", lines + b"x"), ("another first line", b"x" + lines)):
+                yield "%s, %s" % (name, change), cases.Case(call, (lines, other), text=b"" if call == "difference" else None)
+
+
+def differences(size):
+    """Two lines of escapes, which differ from their first byte on: printing them takes more than comparing them."""
+    escapes = b'\x1b"' * size
+    for call in ("difference", "first_difference"):
+        yield "a line of escapes", cases.Case(call, (escapes, b"x" + escapes), text=b"" if call == "difference" else None)
 
 
 def numbers(size):
@@ -92,7 +100,7 @@ def rooms(case, size):
 def made():
     """Each with a name and the length of its buffer."""
     for size in SIZES:
-        for maker in (conversions, on_texts, numbers, fields):
+        for maker in (conversions, on_texts, differences, numbers, fields):
             for name, case in maker(size):
                 for room in rooms(case, size):
                     yield "%s, %d: %s in %d" % (case.call, size, name, room), case, room

@@ -60,3 +60,33 @@ def counted(counter, program):
         found["%s: %s" % (name, call)] = list(zip(LABELS, [steps[at] - around if steps else 0, *memory]))
     twice = [] if len(found) == len(made) else ["two calls have one name"]
     return {name: row for name, row in found.items() if not name.startswith(":")}, twice
+
+
+def refused(counter, program):
+    """Parses each text again and again, and refuses each allocation of it once. Then there is no value, and nothing is left; a call that
+    asks for fewer has what it has with ample memory. Returns how many allocations were refused, and faults."""
+    asked = [(name, line) for name, line in lines() if line.startswith(b"parse")]
+    data = b"".join(line for _, line in asked)
+    ample, counts = answers(counter, program, asked, data, 0)
+    needed = [it.allocations + it.growths for it in counts]
+    found, faults = 0, []
+    if not needed:
+        return 0, ["no call is answered where no allocation is refused"]
+    for number in range(1, max(needed) + 1):
+        made, left = answers(counter, program, asked, data, number)
+        if len(made) != len(ample):
+            return found, ["%d calls, and %d where allocation %d is refused" % (len(ample), len(made), number)]
+        for (call, is_value), (_, was_value), most, it in zip(made, ample, needed, left):
+            found += number <= most
+            if is_value != (was_value and number > most) or it.left:
+                faults.append("%s: allocation %d of %d refused: %s, and %d blocks are left" % (call, number, most, "a value" if is_value else "no value", it.left))
+    return found, faults
+
+
+def answers(counter, program, asked, data, number):
+    """Each call, with whether it returned a value, where the allocation of this number is refused; and its counts."""
+    output, counts = counter.run([program], data, "refused", seconds=SECONDS, refused=number)
+    calls = [("%s: %s" % (name, call), answer == "yes")
+             for (name, _), line in zip(asked, output.decode().splitlines()) for call, answer in re.findall(r"(.*?) (yes|no), ", line)]
+    # The last line is of what comes after all calls.
+    return (calls, counts[:-1]) if len(calls) == len(counts) - 1 else ([], [])

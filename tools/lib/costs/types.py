@@ -41,9 +41,10 @@ def listed(item):
 
 
 def sorted_keys(item):
-    """The same in order, and with the last key before the others, and twice."""
+    """The same in order, with the last key before the others, with it twice, and in the other order."""
     def texts(size):
-        return wide("{", item, "}")(size) + ["{" + ", ".join(map(item, [*range(1, size), 0])) + "}", "{" + ", ".join(map(item, [*range(size), size - 1])) + "}"]
+        others = ([*range(1, size), 0], [*range(size), size - 1], range(size - 1, -1, -1))
+        return wide("{", item, "}")(size) + ["{%s}" % ", ".join(map(item, numbers)) for numbers in others]
     return texts
 
 

@@ -1,7 +1,7 @@
-"""The places of a source file where an error is made, changed or dropped, and where memory is asked for.
+"""The places of a source file where an error of memory may be made, and where memory is asked for by a size.
 
-Each place is named by a line's number, the body's name, and what is written there, such as `AllocError`, `Err(Full)`,
-`u8::try_from(n).ok()` or `match Box::new(alloc, value): Err(_) => None`.
+Each place is named by a line's number, the body's name, and what is written there, such as `Err(Fault::OutOfMemory)`,
+`Default::default()` or `with_capacity(alloc, text.len())`.
 """
 import re
 
@@ -12,10 +12,6 @@ MEMORY = {"AllocError", "AllocFailed", "OutOfMemory", "TryReserveError", "Layout
 # By these an error can be made that is not written.
 MAKERS = {"default", "Default", "unsafe", "transmute", "zeroed", "from_str_radix", "include", "ErrorKind", "Layout",
           "allocate", "from_residual", "Try"}
-# A result's methods that make another outcome of an error, or an error of another outcome.
-CHANGES = {"ok", "err", "map_err", "is_ok", "is_err", "is_ok_and", "is_err_and", "or", "or_else", "and", "and_then",
-           "map_or", "map_or_else", "unwrap", "unwrap_or", "unwrap_or_else", "unwrap_or_default", "unwrap_err", "expect",
-           "expect_err", "into_err", "into_ok", "ok_or", "ok_or_else", "flatten", "transpose"}
 # Calls that ask for as much memory as their arguments say.
 SIZED = {"with_capacity", "with_capacity_in", "reserve", "reserve_exact", "try_reserve", "try_reserve_exact", "resize",
          "resize_with", "repeat", "repeat_n", "from_elem", "from_fn", "vec", "format"}
@@ -58,21 +54,9 @@ def written_at(body, at, known):
         yield with_values(body, statement(tokens, at), known)
     if name in MAKERS or (name == "Error" and before == "::" and after != ">") or (name == "parse" and before == "."):
         yield around(tokens, at)
-    if name == "Err":
-        yield arm_or_value(tokens, at) if after == "(" else around(tokens, at)
-    if name == "Ok" and after == "(" and name_at(tokens, end_of(tokens, at + 1) + 1) == "=":
-        yield "let " + joined(tokens[at : find(tokens, at, ["{", "else", ";"])])
     if "memory" in tokens[at].text.lower():
         yield tokens[at].text
     if (name == "ExitCode" and after == "::") or (name == "report" and after == "("):
-        yield around(tokens, at)
-    if name == "let" and after.startswith("_") and drops_a_result(tokens, at):
-        yield joined(tokens[at : find(tokens, at, [";"])])
-    if name == "match":
-        yield from match_without_err(tokens, at)
-    if name in CHANGES and before == "." and after in ("(", "::"):
-        yield around(tokens, at)
-    if name in CHANGES and before == "::" and name_at(tokens, at - 2) in ("Result", "Option", ">"):
         yield around(tokens, at)
     if name in SIZED and after in ("(", "!", "::"):
         yield name + with_values(body, argument(tokens, at), known)
@@ -95,12 +79,6 @@ def statement(tokens, at):
     while end < at:
         start, end = end, find(tokens, end + 1, [",", ";"])
     return condition + tokens[start + 1 : end]
-
-
-def drops_a_result(tokens, at):
-    """Whether what a call returns is bound to a name that isn't used, and not passed on by `?`."""
-    end = find(tokens, at, [";"])
-    return name_at(tokens, end - 1) == ")" and name_at(tokens, end) == ";"
 
 
 def argument(tokens, at):
@@ -196,51 +174,6 @@ def opening(tokens, end):
             return at
         at -= 1
     return None
-
-
-def arm_or_value(tokens, at):
-    """`Err(..)` as a value, or as a pattern with what is matched and what comes of it."""
-    end = end_of(tokens, at + 1)
-    after = name_at(tokens, end + 1)
-    if after == "=":
-        return "let " + joined(tokens[at : find(tokens, at, ["{", "else", ";"])])
-    if after in ("=>", "|", "if"):
-        start = find(tokens, at, ["=>"])
-        stop = end_of(tokens, start + 1) + 1 if name_at(tokens, start + 1) == "{" else find(tokens, start, [","])
-        return "match %s: %s" % (matched(tokens, at), joined(tokens[at:stop]))
-    return joined(tokens[at : end + 1])
-
-
-def matched(tokens, at):
-    """What the innermost `match` around `at` takes apart."""
-    found = ""
-    for start in range(at):
-        if tokens[start].name == "match":
-            brace = find(tokens, start, ["{"])
-            if brace < at < end_of(tokens, brace):
-                found = joined(tokens[start + 1 : brace])
-    return found
-
-
-def match_without_err(tokens, at):
-    """A `match` on a result in which an arm without a name takes its errors."""
-    brace = find(tokens, at, ["{"])
-    patterns = list(patterns_of(tokens[brace + 1 : end_of(tokens, brace)]))
-    of_result = any(pattern.startswith(("Ok(", "Err(")) for pattern in patterns)
-    if of_result and any(re.fullmatch(r"\w+", pattern) for pattern in patterns):
-        yield "match %s: %s" % (joined(tokens[at + 1 : brace]), " ".join(patterns))
-
-
-def patterns_of(tokens):
-    at = 0
-    while at < len(tokens):
-        arrow = find(tokens, at, ["=>"])
-        yield joined(tokens[at:arrow]).strip(",")
-        if name_at(tokens, arrow + 1) == "{":
-            at = end_of(tokens, arrow + 1) + 1
-            at += name_at(tokens, at) == ","
-        else:
-            at = find(tokens, arrow, [","]) + 1
 
 
 def returns_an_error(body):

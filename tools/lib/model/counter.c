@@ -3,6 +3,7 @@
  * An allocation of MARK bytes is a mark of ufmt_model_probe: a call begins, it ended and its result is held, or the result
  * was dropped. No memory is given for a mark. At the third one a line of counts is written to the file that COUNTS names.
  * A program without marks gets a line when it ends; with COUNTS_OF=writes it gets one after each write, too.
+ * With COUNTS_REFUSE=N the Nth allocation or growth of each call is refused.
  *
  * In a line are, in order: allocations, bytes, growths, bytes held at the second mark, most bytes held at once, blocks
  * that were never freed, reads, writes, nanoseconds of the processor. callgrind is asked for the steps from counts_begin to counts_end.
@@ -41,6 +42,9 @@ static ssize_t (*real_read)(int, void *, size_t);
 static ssize_t (*real_write)(int, const void *, size_t);
 static int file = -1;
 static int is_each_write;
+/* Which allocation of a call is refused, 0 for none; how many it asked for so far; whether it hasn't ended. */
+static uint64_t refused, asked;
+static int is_in_call;
 
 static int64_t nanoseconds(void) {
     struct timespec now;
@@ -75,7 +79,9 @@ __attribute__((constructor)) static void start(void) {
     real_write = (ssize_t(*)(int, const void *, size_t))dlsym(RTLD_NEXT, "write");
     if (name)
         file = open(name, O_WRONLY | O_CREAT | O_APPEND | O_CLOEXEC, 0644);
+    const char *which = getenv("COUNTS_REFUSE");
     is_each_write = of && strcmp(of, "writes") == 0;
+    refused = which ? strtoull(which, NULL, 10) : 0;
     counts_begin();
 }
 
@@ -92,6 +98,10 @@ static void hold(int64_t bytes) {
 }
 
 static void note_mark(size_t number) {
+    if (number < 2) {
+        is_in_call = number == 0;
+        asked = 0;
+    }
     if (number == 0)
         counts_begin();
     else if (number == 1)
@@ -101,6 +111,10 @@ static void note_mark(size_t number) {
         write_line();
         counts_begin();
     }
+}
+
+static int is_refused(void) {
+    return is_in_call && ++asked == refused;
 }
 
 static void *with_header(char *base, size_t offset, size_t size) {
@@ -121,6 +135,8 @@ void *malloc(size_t size) {
         errno = ENOMEM;
         return NULL;
     }
+    if (is_refused())
+        return NULL;
     return with_header(__libc_malloc(size + sizeof(struct header)), sizeof(struct header), size);
 }
 
@@ -134,6 +150,8 @@ void free(void *block) {
 }
 
 void *memalign(size_t alignment, size_t size) {
+    if (is_refused())
+        return NULL;
     size_t offset = alignment < sizeof(struct header) ? sizeof(struct header) : alignment;
     return with_header(__libc_memalign(offset, size + offset), offset, size);
 }
@@ -169,6 +187,8 @@ void *realloc(void *block, size_t size) {
         }
         return next;
     }
+    if (is_refused())
+        return NULL;
     header = __libc_realloc(header, size + sizeof(struct header));
     if (!header)
         return NULL;

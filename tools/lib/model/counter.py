@@ -37,11 +37,12 @@ class Counter:
             arguments = [compiler, "-O2", "-shared", "-fPIC", "-o", str(self.library), str(HERE / "counter.c"), "-ldl"]
             subprocess.run(arguments, check=True)
 
-    def run(self, arguments, data, name, of_writes=False, seconds=None):
-        """Runs a program, and returns its standard output and its counts: of the whole run, or of each write."""
+    def run(self, arguments, data, name, of_writes=False, seconds=None, refused=0):
+        """Runs a program, and returns its standard output and its counts: of the whole run, or of each write. Of each call that it
+        marks, the allocation or growth of this number is refused, if it isn't 0."""
         path = self.room / (re.sub(r"\W", "-", name) + ".counts")
         path.write_bytes(b"")
-        output = self.ran(arguments, data, name, path, of_writes, seconds)
+        output = self.ran(arguments, data, name, path, of_writes, seconds, refused)
         return output, [Counts(*map(int, line.split())) for line in path.read_text().splitlines()]
 
     def steps(self, arguments, data, name, of_writes=False, seconds=None):
@@ -54,11 +55,12 @@ class Counter:
         path.unlink()
         return steps
 
-    def ran(self, arguments, data, name, path, of_writes, seconds):
+    def ran(self, arguments, data, name, path, of_writes, seconds, refused=0):
         # A file is read in whole chunks, which a pipe isn't.
         given = self.room / (re.sub(r"\W", "-", name) + ".input")
         given.write_bytes(data)
-        room = dict(os.environ, LD_PRELOAD=str(self.library), COUNTS=str(path), COUNTS_OF="writes" if of_writes else "run")
+        room = dict(os.environ, LD_PRELOAD=str(self.library), COUNTS=str(path), COUNTS_OF="writes" if of_writes else "run",
+                    COUNTS_REFUSE=str(refused))
         with open(given, "rb") as device:
             ran = subprocess.run([str(argument) for argument in arguments], stdin=device, capture_output=True, env=room, timeout=seconds)
         given.unlink()
