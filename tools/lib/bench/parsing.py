@@ -6,13 +6,14 @@ import sys
 from lib.bench import build, calls, peers, values
 from lib.bench.counter import counted
 
-ROWS = (("u64", "plain"), ("u32", "plain"), ("measurement", "plain"), ("measurement", "pretty"), ("strings", "plain"),
-        ("escapes", "plain"), ("options", "plain"), ("event", "plain"), ("event", "pretty"), ("map", "plain"))
+ROWS = (("u64", "plain"), ("u32", "plain"), ("f64", "plain"), ("long-f64", "plain"), ("measurement", "plain"),
+        ("measurement", "pretty"), ("strings", "plain"), ("escapes", "plain"), ("options", "plain"), ("event", "plain"),
+        ("event", "pretty"), ("map", "plain"))
 # Of smaller texts a list is copied when it grows, not mapped to another place.
 SIZES = (500_000, 1_000_000)
 # Of a struct of two numbers, of three, and of an enum: the case with one type, and with a second one.
 TYPES = (("struct of two", "two"), ("struct of three", "three"), ("enum", "enum"))
-DEPENDENCIES = ('serde = { version = "1", features = ["derive"] }', 'serde_json = "1"', 'ron = "0.7"')
+DEPENDENCIES = ('serde = { version = "1", features = ["derive"] }', 'serde_json = { version = "1", features = ["float_roundtrip"] }', 'ron = "0.7"')
 
 
 def cost(kind, text_format, parsing, reading, result):

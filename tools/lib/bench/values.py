@@ -1,6 +1,6 @@
 """Values made from one seed, and their texts: as `{:?}` and `{:#?}` print them, as JSON and as RON.
 
-A value is a number, a bool, a text, a list, a dict, a tuple, None, or one of the classes here.
+A value is a number, a float from 1 on to 1e16, a bool, a text, a list, a dict, a tuple, None, or one of the classes here.
 """
 import functools
 import json
@@ -66,7 +66,7 @@ def leaf(value):
     """The text of a value that is no block, or None."""
     if isinstance(value, bool):
         return "true" if value else "false"
-    if value is None or isinstance(value, int):
+    if value is None or isinstance(value, (int, float)):
         return str(value)
     if isinstance(value, Char):
         return quoted(value, "'")
@@ -167,6 +167,8 @@ def event(random):
 MAKERS = {
     "u64": lambda random: random.below(1 << 64),
     "u32": lambda random: random.below(10 ** (1 + random.below(4))),
+    "f64": lambda random: 1 + random.below(10 ** 6) / 1000,
+    "long-f64": lambda random: 1 + random.below(1 << 53) / (1 << 40),
     "measurement": lambda random: Struct("Measurement", {"channel": random.below(32), "celsius": random.below(1000) - 300}),
     "strings": lambda random: words(random, False),
     "escapes": lambda random: words(random, True),

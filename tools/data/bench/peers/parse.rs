@@ -44,6 +44,7 @@ fn whole(kind: &str, format: &str) {
     match kind {
         "u64" => parse::<Vec<u64>>(format, &text),
         "u32" => parse::<Vec<u32>>(format, &text),
+        "f64" | "long-f64" => parse::<Vec<f64>>(format, &text),
         "measurement" => parse::<Vec<Measurement>>(format, &text),
         "strings" | "escapes" => parse::<Vec<String>>(format, &text),
         "options" => parse::<Vec<Option<(u32, bool)>>>(format, &text),
