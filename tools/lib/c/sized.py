@@ -85,7 +85,7 @@ def numbers(size):
 
 def fields(size):
     struct = b"S { x: 1, y: \"a\", z: [1, 2] }"
-    for name, line in (("before", b"word " * size + struct), ("after", struct + b" word" * size), ("brackets", b"(a, " * size + struct),
+    for name, line in (("before", b"word " * size + struct), ("after", struct + b" word" * size), ("brackets", b"(a, " * size + struct), ("brackets after it", struct + b"(a, " * size),
                        ("values", (struct + b" ") * size), ("one with many", b"S { " + b"w: 1, " * size + b"z: 2 }")):
         for text_class in (0, 1):
             for field in (b"z", b"none"):

@@ -107,6 +107,13 @@ OPEN_LINES = (
     line("lines of tuples with tuples and a fault", "pretty", 334, b"(a, (b, c), " * 120 + b"," + b")" * 120 + b"\n"),
     line("lines of tuples that are too deep", "pretty", 2991, b"(" * 500 + b"a," + b")," * 500 + b"\n"),
     line("lines of brackets of which each may be it", "pretty", 256, b"(\\' " * 250 + b"', )\n"),
+    line("lines of open maps, and a bracket", "pretty", 353, b"{a: " * 250 + b")\n"),
+    line("lines of open structs, and a bracket", "pretty", 180, b"S { a: " * 250 + b")\n"),
+    line("lines of open tuples with structs", "pretty", 255, b"(S { b: c }, " * 100 + b")\n"),
+    line("lines of open tuples with tuples of one", "pretty", 421, b"((b,), " * 180 + b")\n"),
+    line("lines of open tuples with structs that end in dots", "pretty", 193, b"(S { a: 1, .. }, " * 80 + b")\n"),
+    line("lines of open tuples with structs of dots", "pretty", 172, b"(S { .. }, " * 120 + b")\n"),
+    line("lines of open tuples with empty lists", "pretty", 281, b"([], " * 250 + b")\n"),
     # One read of such a line is as the next one from its second quote on.
     line("lines of brackets in and out of quotes", "pretty", 3219, b"]('\"'a\"" * 150 + b"\n"),
 )

@@ -18,6 +18,10 @@ START_STEPS, START_BYTES, CHUNK = 1_200_000, 70_000, 64 * 1024
 # indentation costs fewer: when it is read, and when it is looked at for the end of its line too.
 BYTE_STEPS, LINE_STEPS = 40, 600
 READ_INDENTATION, SPLIT_INDENTATION = 1, 17
+# What a read of few bytes takes more, for each command: half as many steps again as were measured. It goes over these bytes, and not over a
+# chunk or what was read before.
+READ_BYTES, READS = 10, 2000
+READ_STEPS = {"ufmt_conv pretty": 50, "ufmt_lines": 580, "ufmt_lines --plain": 320}
 # What is before the text of a line, as in a log.
 STAMP = "12:00: "
 
@@ -109,6 +113,29 @@ def conv_faults(counter, program):
     """The faults of all runs of ufmt_conv, and how many runs were counted."""
     made = list(runs())
     return [fault for run in made for fault in run_faults(counter, program, run)], len(made)
+
+
+def read_steps(counter, arguments, name, data):
+    """What each read takes more, if a read takes few bytes."""
+    few = counter.steps(arguments, data, name, seconds=SECONDS, most_read=READ_BYTES)[0]
+    whole = counter.steps(arguments, data, name, seconds=SECONDS)[0]
+    return (few - whole) // (len(data) // READ_BYTES)
+
+
+def short_reads(programs):
+    """Each command with what it reads: of ufmt_conv one text, of ufmt_lines a line for each read."""
+    yield "ufmt_conv pretty", programs["ufmt_conv"], ["pretty"], plain(shapes.listed(["12345678"] * READS)).encode()
+    yield "ufmt_lines", programs["ufmt_lines"], [], b"a line: 7\n" * READS
+    yield "ufmt_lines --plain", programs["ufmt_lines"], ["--plain"], b"a line: 7\n" * READS
+
+
+def short_read_faults(counter, programs):
+    """The faults of runs in which each read takes few bytes, and how many were counted."""
+    if not counter.valgrind:
+        return [], 0
+    found = {name: read_steps(counter, [program, *words], "short reads, " + name, data) for name, program, words, data in short_reads(programs)}
+    return ["%s: a read of %d bytes takes %d steps more, and not at most %d" % (name, READ_BYTES, steps, READ_STEPS[name])
+            for name, steps in found.items() if steps > READ_STEPS[name]], len(found)
 
 
 class LogGroup(NamedTuple):

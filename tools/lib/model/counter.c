@@ -3,7 +3,7 @@
  * An allocation of MARK bytes is a mark of ufmt_model_probe: a call begins, it ended and its result is held, or the result
  * was dropped. No memory is given for a mark. At the third one a line of counts is written to the file that COUNTS names.
  * A program without marks gets a line when it ends; with COUNTS_OF=writes it gets one after each write, too.
- * With COUNTS_REFUSE=N the Nth allocation or growth of each call is refused.
+ * With COUNTS_REFUSE=N the Nth allocation or growth of each call is refused. With COUNTS_READ=N a read takes at most N bytes.
  *
  * In a line are, in order: allocations, bytes, growths, bytes held at the second mark, most bytes held at once, blocks
  * that were never freed, reads, writes, nanoseconds of the processor. callgrind is asked for the steps from counts_begin to counts_end.
@@ -45,6 +45,8 @@ static int is_each_write;
 /* Which allocation of a call is refused, 0 for none; how many it asked for so far; whether it hasn't ended. */
 static uint64_t refused, asked;
 static int is_in_call;
+/* How many bytes a read takes at most. */
+static size_t most_read = SIZE_MAX;
 
 static int64_t nanoseconds(void) {
     struct timespec now;
@@ -81,7 +83,10 @@ __attribute__((constructor)) static void start(void) {
         file = open(name, O_WRONLY | O_CREAT | O_APPEND | O_CLOEXEC, 0644);
     const char *which = getenv("COUNTS_REFUSE");
     is_each_write = of && strcmp(of, "writes") == 0;
+    const char *most = getenv("COUNTS_READ");
     refused = which ? strtoull(which, NULL, 10) : 0;
+    if (most)
+        most_read = strtoull(most, NULL, 10);
     counts_begin();
 }
 
@@ -201,7 +206,7 @@ void *realloc(void *block, size_t size) {
 
 ssize_t read(int device, void *bytes, size_t count) {
     counts.reads++;
-    return real_read(device, bytes, count);
+    return real_read(device, bytes, count < most_read ? count : most_read);
 }
 
 ssize_t write(int device, const void *bytes, size_t count) {

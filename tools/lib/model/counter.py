@@ -45,22 +45,24 @@ class Counter:
         output = self.ran(arguments, data, name, path, of_writes, seconds, refused)
         return output, [Counts(*map(int, line.split())) for line in path.read_text().splitlines()]
 
-    def steps(self, arguments, data, name, of_writes=False, seconds=None):
-        """Runs a program with valgrind, and returns the steps of each part that it counts."""
+    def steps(self, arguments, data, name, of_writes=False, seconds=None, most_read=None):
+        """Runs a program with valgrind, and returns the steps of each part that it counts. A read takes at most so many bytes."""
         path = self.room / (re.sub(r"\W", "-", name) + ".steps")
         path.write_bytes(b"")
         arguments = [self.valgrind, *CALLGRIND, "--callgrind-out-file=" + str(path), *arguments]
-        self.ran(arguments, data, name, "/dev/null", of_writes, seconds)
+        self.ran(arguments, data, name, "/dev/null", of_writes, seconds, most_read=most_read)
         steps = [int(found) for found in re.findall(rb"^summary: (\d+)", path.read_bytes(), re.M)]
         path.unlink()
         return steps
 
-    def ran(self, arguments, data, name, path, of_writes, seconds, refused=0):
+    def ran(self, arguments, data, name, path, of_writes, seconds, refused=0, most_read=None):
         # A file is read in whole chunks, which a pipe isn't.
         given = self.room / (re.sub(r"\W", "-", name) + ".input")
         given.write_bytes(data)
         room = dict(os.environ, LD_PRELOAD=str(self.library), COUNTS=str(path), COUNTS_OF="writes" if of_writes else "run",
                     COUNTS_REFUSE=str(refused))
+        if most_read is not None:
+            room["COUNTS_READ"] = str(most_read)
         with open(given, "rb") as device:
             ran = subprocess.run([str(argument) for argument in arguments], stdin=device, capture_output=True, env=room, timeout=seconds)
         given.unlink()

@@ -3,13 +3,21 @@
 The programs are those in out/ of their crates, which `rt ci` built; the archive is built here with nothing proved. They are installed
 into a prefix with a space in its name. There the programs run, their manual pages are compared with them, and the callers of
 crates/ufmt_c/examples are built: convert.c by pkg-config, with the archive and with the shared library, and convert.rs by cargo with
-build.rs. Then the ways in which an installation goes wrong are tried. What the machine hasn't is left out and said.
+build.rs. Then a second version is installed over the first, and the ways in which an installation goes wrong are tried, and tools/build
+with a full folder and with a kit that fails. What the machine hasn't is left out and said.
 """
+import contextlib
+import filecmp
+import importlib.machinery
+import importlib.util
+import io
 import os
 import pathlib
 import shlex
 import shutil
 import stat
+import subprocess
+import sys
 import tempfile
 
 from lib.c import archive
@@ -19,10 +27,15 @@ from lib.programs.cases import run
 
 TOP = folder.TOP
 INSTALL = TOP / "tools" / "install"
+BUILD = TOP / "tools" / "build"
 EXAMPLES = folder.CRATE / "examples"
 WARNINGS = ["-std=c99", "-Wall", "-Wextra", "-Wconversion", "-Wpedantic", "-Werror"]
 TEXT, OUTPUT = "[Pair { x: 1, y: -2 }]", b"[\n    Pair {\n        x: 1,\n        y: -2,\n    },\n]\n"
 CARGO = '[package]\nname = "convert"\nversion = "0.1.0"\nedition = "2024"\n'
+# Without each of these a folder isn't whole.
+NEEDED = ("BUILD", "bin/ufmt_conv", "bin/ufmt_lines", "lib/libufmt_c.a", "lib/libufmt_c.so", "lib/pkgconfig/ufmt_c.pc", "include/ufmt.h")
+# A kit that runs programs, and proves no library.
+FAILING_KIT = '#!/bin/sh\n[ "$1" != lib ]\n'
 # Each file below the prefix, and its mode.
 FILES = {
     "bin/ufmt_conv": 0o755, "bin/ufmt_lines": 0o755,
@@ -45,7 +58,7 @@ class Trial:
         """A command must end so. Returns whether it did."""
         is_right = said.status == status and output in (None, said.output)
         if not is_right:
-            self.faults.append("%s ends with %d: %s" % (what, said.status, (said.output + said.error).decode(errors="replace")[-600:]))
+            self.faults.append("%s ends with %s: %s" % (what, said.status, (said.output + said.error).decode(errors="replace")[-600:]))
         return is_right
 
     def install(self, *words, **variables):
@@ -57,6 +70,11 @@ class Trial:
         for file in sorted({*FILES, *found}):
             if file not in found or file not in FILES or found[file] != FILES[file]:
                 self.faults.append("%s of the prefix: %s, and wanted %s" % (file, found.get(file, "missing"), FILES.get(file, "none")))
+        mask = os.umask(0)
+        os.umask(mask)
+        for path in prefix.rglob("*"):
+            if path.is_dir() and stat.S_IMODE(path.stat().st_mode) != 0o777 & ~mask:
+                self.faults.append("the folder %s has the mode %o" % (path.relative_to(prefix), stat.S_IMODE(path.stat().st_mode)))
 
     def pkg_config(self, *words):
         said = run(["env", "PKG_CONFIG_PATH=%s" % (self.prefix / "lib" / "pkgconfig"), "pkg-config", *words, "ufmt_c"])
@@ -108,39 +126,133 @@ class Trial:
         self.expect("over a link", self.install(self.built, linked), 0)
         if other.read_text() != "mine" or (linked / "bin" / "ufmt_conv").is_symlink():
             self.faults.append("a link in the prefix is followed")
-        part = self.room / "part"
-        shutil.copytree(self.built, part, symlinks=True)
-        (part / "bin" / "ufmt_lines").unlink()
-        self.expect("without a program", self.install(part, self.room / "nothing"), 1)
+        for file in NEEDED:
+            part = self.room / "part"
+            shutil.rmtree(part, ignore_errors=True)
+            shutil.copytree(self.built, part, symlinks=True)
+            (part / file).unlink()
+            self.expect("without " + file, self.install(part, self.room / "nothing"), 1)
         self.expect("below a file", self.install(self.built, other / "prefix"), 1)
         self.expect("with nothing installed", self.install("--uninstall", self.room / "nothing"), 1)
         for words in ([], [self.built], [self.built, "a", "b"], ["--uninstall"]):
             self.expect("tools/install %s" % words, self.install(*words), 2)
         if (self.room / "nothing").exists():
-            self.faults.append("without a program, something is installed")
+            self.faults.append("without a file, something is installed")
         self.expect("--help", self.install("--help"), 0)
 
     def remove(self):
-        """After --uninstall no file is left, and one that was not installed stays."""
+        """After --uninstall no file is left but one that was not installed, and the folders stay."""
         own = self.prefix / "bin" / "own"
         own.write_text("mine")
         self.expect("--uninstall", self.install("--uninstall", self.prefix), 0)
         left = [path for path in self.prefix.rglob("*") if not path.is_dir()]
         if left != [own]:
             self.faults.append("after --uninstall there are %s" % left)
+        for file in FILES:
+            if not (self.prefix / file).parent.is_dir():
+                self.faults.append("after --uninstall the folder of %s isn't there" % file)
+
+    def upgrade(self):
+        """A second version replaces each file of the first."""
+        second = self.room / "second"
+        shutil.copytree(self.built, second, symlinks=True)
+        for path in sorted(second.rglob("*")):
+            if path.is_file() and not path.is_symlink():
+                path.write_bytes(path.read_bytes() + b"\n")
+        to = self.room / "upgraded"
+        self.expect("tools/install", self.install(self.built, to), 0)
+        self.expect("tools/install, of a second version", self.install(second, to), 0)
+        self.compare_files(to)
+        for file in FILES:
+            source = second / ("BUILD" if file.endswith("/BUILD") else file)
+            if source.exists() and not filecmp.cmp(source, to / file, shallow=False):
+                self.faults.append("%s is that of the version before" % file)
+
+    def look_into_library(self, archived):
+        """The shared library's name for the loader, and what is seen of it, if the archive has a function more."""
+        more, made = self.room / "more", self.room / "shared"
+        made.mkdir()
+        more.with_suffix(".c").write_text("int not_a_call(void);\nint not_a_call(void) { return 1; }\n")
+        self.expect("gcc -c", run(["gcc", "-c", "-fPIC", more.with_suffix(".c"), "-o", more.with_suffix(".o")]), 0)
+        shutil.copy(archived, more.with_suffix(".a"))
+        self.expect("ar", run(["ar", "r", more.with_suffix(".a"), more.with_suffix(".o")]), 0)
+        folder.share(more.with_suffix(".a"), made)
+        library = made / ("libufmt_c.so." + folder.version())
+        said = run(["readelf", "-d", library]).output.decode()
+        name = "libufmt_c.so." + ".".join(folder.version().split(".")[:2])
+        if "Library soname: [%s]" % name not in said:
+            self.faults.append("the shared library isn't named %s" % name)
+        seen = run(["nm", "-D", "--defined-only", library]).output.decode().splitlines()
+        others = [line for line in seen if not line.split()[-1].startswith("ufmt_")]
+        if others or not seen:
+            self.faults.append("the shared library shows %s" % others[:5])
+
+    def told_of_build(self):
+        """BUILD says the commit, and whether files were changed."""
+        told = dict(line.split(": ", 1) for line in (self.built / "BUILD").read_text().splitlines())
+        if (TOP / ".git").exists():
+            head = subprocess.run(["git", "rev-parse", "HEAD"], cwd=TOP, capture_output=True, text=True, check=True).stdout.strip()
+            changed = subprocess.run(["git", "diff-index", "--quiet", "HEAD", "--"], cwd=TOP).returncode != 0
+            if not told["commit"].startswith(head) or changed and not told["commit"].endswith(" with changes"):
+                self.faults.append("BUILD has the commit %s" % told["commit"])
+        if told["version"] != folder.version() or told["proved"] != "no":
+            self.faults.append("BUILD has %s" % told)
+
+    def build_says(self, programs, library):
+        """What tools/build puts into its folder says whether it was proved. The builds themselves are those that are here."""
+        loader = importlib.machinery.SourceFileLoader("build_tool", str(BUILD))
+        tool = importlib.util.module_from_spec(importlib.util.spec_from_loader("build_tool", loader))
+        loader.exec_module(tool)
+        tool.unproved, tool.proved = lambda _room: (programs, library), lambda: (programs, library)
+        for words, wanted in (([], "no"), (["--proved"], "yes")):
+            to, printed, given = self.room / ("said-" + wanted), io.StringIO(), sys.argv
+            sys.argv = [str(BUILD), str(to), *words]
+            with contextlib.redirect_stdout(printed):
+                status = tool.main()
+            sys.argv = given
+            told = (to / "BUILD").read_text()
+            page = (to / "lib" / "pkgconfig" / "ufmt_c.pc").read_text()
+            if status or printed.getvalue() != told or "proved: %s\n" % wanted not in told or "proved=%s\n" % wanted not in page:
+                self.faults.append("tools/build %s says %s" % (" ".join(words), told))
+
+    def build_goes_wrong(self):
+        """A folder in use stays as it is, and of a kit that doesn't prove the library nothing is left."""
+        full, kit, to = self.room / "full", self.room / "kit", self.room / "unbuilt"
+        full.mkdir()
+        (full / "own").write_text("mine")
+        self.expect("tools/build into a full folder", run([BUILD, full]), 1)
+        kit.mkdir()
+        (kit / "rt").write_text(FAILING_KIT)
+        (kit / "rt").chmod(0o755)
+        self.expect("tools/build --proved, of a kit that fails", run(["env", "PATH=%s:%s" % (kit, os.environ["PATH"]), BUILD, to, "--proved"]), 1)
+        if to.exists() or [path.name for path in full.iterdir()] != ["own"]:
+            self.faults.append("tools/build leaves files where it fails")
+        for words in ([], ["a", "b"], ["--proven", "a"]):
+            self.expect("tools/build %s" % words, run([BUILD, *words]), 2)
 
     def run(self, programs):
         (self.room / "archive").mkdir()
-        folder.made(self.built, programs, archive.unproved(self.room / "archive"), False)
+        library = archive.unproved(self.room / "archive")
+        folder.made(self.built, programs, library, False)
         told = (self.built / "BUILD").read_bytes()
+        self.told_of_build()
+        self.look_into_library(library)
         self.expect("tools/install", self.install(self.built, self.prefix), 0, told)
         self.compare_files(self.prefix)
         for name in installed.PROGRAMS:
             self.faults += installed.faults_of(self.prefix, name)
         self.build_callers()
         self.expect("with DESTDIR", self.install(self.built, "/usr", DESTDIR=self.room / "destination"), 0, told)
-        self.compare_files(self.room / "destination" / "usr")
+        destination = self.room / "destination"
+        self.compare_files(destination / "usr")
+        self.expect("--uninstall with DESTDIR", self.install("--uninstall", "/usr", DESTDIR=destination), 0)
+        left = [path for path in destination.rglob("*") if not path.is_dir()]
+        if left:
+            self.faults.append("after --uninstall with DESTDIR there are %s" % left[:3])
+        self.upgrade()
         self.go_wrong()
+        self.build_says(programs, library)
+        self.build_goes_wrong()
         self.remove()
 
 
