@@ -161,6 +161,8 @@ def files(cases):
             ("a missing file", ("none",), b"", b"", missing), ("a missing file between two", ("front", "none", "back"), b"", whole, missing),
             ("a folder", ("folder", "--plain", "group", "group's end"), b"", LONG, folder), ("an empty name", ("",), b"", b"", cannot_read("", IS_MISSING)),
             ("a missing file and a folder", ("none", "folder", "front", "back"), b"", whole, missing + "\n" + folder),
+            ("a folder and a missing file", ("folder", "none"), b"", b"", folder + "\n" + missing),
+            ("a folder twice", ("folder", "folder", "front"), b"", front, folder + "\n" + folder),
             ("a name with a line feed", ("a\nb",), b"", b"", cannot_read("a\nb", IS_MISSING))]
     for name, row, text, output, said in rows:
         cases.judge(name, cases.run(*row, text=text), 3 if said else 0, output, said)
