@@ -225,6 +225,8 @@ def fields():
         changed = [line[:at] for at in range(len(line))]
         changed += [line[:at] + bytes([byte]) + line[at + 1 :] for at in range(len(line)) for byte in (0x20, 0x22, 0x2C, 0x7F, 0xFF)]
         yield from (field_case(text_class, data, name) for text_class in CLASSES for data in changed)
+    # The text is in the line before the field, too: the place is the field's.
+    yield from (field_case(text_class, b"1: S { y: 1, x: 1 }, x: 1", b"x") for text_class in CLASSES)
     for opened in (b"[", b"(", b"{", b"a(", b"A { x: ", b"[S { x: 1 }, "):
         for count in (20, *DEEP) if opened == b"[" else (20, 40):
             yield from (field_case(DEBUG, opened * count + end, b"x") for end in (b"", b"]", b" S { x: 1 }", b"1" + b"]" * count))
