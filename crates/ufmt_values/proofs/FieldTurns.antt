@@ -1,5 +1,5 @@
 -- The fields of a struct, as they are read one after the other.
-use Rattle.std.proofs.Common.{◌≡◌, ◌⊎◌, inl, inr, ◌∙◌, refl, ap, sym, subst, ℕ, ◌+◌, ◌-◌, ◌<◌, ◌≤◌, Bool, true, false, cond, List, [], ◌∷◌, ◌++◌, append_assoc, codes, bytes_eq, not, is_some, Option, Some, None, drop, take, length, length-append, length-drop, arith}
+use Rattle.std.proofs.Common.{◌≡◌, inl, inr, ◌∙◌, refl, ap, sym, subst, ℕ, ◌+◌, ◌-◌, ◌<◌, ◌≤◌, Bool, true, false, cond, List, [], ◌∷◌, ◌++◌, codes, bytes_eq, not, is_some, Option, Some, None, option_map, drop, take, length, length-append, length-drop, arith}
 use Rattle.std.proofs.Math.Seq.{take-append_seam}
 use Rattle.std.proofs.lemmas.Bool.{true≢false}
 use Rattle.std.proofs.lemmas.List.{take-append-drop}
@@ -18,9 +18,9 @@ use Rattle.ufmt_scan.specs.Fronts.{IsFront, begun_after, begun_by, is_leaf, read
 use Rattle.ufmt_scan.specs.Scan.{TextEvent, block_events, events_of, events_of_entries, events_of_fields, events_of_pairs, tail_events}
 use Rattle.ufmt_scan.specs.declared.scan.event.Event.TheVariants.{Leaf, Empty, OnlyDots, Open, FieldName, Colon, Next, Close, Dots}
 use Rattle.ufmt_scan.specs.declared.text.FrontText.{FrontText}
-use Rattle.ufmt_values.specs.Fields.{first_leaf, leaf_of, leaf_text}
-use Rattle.ufmt_values.specs.Private.FieldsLeft.{AreGood, Comes, DotsCome, FieldComes, IsEnd, IsGood, Split, after_field}
-use Rattle.ufmt_values.proofs.StructTexts.{IsNoStruct, IsStruct, dots_end, name_is_read, none_or_some, value_is_read}
+use Rattle.ufmt_values.specs.Fields.{leaf_text}
+use Rattle.ufmt_values.specs.Private.FieldsLeft.{AreGood, Comes, DotsCome, FieldComes, IsGood, LeafAndRest, after_field, leaf_among, leaf_in}
+use Rattle.ufmt_values.proofs.StructTexts.{IsStruct, Shape, dots_end, name_is_read, none_or_some, value_is_read}
 
 -- ---- leaves
 
@@ -92,20 +92,29 @@ cut_is front after value size is within left =
     let same : size ≡ length front = omega (arith, whole, rest, within) in
     ap (λ n. take n value) same ∙ ap (take (length front)) is ∙ take-append_seam front after
 
+-- a value's text, and what follows it
+abbrev pub split_at : FrontText → List ℕ → LeafAndRest
+split_at front value = (take front.len value, drop front.len value)
+
 -- what was read of a field: its value is there, and what follows it
-pub record FieldRead (class : Class) (name field value : List ℕ) (front : FrontText) (answer : Option (List ℕ)) : Type 0 where
+pub record FieldRead (class : Class) (name field value : List ℕ) (front : FrontText) (answer : Option LeafAndRest) : Type 0 where
   pub others : Fields
   pub dots : Bool
   pub rest : List ℕ
   pub good : AreGood class others
   pub left : drop front.len value ≡ after_field others dots rest
-  pub answers : answer ≡ cond (bytes_eq field name) (cond front.is_leaf (Some (take front.len value)) None) (first_leaf name others)
+  pub answers : answer ≡ cond (bytes_eq field name) (cond front.is_leaf (Some (split_at front value)) None) (leaf_among name others dots rest)
+
+-- what follows a text that is there
+with_rest : (b : Bool) (text : List ℕ) {after left : List ℕ} → after ≡ left → option_map {U = LeafAndRest} (λ t. (t, after)) (cond b (Some text) None) ≡ cond b (Some (text, left)) None
+with_rest true text is = ap (λ (u : List ℕ). Some (text, u)) is
+with_rest false text is = refl
 
 -- texts of options that are equal
 some_same : (a b : List ℕ) → Some a ≡ Some b → a ≡ b
 some_same a b h = cc
 
-module _ (class : Class) (name text : List ℕ) (answer : Option (List ℕ)) where
+module _ (class : Class) (name text : List ℕ) (answer : Option LeafAndRest) where
   -- a field's name is there, or only dots are left
   pub no_name : Comes class name text answer → None ≡ read_name class text → None ≡ answer
   no_name (inl h) none = absurd (none_or_some none (ap (read_name class) h.is ∙ name_is_read class h.field h.value (after_field h.others h.dots h.rest) h.good.0 h.good.1))
@@ -141,6 +150,8 @@ module _ (class : Class) (name text : List ℕ) (answer : Option (List ℕ)) whe
       let read = value_is_read class h.value h.others h.dots h.rest h.good.1 in
       let parts = same_parts (found.document, drop front.len value) (h.value, after_field h.others h.dots h.rest) (sym found.is_read ∙ ap (read_front class Plain) there ∙ read) in
       let taken = cut_is (plain_text h.value) (after_field h.others h.dots h.rest) value front.len there found.within parts.1 in
+      let followed : Option (List ℕ) → Option LeafAndRest = λ o. option_map (λ t. (t, after_field h.others h.dots h.rest)) o in
+      let further = leaf_among name h.others h.dots h.rest in
       let shown : leaf_text h.value ≡ cond front.is_leaf (Some (take front.len value)) None =
       leaf_is class h.value h.good.1 front.is_leaf (sym (found.is_leaf ∙ ap is_leaf parts.0)) ∙ ap (λ t. cond front.is_leaf (Some t) None) (sym taken) in
       record {
@@ -149,35 +160,35 @@ module _ (class : Class) (name text : List ℕ) (answer : Option (List ℕ)) whe
         rest = h.rest;
         good = h.good.2;
         left = parts.1;
-        answers = h.answers ∙ ap (λ n. cond (bytes_eq n name) (leaf_text h.value) (first_leaf name h.others)) (sym (named_by field after h is).0)
-            ∙ ap (λ o. cond (bytes_eq field name) o (first_leaf name h.others)) shown;
+        answers = h.answers ∙ ap (λ n. cond (bytes_eq n name) (followed (leaf_text h.value)) further) (sym (named_by field after h is).0)
+            ∙ ap (λ o. cond (bytes_eq field name) o further) (ap followed shown ∙ with_rest front.is_leaf (take front.len value) (sym parts.1));
       }
   field_read (inr h) field after value is strips front found = absurd (no_value_of_dots field after value h is strips)
 
 -- ---- the next field
 
 module _ (class : Class) (name : List ℕ) where
-  none_follows : (others : Fields) (dots : Bool) (rest : List ℕ) → None ≡ strip (codes ", ") (after_field others dots rest) → None ≡ first_leaf name others
+  none_follows : (others : Fields) (dots : Bool) (rest : List ℕ) → None ≡ strip (codes ", ") (after_field others dots rest) → None ≡ leaf_among name others dots rest
   none_follows no_fields dots rest none = refl
   none_follows (first_field field value fs) dots rest none = absurd (none_or_some none refl)
 
   next_comes : (others : Fields) (dots : Bool) (rest : List ℕ) → AreGood class others → (next : List ℕ) → Some next ≡ strip (codes ", ") (after_field others dots rest)
-      → Comes class name next (first_leaf name others)
+      → Comes class name next (leaf_among name others dots rest)
   next_comes no_fields false rest good next is = absurd (none_or_some refl (sym is))
   next_comes no_fields true rest good next is = inr (record { rest = rest; is = some_same next (codes ".. }" ++ rest) is; answers = refl })
   next_comes (first_field field value fs) dots rest good next is =
       let same = some_same next (field ++ (codes ": " ++ (plain_text value ++ after_field fs dots rest))) is in
       inl (record { field = field; value = value; others = fs; dots = dots; rest = rest; good = good; is = same; answers = refl })
 
-  module _ (field value : List ℕ) (front : FrontText) (answer : Option (List ℕ)) (h : FieldRead class name field value front answer) where
+  module _ (field value : List ℕ) (front : FrontText) (answer : Option LeafAndRest) (h : FieldRead class name field value front answer) where
     -- this is the field
-    pub answer_is : bytes_eq field name ≡ true → (b : Bool) → front.is_leaf ≡ b → cond b (Some (take front.len value)) None ≡ answer
+    pub answer_is : bytes_eq field name ≡ true → (b : Bool) → front.is_leaf ≡ b → cond b (Some (split_at front value)) None ≡ answer
     answer_is same b is =
-        sym (h.answers ∙ ap (λ x. cond x (cond front.is_leaf (Some (take front.len value)) None) (first_leaf name h.others)) same ∙ ap (λ x. cond x (Some (take front.len value)) None) is)
+        sym (h.answers ∙ ap (λ x. cond x (cond front.is_leaf (Some (split_at front value)) None) (leaf_among name h.others h.dots h.rest)) same ∙ ap (λ x. cond x (Some (split_at front value)) None) is)
 
     -- it is another
-    other_answer : bytes_eq field name ≡ false → answer ≡ first_leaf name h.others
-    other_answer other = h.answers ∙ ap (λ x. cond x (cond front.is_leaf (Some (take front.len value)) None) (first_leaf name h.others)) other
+    other_answer : bytes_eq field name ≡ false → answer ≡ leaf_among name h.others h.dots h.rest
+    other_answer other = h.answers ∙ ap (λ x. cond x (cond front.is_leaf (Some (split_at front value)) None) (leaf_among name h.others h.dots h.rest)) other
 
     pub no_further : bytes_eq field name ≡ false → None ≡ strip (codes ", ") (drop front.len value) → None ≡ answer
     no_further other none = none_follows h.others h.dots h.rest (none ∙ ap (strip (codes ", ")) h.left) ∙ sym (other_answer other)
@@ -187,85 +198,47 @@ module _ (class : Class) (name : List ℕ) where
 
 -- ---- from the value's name on
 
-module _ (class : Class) (name t : List ℕ) (d : Document) where
-  abbrev Shape : Type 0
-  Shape = IsStruct class d t ⊎ IsNoStruct class d t
-
-  name_read : (h : IsStruct class d t) → read_name class t ≡ Some (h.name, codes " { " ++ h.fields)
+module _ (class : Class) (name t : List ℕ) (d : Document) (rest : List ℕ) where
+  name_read : (h : IsStruct class d rest t) → read_name class t ≡ Some (h.name, codes " { " ++ h.fields)
   name_read h = ap (read_name class) h.is ∙ read_name_complete class h.name (codes " { " ++ h.fields) h.is_name (stops_at_space class (codes "{ " ++ h.fields))
 
-  pub struct_unnamed : Shape → None ≡ read_name class t → None ≡ leaf_of name d
+  pub struct_unnamed : Shape class d rest t → None ≡ read_name class t → None ≡ leaf_in name d rest
   struct_unnamed (inl h) none = absurd (none_or_some none (name_read h))
   struct_unnamed (inr h) none = sym (h.none name)
 
   module _ (its_name after : List ℕ) (is : Some (its_name, after) ≡ read_name class t) where
-    after_is : (h : IsStruct class d t) → after ≡ codes " { " ++ h.fields
+    after_is : (h : IsStruct class d rest t) → after ≡ codes " { " ++ h.fields
     after_is h = (same_parts (its_name, after) (h.name, codes " { " ++ h.fields) (is ∙ name_read h)).1
 
-    pub no_brace : Shape → None ≡ strip (codes " {") after → None ≡ leaf_of name d
+    pub no_brace : Shape class d rest t → None ≡ strip (codes " {") after → None ≡ leaf_in name d rest
     no_brace (inl h) none = absurd (none_or_some none (ap (strip (codes " {")) (after_is h)))
     no_brace (inr h) none = sym (h.none name)
 
     module _ (inside : List ℕ) (strips : Some inside ≡ strip (codes " {") after) where
-      inside_is : (h : IsStruct class d t) → inside ≡ codes " " ++ h.fields
+      inside_is : (h : IsStruct class d rest t) → inside ≡ codes " " ++ h.fields
       inside_is h = some_same inside (codes " " ++ h.fields) (strips ∙ ap (strip (codes " {")) (after_is h))
 
-      pub no_space : Shape → None ≡ strip (codes " ") inside → None ≡ leaf_of name d
+      pub no_space : Shape class d rest t → None ≡ strip (codes " ") inside → None ≡ leaf_in name d rest
       no_space (inl h) none = absurd (none_or_some none (ap (strip (codes " ")) (inside_is h)))
       no_space (inr h) none = sym (h.none name)
 
-      pub fields_come : Shape → (fields : List ℕ) → Some fields ≡ strip (codes " ") inside → Comes class name fields (leaf_of name d)
+      pub fields_come : Shape class d rest t → (fields : List ℕ) → Some fields ≡ strip (codes " ") inside → Comes class name fields (leaf_in name d rest)
       fields_come (inl h) fields first =
           let same = some_same fields h.fields (first ∙ ap (strip (codes " ")) (inside_is h)) in
-          subst (λ text. Comes class name text (leaf_of name d)) (sym same) (h.comes name)
+          subst (λ text. Comes class name text (leaf_in name d rest)) (sym same) (h.comes name)
       fields_come (inr h) fields first =
           let whole : after ≡ codes " { " ++ fields = strip_found (codes " {") after inside (sym strips) ∙ ap (λ u. codes " {" ++ u) (strip_found (codes " ") inside fields (sym first)) in
           absurd (h.no_fields its_name after fields (sym is) whole)
 
--- ---- where what was read is
+-- ---- what was read is shorter
 
-module _ (class : Class) (fields rest field after value : List ℕ) (size : ℕ) (named : Some (field, after) ≡ read_name class rest) (strips : Some value ≡ strip (codes ": ") after) where
-  rest_is : rest ≡ field ++ (codes ": " ++ (take size value ++ drop size value))
-  rest_is =
-      (read_name_sound class rest field after (sym named)).1 ∙ ap (λ t. field ++ t) (strip_found (codes ": ") after value (sym strips))
-      ∙ ap (λ t. field ++ (codes ": " ++ t)) (sym (take-append-drop size value))
-
-  -- a field's value is in the fields
-  pub value_end : (front : List ℕ) × (fields ≡ front ++ rest) → (front : List ℕ) × (fields ≡ front ++ (take size value ++ drop size value))
-  value_end (front, is) =
-      let both = take size value ++ drop size value in (
-        front ++ (field ++ codes ": "),
-        is ∙ ap (λ t. front ++ t) (rest_is ∙ sym (append_assoc field (codes ": ") both)) ∙ sym (append_assoc front (field ++ codes ": ") both),
-      )
-
-  module _ (next : List ℕ) (more : Some next ≡ strip (codes ", ") (drop size value)) where
-    left_is : drop size value ≡ codes ", " ++ next
-    left_is = strip_found (codes ", ") (drop size value) next (sym more)
-
-    -- so is what follows it
-    pub next_end : (front : List ℕ) × (fields ≡ front ++ rest) → (front : List ℕ) × (fields ≡ front ++ next)
-    next_end before =
-        let ends = value_end before in (
-          ends.0 ++ (take size value ++ codes ", "),
-          ends.1 ∙ ap (λ t. ends.0 ++ (take size value ++ t)) left_is
-              ∙ sym (append_assoc ends.0 (take size value ++ codes ", ") next ∙ ap (λ t. ends.0 ++ t) (append_assoc (take size value) (codes ", ") next)),
-        )
-
-    -- and it is shorter
-    pub next_smaller : length next < length rest
-    next_smaller =
-        let whole = ap length rest_is ∙ length-append field (codes ": " ++ (take size value ++ drop size value)) in
-        let both = length-append (take size value) (drop size value) in
-        let left = ap length left_is in
-        omega (arith, whole, both, left)
-
--- the same of a value's name, and of what follows it
-pub name_end : (class : Class) (text its_name after inside fields : List ℕ) → Some (its_name, after) ≡ read_name class text → Some inside ≡ strip (codes " {") after
-    → Some fields ≡ strip (codes " ") inside → (outcome : Option Split) → IsEnd fields outcome → IsEnd text outcome
-name_end class text its_name after inside fields named strips first None ends = tt
-name_end class text its_name after inside fields named strips first (Some x) (front, is) = (
-  its_name ++ (codes " { " ++ front),
-  (read_name_sound class text its_name after (sym named)).1 ∙ ap (λ t. its_name ++ t) (strip_found (codes " {") after inside (sym strips))
-      ∙ ap (λ t. its_name ++ (codes " {" ++ t)) (strip_found (codes " ") inside fields (sym first)) ∙ ap (λ t. its_name ++ (codes " { " ++ t)) is
-      ∙ sym (append_assoc its_name (codes " { " ++ front) (x.0.now ++ x.1.now)),
-)
+-- what follows a field and a comma is shorter than the field and what follows it
+pub next_smaller : (class : Class) (rest field after value : List ℕ) (size : ℕ) → Some (field, after) ≡ read_name class rest → Some value ≡ strip (codes ": ") after
+    → (next : List ℕ) → Some next ≡ strip (codes ", ") (drop size value) → length next < length rest
+next_smaller class rest field after value size named strips next more =
+    let whole : rest ≡ field ++ (codes ": " ++ (take size value ++ (codes ", " ++ next))) =
+    (read_name_sound class rest field after (sym named)).1 ∙ ap (λ t. field ++ t) (strip_found (codes ": ") after value (sym strips))
+    ∙ ap (λ t. field ++ (codes ": " ++ t)) (sym (take-append-drop size value) ∙ ap (λ t. take size value ++ t) (strip_found (codes ", ") (drop size value) next (sym more))) in
+    let lengths = ap length whole ∙ length-append field (codes ": " ++ (take size value ++ (codes ", " ++ next))) in
+    let left = length-append (take size value) (codes ", " ++ next) in
+    omega (arith, lengths, left)

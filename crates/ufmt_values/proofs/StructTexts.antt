@@ -1,5 +1,5 @@
 -- The plain text of a struct, from its name on, and how its fields are read one by one.
-use Rattle.std.proofs.Common.{◌≡◌, ◌≢◌, ◌⊎◌, inl, inr, ◌∙◌, refl, ap, sym, subst, ℕ, ◌≤◌, Bool, true, false, cond, List, [], ◌∷◌, ◌++◌, append_assoc, append-nil, codes, Option, Some, None, get_or, is_some, ◌&&◌, arith}
+use Rattle.std.proofs.Common.{◌≡◌, ◌≢◌, ◌⊎◌, inl, inr, ◌∙◌, refl, ap, sym, subst, ℕ, ◌≤◌, Bool, true, false, cond, List, [], ◌∷◌, ◌++◌, append_assoc, append-nil, bytes_eq, codes, length, length-append, ◌+◌, Option, Some, None, option_map, get_or, is_some, ◌&&◌, arith}
 use Rattle.std.proofs.lemmas.Bool.{true≢false}
 use Rattle.std.specs.Str.{is_utf8}
 use Rattle.ufmt.specs.Document.{Document, leaf, joined, list_of, set_of, map_of, struct_of, non_exhaustive_of, tuple_of, pretty_part, no_documents, first_document, Fields, no_fields, first_field, nest, nest_fields}
@@ -18,8 +18,8 @@ use Rattle.ufmt_grammar.proofs.Parsing.{same_parts}
 use Rattle.ufmt_grammar.proofs.ReadingComplete.{read_complete}
 use Rattle.ufmt_grammar.proofs.TextsBegin.{document_begins}
 use Rattle.ufmt_scan.specs.Fronts.{has_entries, read_front}
-use Rattle.ufmt_values.specs.Fields.{first_leaf, leaf_of}
-use Rattle.ufmt_values.specs.Private.FieldsLeft.{AreGood, Comes, IsGood, after_field}
+use Rattle.ufmt_values.specs.Fields.{bytes_before, leaf_start, leaf_text}
+use Rattle.ufmt_values.specs.Private.FieldsLeft.{AreGood, Comes, IsGood, LeafAndRest, after_field, leaf_among, leaf_in}
 
 -- an option has a value, or none
 pub none_or_some : {A : Type 0} {o : Option A} {x : A} → None ≡ o → o ≡ Some x → ⊥
@@ -144,17 +144,86 @@ dotted_text name field value fs rest =
     append_assoc name _ rest ∙ ap (λ t. name ++ (codes " { " ++ t))
     (regroup text more dots rest ∙ field_is field value (more ++ dots) rest ∙ ap (λ t. field ++ (codes ": " ++ (plain_text value ++ t))) (dotted_is fs Zero rest))
 
+-- ---- where a leaf is in the text
+
+-- a text and what follows it, after so many bytes
+pub record StartsAfter (t : List ℕ) (size : ℕ) (text after : List ℕ) : Type 0 where
+  pub front : List ℕ
+  pub size_is : length front ≡ size
+  pub is : t ≡ front ++ (text ++ after)
+
+-- a leaf's text is its own
+leaf_text_is : (d : Document) (text : List ℕ) → leaf_text d ≡ Some text → plain_text d ≡ text
+leaf_text_is (leaf text) other is = cc
+leaf_text_is (joined ds) text is = absurd (none_or_some refl is)
+leaf_text_is (list_of ds) text is = absurd (none_or_some refl is)
+leaf_text_is (set_of ds) text is = absurd (none_or_some refl is)
+leaf_text_is (map_of ps) text is = absurd (none_or_some refl is)
+leaf_text_is (struct_of name fs) text is = absurd (none_or_some refl is)
+leaf_text_is (non_exhaustive_of name fs) text is = absurd (none_or_some refl is)
+leaf_text_is (tuple_of name ds) text is = absurd (none_or_some refl is)
+leaf_text_is (pretty_part d) text is = absurd (none_or_some refl is)
+
+-- the text of fields, the first of which isn't left out
+abbrev fields_text : List ℕ → Document → Fields → Bool → List ℕ → List ℕ
+fields_text field value fs dots rest = field ++ (codes ": " ++ (plain_text value ++ after_field fs dots rest))
+
+-- by whether a field has the name
+by_name : (same : Bool) (t : List ℕ) (size further : ℕ) (text after : List ℕ) (here later : Option LeafAndRest) → cond same here later ≡ Some (text, after)
+    → (here ≡ Some (text, after) → StartsAfter t (size + 0) text after) → (later ≡ Some (text, after) → StartsAfter t (size + further) text after)
+    → StartsAfter t (size + cond same 0 further) text after
+by_name true t size further text after here later there first others = first there
+by_name false t size further text after here later there first others = others there
+
+module _ (name field : List ℕ) (value : Document) (dots : Bool) (rest text after : List ℕ) where
+  -- the first field's leaf comes after its name
+  starts_here : (fs : Fields) (o : Option (List ℕ)) → leaf_text value ≡ o → option_map {U = LeafAndRest} (λ t. (t, after_field fs dots rest)) o ≡ Some (text, after)
+      → StartsAfter (fields_text field value fs dots rest) (length field + 2 + 0) text after
+  starts_here fs None is there = absurd (none_or_some refl there)
+  starts_here fs (Some t) is there =
+      let parts = same_parts (t, after_field fs dots rest) (text, after) there in
+      record {
+        front = field ++ codes ": ";
+        size_is = omega (arith, length-append field (codes ": "));
+        is = ap (λ t. field ++ (codes ": " ++ (t ++ after_field fs dots rest))) (leaf_text_is value t is ∙ parts.0)
+            ∙ ap (λ u. field ++ (codes ": " ++ (text ++ u))) parts.1 ∙ sym (append_assoc field (codes ": ") (text ++ after));
+      }
+
+  -- another's comes after the first field and a comma
+  starts_later : (other : List ℕ) (d : Document) (ds : Fields) (size : ℕ) → StartsAfter (fields_text other d ds dots rest) size text after
+      → StartsAfter (fields_text field value (first_field other d ds) dots rest) (length field + 2 + (length (plain_text value) + 2 + size)) text after
+  starts_later other d ds size found =
+      let inside = codes ": " ++ (plain_text value ++ codes ", ") in
+      let front = field ++ inside in
+      record {
+        front = front ++ found.front;
+        size_is = omega (arith, length-append front found.front, length-append field inside, length-append (plain_text value) (codes ", "), found.size_is);
+        is = ap (λ t. field ++ (codes ": " ++ (plain_text value ++ (codes ", " ++ t)))) found.is
+            ∙ sym (append_assoc front found.front (text ++ after) ∙ append_assoc field inside (found.front ++ (text ++ after))
+                ∙ ap (λ t. field ++ (codes ": " ++ t)) (append_assoc (plain_text value) (codes ", ") (found.front ++ (text ++ after))));
+      }
+
+-- a leaf comes after what is before it in the fields' text
+pub leaf_starts : (name field : List ℕ) (value : Document) (fs : Fields) (dots : Bool) (rest text after : List ℕ)
+    → leaf_among name (first_field field value fs) dots rest ≡ Some (text, after) → StartsAfter (fields_text field value fs dots rest) (bytes_before name (first_field field value fs)) text after
+leaf_starts name field value no_fields dots rest text after there =
+    by_name (bytes_eq field name) _ _ _ text after _ _ there (starts_here name field value dots rest text after no_fields (leaf_text value) refl) (λ none. absurd (none_or_some refl none))
+leaf_starts name field value (first_field other d ds) dots rest text after there =
+    by_name (bytes_eq field name) _ _ _ text after _ _ there (starts_here name field value dots rest text after (first_field other d ds) (leaf_text value) refl)
+    (λ later. starts_later name field value dots rest text after other d ds _ (leaf_starts name other d ds dots rest text after later))
+
 -- what is found of a struct with fields: its name, and its fields after a space, a brace and a space
-pub record IsStruct (class : Class) (d : Document) (t : List ℕ) : Type 0 where
+pub record IsStruct (class : Class) (d : Document) (rest t : List ℕ) : Type 0 where
   pub name : List ℕ
   pub fields : List ℕ
   pub is_name : IsName class name
   pub is : t ≡ name ++ (codes " { " ++ fields)
-  pub comes : (wanted : List ℕ) → Comes class wanted fields (leaf_of wanted d)
+  pub comes : (wanted : List ℕ) → Comes class wanted fields (leaf_in wanted d rest)
+  pub starts : (wanted text after : List ℕ) → leaf_in wanted d rest ≡ Some (text, after) → StartsAfter t (leaf_start wanted d) text after
 
 -- what is found of another value: no name, space and brace are before it
-pub record IsNoStruct (class : Class) (d : Document) (t : List ℕ) : Type 0 where
-  pub none : (wanted : List ℕ) → leaf_of wanted d ≡ None
+pub record IsNoStruct (class : Class) (d : Document) (rest t : List ℕ) : Type 0 where
+  pub none : (wanted : List ℕ) → leaf_in wanted d rest ≡ None
   pub no_fields : (name after fields : List ℕ) → read_name class t ≡ Some (name, after) → after ≢ codes " { " ++ fields
 
 -- no name begins with such a byte
@@ -177,16 +246,16 @@ no_parenthesis : (class : Class) (w : List ℕ) → IsName class (40 ∷ w) → 
 no_parenthesis Token w h = absurd (cc)
 no_parenthesis Debug w h = let named = h.bytes in absurd (cc)
 
-abbrev Shape : Class → Document → List ℕ → Type 0
-Shape class d t = IsStruct class d t ⊎ IsNoStruct class d t
+abbrev pub Shape : Class → Document → List ℕ → List ℕ → Type 0
+Shape class d rest t = IsStruct class d rest t ⊎ IsNoStruct class d rest t
 
 -- it begins with a bracket
-bracketed : (class : Class) (d : Document) (c : ℕ) (t : List ℕ) → ((w : List ℕ) → IsName class (c ∷ w) → ⊥) → ((wanted : List ℕ) → leaf_of wanted d ≡ None) → Shape class d (c ∷ t)
-bracketed class d c t never none = inr (record { none = none; no_fields = λ name after fields h is. no_bracket class c t name after never h })
+bracketed : (class : Class) (d : Document) (rest : List ℕ) (c : ℕ) (t : List ℕ) → ((w : List ℕ) → IsName class (c ∷ w) → ⊥) → ((wanted : List ℕ) → leaf_in wanted d rest ≡ None) → Shape class d rest (c ∷ t)
+bracketed class d rest c t never none = inr (record { none = none; no_fields = λ name after fields h is. no_bracket class c t name after never h })
 
 -- it begins with a name and a parenthesis
-named : (class : Class) (d : Document) (name t : List ℕ) → IsName class name → Begins t → ((wanted : List ℕ) → leaf_of wanted d ≡ None) → Shape class d (name ++ (40 ∷ t))
-named class d name t is begins none = inr (record {
+named : (class : Class) (d : Document) (rest name t : List ℕ) → IsName class name → Begins t → ((wanted : List ℕ) → leaf_in wanted d rest ≡ None) → Shape class d rest (name ++ (40 ∷ t))
+named class d rest name t is begins none = inr (record {
   none = none;
   no_fields = λ other after fields h starts.
       let read = read_name_complete class name (40 ∷ t) is (stops_at_parenthesis class t begins) in
@@ -195,41 +264,49 @@ named class d name t is begins none = inr (record {
 })
 
 module _ (class : Class) (rest : List ℕ) where
-  struct_found : (name field : List ℕ) (value : Document) (fs : Fields) (dots : Bool) (d : Document) → ((wanted : List ℕ) → leaf_of wanted d ≡ first_leaf wanted (first_field field value fs))
-      → IsName class name → AreGood class (first_field field value fs)
-      → Shape class d (name ++ (codes " { " ++ (field ++ (codes ": " ++ (plain_text value ++ after_field fs dots rest)))))
-  struct_found name field value fs dots d same is good = inl (record {
+  struct_found : (name field : List ℕ) (value : Document) (fs : Fields) (dots : Bool) (d : Document)
+      → ((wanted : List ℕ) → leaf_in wanted d rest ≡ leaf_among wanted (first_field field value fs) dots rest)
+      → ((wanted : List ℕ) → leaf_start wanted d ≡ length name + 3 + bytes_before wanted (first_field field value fs))
+      → IsName class name → AreGood class (first_field field value fs) → Shape class d rest (name ++ (codes " { " ++ fields_text field value fs dots rest))
+  struct_found name field value fs dots d same place is good = inl (record {
     name = name;
     fields = field ++ (codes ": " ++ (plain_text value ++ after_field fs dots rest));
     is_name = is;
     is = refl;
     comes = λ wanted. inl (record { field = field; value = value; others = fs; dots = dots; rest = rest; good = good; is = refl; answers = same wanted });
+    starts = λ wanted text after there.
+        let found = leaf_starts wanted field value fs dots rest text after (sym (same wanted) ∙ there) in
+        record {
+          front = name ++ (codes " { " ++ found.front);
+          size_is = length-append name (codes " { " ++ found.front) ∙ omega (arith, found.size_is, place wanted);
+          is = ap (λ t. name ++ (codes " { " ++ t)) found.is ∙ sym (append_assoc name (codes " { " ++ found.front) (text ++ after));
+        };
   })
 
   -- by what the value is
-  pub shape_of : (d : Document) → IsBuilt class d → nest d ≤ 255 → normal d ≡ d → has_entries d ≡ true → Shape class d (plain_text d ++ rest)
+  pub shape_of : (d : Document) → IsBuilt class d → nest d ≤ 255 → normal d ≡ d → has_entries d ≡ true → Shape class d rest (plain_text d ++ rest)
   shape_of (leaf text) built deep is entries = absurd (true≢false (sym entries))
   shape_of (joined ds) built deep is entries = absurd built
-  shape_of (list_of ds) built deep is entries = bracketed class (list_of ds) 91 _ (no_list class) (λ wanted. refl)
-  shape_of (set_of ds) built deep is entries = bracketed class (set_of ds) 123 _ (no_braces class) (λ wanted. refl)
-  shape_of (map_of ps) built deep is entries = bracketed class (map_of ps) 123 _ (no_braces class) (λ wanted. refl)
+  shape_of (list_of ds) built deep is entries = bracketed class (list_of ds) rest 91 _ (no_list class) (λ wanted. refl)
+  shape_of (set_of ds) built deep is entries = bracketed class (set_of ds) rest 123 _ (no_braces class) (λ wanted. refl)
+  shape_of (map_of ps) built deep is entries = bracketed class (map_of ps) rest 123 _ (no_braces class) (λ wanted. refl)
   shape_of (tuple_of name no_documents) built deep is entries = absurd (true≢false (sym entries))
-  shape_of (tuple_of [] (first_document d ds)) built deep is entries = bracketed class (tuple_of [] (first_document d ds)) 40 _ (no_parenthesis class) (λ wanted. refl)
+  shape_of (tuple_of [] (first_document d ds)) built deep is entries = bracketed class (tuple_of [] (first_document d ds)) rest 40 _ (no_parenthesis class) (λ wanted. refl)
   shape_of (tuple_of (c ∷ name) (first_document d ds)) built deep is entries =
-      subst (Shape class (tuple_of (c ∷ name) (first_document d ds))) (sym (append_assoc (c ∷ name) _ rest))
-      (named class (tuple_of (c ∷ name) (first_document d ds)) (c ∷ name) _ built.0 (Begins-append (Begins-append (document_begins class (setting Plain 0) d built.1) _) rest) (λ wanted. refl))
+      subst (Shape class (tuple_of (c ∷ name) (first_document d ds)) rest) (sym (append_assoc (c ∷ name) _ rest))
+      (named class (tuple_of (c ∷ name) (first_document d ds)) rest (c ∷ name) _ built.0 (Begins-append (Begins-append (document_begins class (setting Plain 0) d built.1) _) rest) (λ wanted. refl))
   shape_of (struct_of name no_fields) built deep is entries = absurd (true≢false (sym entries))
   shape_of (struct_of name (first_field field value fs)) built deep is entries =
       let value_is : normal value ≡ value = ap (λ d. first_value (fields_in d)) is in
       let rest_is : normal_fields fs ≡ fs = ap (λ d. later_fields (fields_in d)) is in
       let good = fields_good class (first_field field value fs) built.1 (omega arith) (λ i. first_field field (value_is i) (rest_is i)) in
-      subst (Shape class (struct_of name (first_field field value fs))) (sym (struct_text name field value fs rest))
-      (struct_found name field value fs false (struct_of name (first_field field value fs)) (λ wanted. refl) built.0 good)
+      subst (Shape class (struct_of name (first_field field value fs)) rest) (sym (struct_text name field value fs rest))
+      (struct_found name field value fs false (struct_of name (first_field field value fs)) (λ wanted. refl) (λ wanted. refl) built.0 good)
   shape_of (non_exhaustive_of name no_fields) built deep is entries = absurd (true≢false (sym entries))
   shape_of (non_exhaustive_of name (first_field field value fs)) built deep is entries =
       let value_is : normal value ≡ value = ap (λ d. first_value (fields_in d)) is in
       let rest_is : normal_fields fs ≡ fs = ap (λ d. later_fields (fields_in d)) is in
       let good = fields_good class (first_field field value fs) built.2 (omega arith) (λ i. first_field field (value_is i) (rest_is i)) in
-      subst (Shape class (non_exhaustive_of name (first_field field value fs))) (sym (dotted_text name field value fs rest))
-      (struct_found name field value fs true (non_exhaustive_of name (first_field field value fs)) (λ wanted. refl) built.1 good)
+      subst (Shape class (non_exhaustive_of name (first_field field value fs)) rest) (sym (dotted_text name field value fs rest))
+      (struct_found name field value fs true (non_exhaustive_of name (first_field field value fs)) (λ wanted. refl) (λ wanted. refl) built.1 good)
   shape_of (pretty_part d) built deep is entries = absurd built

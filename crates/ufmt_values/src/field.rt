@@ -1,9 +1,9 @@
 //! A field of a struct in a line of a log.
 ghost use Rattle.std.specs.Prelude.{◌≡◌, ◌<◌, ◌≤◌, ◌+◌, ℕ, List, Option, Some, MatchOption, drop, length, option_map, ⊤};
 ghost use Rattle.ufmt.specs.Document.{Document};
-ghost use Rattle.ufmt_values.specs.Fields.{field_of, leaf_of, value_in};
+ghost use Rattle.ufmt_values.specs.Fields.{IsPlaced, field_of, placed_field, value_in};
 ghost use Rattle.ufmt_values.specs.Values.{before_bracket};
-ghost use Rattle.ufmt_values.specs.Private.FieldsLeft.{Comes, IsEnd, IsFoundAt, IsPlaced, Looks, first_of};
+ghost use Rattle.ufmt_values.specs.Private.FieldsLeft.{Comes, IsFoundAt, LeafAndRest, Looks, both_of, leaf_in};
 
 use crate::values::{next_bracket, value_at, value_start, values_end};
 use ufmt::class::Class;
@@ -33,8 +33,8 @@ pub fn field_of<'a>(class: Class, line: &'a [u8], name: &str) -> Option<&'a [u8]
 
 /// Returns what `field_of` returns, and where it begins in the line.
 pub fn find_field<'a>(class: Class, line: &'a [u8], name: &str) -> Option<Field<'a>>
-    ensures field { option_map (λ field. field.text.now) result ≡ field_of class line.now name.now }
-    ensures place { MatchOption result ⊤ (λ field. IsPlaced line.now field) }
+    ensures field { option_map (λ field. (field.start, field.text.now)) result ≡ placed_field class line.now name.now }
+    ensures place { MatchOption result ⊤ (λ field. IsPlaced line.now field.start field.text.now) }
 {
     let mut end = line.len();
     let mut at = 0;
@@ -107,9 +107,8 @@ fn token_value_at(line: &[u8], low: usize, bracket: usize) -> Option<(usize, Fro
 // The leaf of the first field with this name, and what follows it, if the value at the front is a struct
 // that has one.
 fn leaf_of<'a>(class: Class, text: &'a [u8], name: &str) -> Option<(&'a [u8], &'a [u8])>
-    ensures leaf { (d : Document) (rest : List ℕ) → value_in class text.now ≡ Some (d, rest)
-        → first_of result ≡ leaf_of name.now d }
-    ensures end { IsEnd text.now result }
+    ensures { (d : Document) (rest : List ℕ) → value_in class text.now ≡ Some (d, rest)
+        → both_of result ≡ leaf_in name.now d rest }
 {
     let (_, after) = split_name(class, text)?;
     let inside = strip_two(*b" {", after)?;
@@ -119,8 +118,7 @@ fn leaf_of<'a>(class: Class, text: &'a [u8], name: &str) -> Option<(&'a [u8], &'
 
 // The same of fields, and the end of their struct.
 fn leaf_among<'a>(class: Class, fields: &'a [u8], name: &str) -> Option<(&'a [u8], &'a [u8])>
-    ensures leaf { (answer : Option (List ℕ)) → Comes class name.now fields.now answer → first_of result ≡ answer }
-    ensures end { IsEnd fields.now result }
+    ensures { (answer : Option LeafAndRest) → Comes class name.now fields.now answer → both_of result ≡ answer }
 {
     let mut rest = fields;
     'fields: loop {

@@ -1,16 +1,15 @@
 -- What is left of a struct's plain text from one of its fields on, and where a leaf is in a text.
-use Rattle.std.specs.Prelude.{◌≡◌, ◌⊎◌, ◌+◌, ◌<◌, ◌≤◌, ℕ, suc, Bool, true, false, List, ◌++◌, codes, drop, take, length, Option, Some, None, MatchOption, option_map, ⊤}
+use Rattle.std.specs.Prelude.{◌≡◌, ◌⊎◌, ◌<◌, ◌≤◌, ℕ, suc, Bool, true, false, List, if◌then◌else◌, ◌++◌, bytes_eq, codes, drop, length, Option, Some, None, MatchOption, option_map, ⊤}
 use Rattle.std.specs.Borrow.{Bor}
-use Rattle.ufmt.specs.Document.{Document, Fields, no_fields, first_field, nest}
+use Rattle.ufmt.specs.Document.{Document, struct_of, non_exhaustive_of, Fields, no_fields, first_field, nest}
 use Rattle.ufmt.specs.Layout.{plain_text}
 use Rattle.ufmt.specs.Token.{IsBuilt, IsName, normal}
 use Rattle.ufmt_core.specs.declared.layout.Mode.TheVariants.{Pretty}
 use Rattle.ufmt_grammar.specs.declared.class.Class.{Class}
 use Rattle.ufmt_scan.specs.declared.text.FrontText.{FrontText}
-use Rattle.ufmt_values.specs.declared.field.Field.{Field}
 use Rattle.ufmt_values.specs.declared.field.Look.{Look}
-use Rattle.ufmt_values.specs.declared.field.Look.TheVariants.{Found, Next}
-use Rattle.ufmt_values.specs.Fields.{field_from, first_leaf, value_in}
+use Rattle.ufmt_values.specs.declared.field.Look.TheVariants as look
+use Rattle.ufmt_values.specs.Fields.{IsPlaced, field_from, leaf_text, value_in}
 use Rattle.ufmt_values.specs.FoundValues.{IsStart}
 use Rattle.ufmt_values.specs.Values.{value_start}
 
@@ -28,8 +27,24 @@ after_field no_fields false rest = codes " }" ++ rest
 after_field no_fields true rest = codes ", .. }" ++ rest
 after_field (first_field name value fs) dots rest = codes ", " ++ (name ++ (codes ": " ++ (plain_text value ++ after_field fs dots rest)))
 
+-- a leaf's text, and what follows it
+abbrev pub LeafAndRest : Type 0
+LeafAndRest = List ℕ × List ℕ
+
+-- the leaf of the first of these fields with this name
+abbrev pub leaf_among : List ℕ → Fields → Bool → List ℕ → Option LeafAndRest
+leaf_among name no_fields dots rest = None
+leaf_among name (first_field other value fs) dots rest =
+    if bytes_eq other name then option_map (λ text. (text, after_field fs dots rest)) (leaf_text value) else leaf_among name fs dots rest
+
+-- the same of a struct
+abbrev pub leaf_in : List ℕ → Document → List ℕ → Option LeafAndRest
+leaf_in name (struct_of its_name fs) rest = leaf_among name fs false rest
+leaf_in name (non_exhaustive_of its_name fs) rest = leaf_among name fs true rest
+leaf_in name _ rest = None
+
 -- a field begins here, and the leaf with the name is this one, if it is there
-pub record FieldComes (class : Class) (name text : List ℕ) (answer : Option (List ℕ)) : Type 0 where
+pub record FieldComes (class : Class) (name text : List ℕ) (answer : Option LeafAndRest) : Type 0 where
   pub field : List ℕ
   pub value : Document
   pub others : Fields
@@ -37,28 +52,20 @@ pub record FieldComes (class : Class) (name text : List ℕ) (answer : Option (L
   pub rest : List ℕ
   pub good : AreGood class (first_field field value others)
   pub is : text ≡ field ++ (codes ": " ++ (plain_text value ++ after_field others dots rest))
-  pub answers : answer ≡ first_leaf name (first_field field value others)
+  pub answers : answer ≡ leaf_among name (first_field field value others) dots rest
 
 -- only dots are left, and the leaf isn't there
-pub record DotsCome (text : List ℕ) (answer : Option (List ℕ)) : Type 0 where
+pub record DotsCome (text : List ℕ) (answer : Option LeafAndRest) : Type 0 where
   pub rest : List ℕ
   pub is : text ≡ codes ".. }" ++ rest
   pub answers : answer ≡ None
 
-abbrev pub Comes : Class → List ℕ → List ℕ → Option (List ℕ) → Type 0
+abbrev pub Comes : Class → List ℕ → List ℕ → Option LeafAndRest → Type 0
 Comes class name text answer = FieldComes class name text answer ⊎ DotsCome text answer
 
--- a text and what follows it
-abbrev pub Split : Type 0
-Split = Bor (List ℕ) × Bor (List ℕ)
-
--- the first text, as bytes
-abbrev pub first_of : Option Split → Option (List ℕ)
-first_of o = option_map (λ x. x.0.now) o
-
--- both are the end of this text
-abbrev pub IsEnd : List ℕ → Option Split → Type 0
-IsEnd text o = MatchOption o ⊤ (λ x. (front : List ℕ) × (text ≡ front ++ (x.0.now ++ x.1.now)))
+-- both texts, as bytes
+abbrev pub both_of : Option (Bor (List ℕ) × Bor (List ℕ)) → Option LeafAndRest
+both_of o = option_map (λ x. (x.0.now, x.1.now)) o
 
 -- a value of the class, which ends there
 pub record IsFoundIn (class : Class) (text : List ℕ) (value : FrontText) : Type 0 where
@@ -72,12 +79,7 @@ abbrev pub IsFoundAt : Class → List ℕ → ℕ → ℕ → Option (ℕ × Fro
 IsFoundAt class line low bracket outcome = MatchOption outcome (value_in class (drop (value_start Pretty line low bracket) line) ≡ None)
     (λ x. IsStart Pretty line low bracket x.0 × IsFoundIn class (drop x.0 line) x.1)
 
--- it is there in the line
-pub record IsPlaced (line : List ℕ) (field : Field) : Type 0 where
-  pub within : field.start + length field.text.now ≤ length line
-  pub is : field.text.now ≡ take (length field.text.now) (drop field.start line)
-
 -- a bracket was looked at: the field was found, or the rest has it if the line has
 abbrev pub Looks : Class → List ℕ → List ℕ → ℕ → Look → Type 0
-Looks class line name at (Found field) = IsPlaced line field × ((n : ℕ) → field_from class name (suc n) line at ≡ Some field.text.now)
-Looks class line name at (Next place) = (at < place) × (place ≤ length line) × ((n : ℕ) → field_from class name (suc n) line at ≡ field_from class name n line place)
+Looks class line name at (look.Found field) = IsPlaced line field.start field.text.now × ((n : ℕ) → field_from class name (suc n) line at ≡ Some (field.start, field.text.now))
+Looks class line name at (look.Next place) = (at < place) × (place ≤ length line) × ((n : ℕ) → field_from class name (suc n) line at ≡ field_from class name n line place)

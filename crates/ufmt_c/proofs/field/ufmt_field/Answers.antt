@@ -7,4 +7,4 @@ returns-in-Some-find_field-clause-field c class utf8 =
     let found = c.in-Some-find_field.ensures in
     let within = found.place.within in
     rw (← c.in-Some.ensures.1, ← c.in-Some-text_of.ensures.1)
-    (FindsField.field c.in-Some-find_field.field.text.now (sym found.field) (record { within = within; is = found.place.is }) (search (rules, within)))
+    (FindsField.field c.in-Some-find_field.field.text.now (sym found.field) (search (rules, within)))

@@ -1,6 +1,6 @@
-use Rattle.std.proofs.Common.{refl, arith}
+use Rattle.std.proofs.Common.{refl, ℕ, arith}
 use Rattle.std.proofs.lemmas.List.{take_rest}
-use Rattle.ufmt_values.proofs.FieldSearch.{bracket_passed, end_placed_in, value_has, value_has_none, value_within}
+use Rattle.ufmt_values.proofs.FieldSearch.{bracket_passed, leaf_fits, value_has, value_has_none, value_within}
 use Rattle.ufmt_values.proofs.field.look_at.Goals as goal
 
 pub returns-in_default : goal.returns-in_default
@@ -15,12 +15,9 @@ returns-in-Some-leaf_of c =
     let found = c.in-Some.ensures.1 in
     let start = c.in-Some.ensures.0 in
     let before = start.before in
-    let ends = rw take_rest at c.in-Some-leaf_of.ensures.end in
-    let placed = end_placed_in c.args.line.now c.in-Some.start c.in-Some-leaf_of.text.now c.in-Some-leaf_of.after.now _ ends refl in (
-      record { within = placed.0; is = placed.1 },
-      λ n. value_has c.args.class c.args.name.now c.args.line.now c.args.at n c.args.bracket c.in-Some.start c.in-Some.value.len found.document c.requires.next c.requires.within start.is
-          (omega (arith, before, c.requires.within)) found.within found.is c.in-Some-leaf_of.text.now (rw take_rest at c.in-Some-leaf_of.ensures.leaf found.document _ found.is),
-    )
+    let has = λ (n : ℕ). value_has c.args.class c.args.name.now c.args.line.now c.args.at n c.args.bracket c.in-Some.start c.in-Some.value.len found.document c.requires.next c.requires.within start.is
+    (omega (arith, before, c.requires.within)) found.within found.is c.in-Some-leaf_of.text.now c.in-Some-leaf_of.after.now (rw take_rest at c.in-Some-leaf_of.ensures found.document _ found.is) _ refl in
+    ((has 0).0, λ n. (has n).1)
 
 pub returns-in-None : goal.returns-in-None
 returns-in-None c =
@@ -33,5 +30,17 @@ returns-in-None c =
       omega (arith, some, low),
       value_within c.args.line.now c.in-Some.start c.in-Some.value.len (omega (arith, before, c.requires.within)) within,
       λ n. value_has_none c.args.class c.args.name.now c.args.line.now c.args.at n c.args.bracket c.in-Some.start c.in-Some.value.len found.document c.requires.next c.requires.within start.is
-          (omega (arith, before, c.requires.within)) found.within found.is (rw take_rest at c.in-None.ensures.leaf found.document _ found.is),
+          (omega (arith, before, c.requires.within)) found.within found.is (rw take_rest at c.in-None.ensures found.document _ found.is),
     )
+
+pub overflow_sub-result : goal.overflow_sub-result
+overflow_sub-result c =
+    let found = c.in-Some.ensures.1 in
+    omega (arith, leaf_fits c.args.class c.args.line.now c.in-Some.start found.document _ found.is c.args.name.now c.in-Some-leaf_of.text.now c.in-Some-leaf_of.after.now
+    (rw take_rest at c.in-Some-leaf_of.ensures found.document _ found.is))
+
+pub overflow_sub-result-in-Some-leaf_of : goal.overflow_sub-result-in-Some-leaf_of
+overflow_sub-result-in-Some-leaf_of c =
+    let found = c.in-Some.ensures.1 in
+    omega (arith, leaf_fits c.args.class c.args.line.now c.in-Some.start found.document _ found.is c.args.name.now c.in-Some-leaf_of.text.now c.in-Some-leaf_of.after.now
+    (rw take_rest at c.in-Some-leaf_of.ensures found.document _ found.is))
