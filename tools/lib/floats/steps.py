@@ -2,7 +2,6 @@
 import shutil
 
 from lib.bench import floats
-from lib.floats import programs
 
 # What a call takes today, with the loop around it: `{:?}` of a float, and after a colon `fixed x to N`.
 TAKEN = {
@@ -14,11 +13,10 @@ TAKEN = {
 MOST = 1.3
 
 
-def counted(room):
-    """What each call takes. None is counted without valgrind."""
+def counted(program):
+    """What each call of the program takes. None is counted without valgrind."""
     if not shutil.which("valgrind"):
         return {}
-    program = programs.by_ufmt(room)
     return {value: floats.instructions(program, value) for value in TAKEN}
 
 
