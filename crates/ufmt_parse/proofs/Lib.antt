@@ -3,6 +3,7 @@ pub mod Expecting
 pub mod Forms
 pub mod KeysInARow
 pub mod Layers
+pub mod NamesBefore
 pub mod NonZeroTexts
 pub mod NumberKeys
 pub mod OneWay

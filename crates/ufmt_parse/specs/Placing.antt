@@ -1,14 +1,16 @@
--- An error with the line and the column of its place in a text.
-use Rattle.std.specs.Prelude.{◌≡◌, ℕ, List, take, ⊤}
+-- An error with the line, the column and the name of its place in a text.
+use Rattle.std.specs.Prelude.{◌≡◌, ℕ, List, option_map, take, ⊤}
 use Rattle.ufmt_parse.specs.declared.error.ParseError.{ParseError}
 use Rattle.ufmt_parse.specs.declared.error.ParseError.TheVariants as error
 use Rattle.ufmt_parse.specs.declared.placed.PlacedError.{PlacedError}
 use Rattle.ufmt_parse.specs.declared.placed.PlacedError.TheVariants as placed
+use Rattle.ufmt_parse.specs.NamesBefore.{IsNameBefore}
 use Rattle.ufmt_parse.specs.Places.{IsPlaceAfter}
 
--- the line and the column are those of the place, and the same is expected there
+-- the line and the column are those of the place, the same is expected there, and the name is the one that ends right before it
 abbrev pub IsPlaced : List ℕ → ParseError → PlacedError → Type 0
-IsPlaced text (error.NotText at expected) (placed.NotText line column too) = IsPlaceAfter (take at text) line column × (too ≡ expected)
+IsPlaced text (error.NotText at expected) (placed.NotText line column too after) =
+    IsPlaceAfter (take at text) line column × (too ≡ expected) × IsNameBefore (take at text) (option_map (λ name. name.now) after)
 IsPlaced text (error.NotText at expected) placed.OutOfMemory = ⊥
-IsPlaced text error.OutOfMemory (placed.NotText line column too) = ⊥
+IsPlaced text error.OutOfMemory (placed.NotText line column too after) = ⊥
 IsPlaced text error.OutOfMemory placed.OutOfMemory = ⊤

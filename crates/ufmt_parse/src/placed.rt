@@ -1,30 +1,34 @@
-//! An error with the line and the column of its place.
-ghost use Rattle.std.specs.Prelude.{[], ◌∷◌, codes};
+//! An error with the line, the column and the name of its place.
+ghost use Rattle.std.specs.Prelude.{[], ◌∷◌, codes, option_map};
 ghost use Rattle.ufmt.specs.Document.{documents, joined, leaf};
-ghost use Rattle.ufmt.specs.ValueDocuments.{named, named_struct, number};
+ghost use Rattle.ufmt.specs.ValueDocuments.{named, named_struct, number, option_document, str};
 ghost use Rattle.ufmt_parse.specs.Expecting.{expected_words};
+ghost use Rattle.ufmt_parse.specs.NamesBefore.{after_document};
 ghost use Rattle.ufmt_parse.specs.Placing.{IsPlaced};
 ghost use Rattle.ufmt_parse.specs.declared.placed.PlacedError.TheVariants.{NotText, OutOfMemory};
 
 use crate::error::ParseError;
 use crate::expected::Expected;
-use crate::place::line_and_column;
+use crate::place::{line_and_column, name_before};
 use ufmt::{Formatter, Line, fields, pieces, uDebug, uDisplay, uWrite};
 
-/// A `ParseError` with the line and the column of its place, both from 1. A column counts characters.
+/// A `ParseError` with the line and the column of its place, both from 1. A column counts characters. If the text
+/// before the place ends with a name, a colon and a space, `after` is the name: of a field, or a key.
 #[derive(Clone, Copy, PartialEq, Eq, Debug, Drop)]
-pub enum PlacedError {
+pub enum PlacedError<'a> {
     NotText {
         line: usize,
         column: usize,
         expected: Expected,
+        after: Option<&'a str>,
     },
     OutOfMemory,
 }
 
 impl ParseError {
-    /// Returns the error with its line and its column in the text that was parsed.
-    pub fn in_text(self, text: &[u8]) -> PlacedError
+    /// Returns the error with its line and its column in the text that was parsed, and with the name before
+    /// its place.
+    pub fn in_text<'a>(self, text: &'a [u8]) -> PlacedError<'a>
         ensures { IsPlaced text.now self result }
     {
         match self {
@@ -34,6 +38,7 @@ impl ParseError {
                     line,
                     column,
                     expected,
+                    after: name_before(text, at),
                 }
             }
             ParseError::OutOfMemory => PlacedError::OutOfMemory,
@@ -41,11 +46,12 @@ impl ParseError {
     }
 }
 
-/// Prints as `NotText { line: 1, column: 16, expected: Number }`.
-impl uDebug for PlacedError {
+/// Prints as `NotText { line: 1, column: 16, expected: Number, after: Some("level") }`.
+impl uDebug for PlacedError<'_> {
     ghost document = { elim [
-      | NotText line column expected ↦ named_struct "NotText" (("line", number line) ∷ ("column", number column)
-          ∷ ("expected", ⟦<Expected as uDebug>⟧.document expected) ∷ [])
+      | NotText line column expected after ↦ named_struct "NotText" (("line", number line) ∷ ("column", number column)
+          ∷ ("expected", ⟦<Expected as uDebug>⟧.document expected)
+          ∷ ("after", option_document str after) ∷ [])
       | OutOfMemory ↦ named "OutOfMemory"
     ] };
 
@@ -55,12 +61,14 @@ impl uDebug for PlacedError {
                 line,
                 column,
                 expected,
+                after,
             } => fields!(
                 f,
                 NotText {
                     line,
                     column,
-                    expected
+                    expected,
+                    after
                 }
             ),
             PlacedError::OutOfMemory => fields!(f, OutOfMemory),
@@ -68,12 +76,12 @@ impl uDebug for PlacedError {
     }
 }
 
-/// Prints as `expected a number of the type at line 1 column 16`.
-impl uDisplay for PlacedError {
+/// Prints as ``expected a number of the type at line 1 column 16, after `level: ` ``.
+impl uDisplay for PlacedError<'_> {
     ghost display = { elim [
-      | NotText line column expected ↦ joined (documents (leaf (codes "expected ")
+      | NotText line column expected after ↦ joined (documents (leaf (codes "expected ")
           ∷ leaf (expected_words expected) ∷ leaf (codes " at line ") ∷ number line
-          ∷ leaf (codes " column ") ∷ number column ∷ []))
+          ∷ leaf (codes " column ") ∷ number column ∷ after_document (option_map (λ name. name.now) after) ∷ []))
       | OutOfMemory ↦ leaf (codes "out of memory")
     ] };
 
@@ -83,12 +91,28 @@ impl uDisplay for PlacedError {
                 line,
                 column,
                 expected,
+                after,
             } => {
-                pieces!(text "expected ", display expected, text " at line ", display line, text " column ", display column).print(
+                pieces!(text "expected ", display expected, text " at line ", display line, text " column ", display column, display After(*after)).print(
                     f,
                 )
             }
             PlacedError::OutOfMemory => f.write_str("out of memory"),
+        }
+    }
+}
+
+// The name before a place, as it comes after the line and the column.
+#[derive(Clone, Copy, Drop)]
+struct After<'a>(Option<&'a str>);
+
+impl uDisplay for After<'_> {
+    ghost display = { λ after. after_document (option_map (λ name. name.now) after.0) };
+
+    fn fmt<W: uWrite>(&self, f: &mut Formatter<W>) -> Result<(), W::Error> {
+        match self.0 {
+            None => Ok(()),
+            Some(name) => pieces!(text ", after `", text name, text ": `").print(f),
         }
     }
 }

@@ -12,6 +12,7 @@ mod laws;
 mod leaves;
 mod long_texts;
 mod names;
+mod names_before;
 mod nested;
 mod nonzero;
 mod numbers;

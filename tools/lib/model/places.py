@@ -5,6 +5,7 @@ text is taken from the front. It stops at the first piece that doesn't fit: a na
 what is around entries. A set or a map whose keys don't ascend, and an array of another length, stops where it begins.
 """
 import re
+import string
 
 from lib.model import floats, values
 from lib.model.model import DEBUG, PlainReader, PrettyReader, unquoted
@@ -20,6 +21,8 @@ WORDS = {
     "End": "the end of the text",
 }
 DIGITS = re.compile(rb"[0-9]*")
+# A byte past ASCII is of a character.
+NAME_BYTES = (string.ascii_letters + string.digits + "_").encode() + bytes(range(0x80, 0x100))
 DECIMAL = re.compile(rb"-?[0-9]*(?:\.[0-9]*)?")
 FLOAT_BYTES = re.compile(rb"[-.0-9eNainf]*")
 LONGEST_FLOAT = 400
@@ -241,6 +244,23 @@ def line_and_column(data, at):
     return line, sum(byte & 0xC0 != 0x80 for byte in last) + 1
 
 
+def name_before(data, at):
+    """The name before the place with a colon and a space after it, or None if there is none."""
+    before = data[:at]
+    if not before.endswith(b": "):
+        return None
+    name = before[len(before[:-2].rstrip(NAME_BYTES)) : -2]
+    try:
+        return name.decode() or None
+    except UnicodeDecodeError:
+        return None
+
+
+def after(name):
+    """What is printed of a name before a place."""
+    return "" if name is None else ", after `%s: `" % name
+
+
 def stops(data, is_pretty):
     """What the program prints of the types that have no value with the text."""
     told, places = [], {}
@@ -250,6 +270,6 @@ def stops(data, is_pretty):
             continue
         at, expected = found
         if at not in places:
-            places[at] = line_and_column(data, at)
-        told.append("%sexpected %s at line %d column %d, NotText { at: %d, expected: %s };" % (letter, WORDS[expected], *places[at], at, expected))
+            places[at] = *line_and_column(data, at), after(name_before(data, at))
+        told.append("%sexpected %s at line %d column %d%s, NotText { at: %d, expected: %s };" % (letter, WORDS[expected], *places[at], at, expected))
     return "".join(told)

@@ -45,17 +45,26 @@ fn an_error_prints_what_is_expected_and_its_place(rt: HostRuntime) {
 }
 
 #[test]
-fn an_error_in_its_text_prints_its_line_and_column(rt: HostRuntime) {
+fn an_error_in_its_text_prints_its_line_column_and_name(rt: HostRuntime) {
     let text = "Set {\n    channel: 256,\n    level: -4,\n}".as_bytes();
     let number = ParseError::NotText {
         at: 19,
         expected: Expected::Number,
     };
+    let name = ParseError::NotText {
+        at: 0,
+        expected: Expected::Name,
+    };
     let rows = [
         (
             number.in_text(text),
-            "expected a number of the type at line 2 column 14",
-            "NotText { line: 2, column: 14, expected: Number }",
+            "expected a number of the type at line 2 column 14, after `channel: `",
+            "NotText { line: 2, column: 14, expected: Number, after: Some(\"channel\") }",
+        ),
+        (
+            name.in_text(text),
+            "expected a name of the type at line 1 column 1",
+            "NotText { line: 1, column: 1, expected: Name, after: None }",
         ),
         (
             ParseError::OutOfMemory.in_text(text),
@@ -81,8 +90,9 @@ fn an_error_in_its_text_prints_its_line_and_column(rt: HostRuntime) {
             line: 2,
             column: 14,
             expected: Expected::Number,
+            after: Some("channel"),
         },
-        "the line and the column",
+        "the line, the column and the name",
     );
 }
 

@@ -29,6 +29,7 @@ fn pretty_place_of<T: uParse<Global>>(
                 line,
                 column,
                 expected,
+                ..
             },
         ) => Some((at, (line, column), expected)),
         _ => None,
