@@ -90,19 +90,22 @@ whole_after [] u all ends = none_after u ends
 whole_after (c ∷ t) u all ends = rw all.0 (whole_after t u all.1 ends)
 
 -- a float's text and what follows it are what is cut
-record IsCut (text u old : List ℕ) : Type 0 where
+pub record IsCut (text u old : List ℕ) : Type 0 where
   pub front : take (float_len old) old ≡ text
   pub after : after_float old ≡ u
 
-cut_at : (f : Format) (x : Float) (u old : List ℕ) → IsFloatOf f x → IsDebugFollower u → old ≡ float_text f true x ++ u → IsCut (float_text f true x) u old
-cut_at f x u old float may same =
+pub cut_where : (f : Format) (x : Float) (u old : List ℕ) → IsFloatOf f x → float_len u ≡ 0 → old ≡ float_text f true x ++ u → IsCut (float_text f true x) u old
+cut_where f x u old float ends same =
     let text = float_text f true x in
     let bytes = float_bytes f x float in
-    let len : float_len (text ++ u) ≡ length text = whole_len text u bytes (follower_none u may) in
+    let len : float_len (text ++ u) ≡ length text = whole_len text u bytes ends in
     subst (λ t. IsCut text u t) (sym same) (record {
       front = ap (λ n. take n (text ++ u)) len ∙ take-append_seam text u;
-      after = whole_after text u bytes (follower_none u may);
+      after = whole_after text u bytes ends;
     })
+
+cut_at : (f : Format) (x : Float) (u old : List ℕ) → IsFloatOf f x → IsDebugFollower u → old ≡ float_text f true x ++ u → IsCut (float_text f true x) u old
+cut_at f x u old float may same = cut_where f x u old float (follower_none u may) same
 
 low_byte : (c : ℕ) → is_float_byte c ≡ true → c < 128
 low_byte c h = grind (arith, nat_tests)

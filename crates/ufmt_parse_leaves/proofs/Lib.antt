@@ -5,6 +5,7 @@ pub mod FloatFronts
 pub mod IntegerFronts
 pub mod PackedDigits
 pub mod PlaceFronts
+pub mod PlainFloats
 pub mod PlainFronts
 pub mod PlainLanes
 pub mod QuotedTaken

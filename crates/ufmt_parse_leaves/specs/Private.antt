@@ -2,3 +2,4 @@
 pub mod Digits
 pub mod FloatBytes
 pub mod Places
+pub mod PlainDecimals
