@@ -1,5 +1,6 @@
 pub mod CharacterFronts
 pub mod DecimalFronts
+pub mod FewDigits
 pub mod FixedFronts
 pub mod FloatFronts
 pub mod IntegerFronts

@@ -1,8 +1,8 @@
 //! Floats, exactly as `{:?}` prints them.
-ghost use Rattle.std.specs.Prelude.{◌≡◌, ◌≤◌, ◌≢◌, ◌++◌, length, List, ℕ, T, true, false, drop, take, IfOk, IfErr, IfSome, IsErrOf, IsTrue, MatchOption, None, Some, IsAscii};
+ghost use Rattle.std.specs.Prelude.{◌≡◌, ◌≤◌, ◌≢◌, ◌++◌, ◌^◌, length, List, ℕ, T, true, false, drop, take, IfOk, IfErr, IfSome, IsErrOf, IsTrue, MatchOption, None, Some, IsAscii};
 ghost use Rattle.std.specs.Float.Parse.{parse_float};
 ghost use Rattle.core.specs.Float.{float_with_sign};
-ghost use lib.Ieee.{binary32, binary64, fits, neg};
+ghost use lib.Ieee.{binary32, binary64, fits, neg, round};
 ghost use Rattle.ufmt_core.specs.Document.{leaf};
 ghost use Rattle.ufmt_core.specs.FloatText.{float_text};
 ghost use Rattle.ufmt_float.specs.Shortest.{IsAboveZero, IsShortestDecimal};
@@ -34,7 +34,8 @@ pub trait Float: ufmt_float::Float {
     fn nearest(digits: u64, places: u64) -> Option<Self>
     where
         Self: Sized,
-        ensures { IfSome result (λ x. IsAboveZero (Self.value x) × (float_with_sign false (Self.value x) ≡ Self.value x)) };
+        ensures { IfSome result (λ x. IsAboveZero (Self.value x) × (float_with_sign false (Self.value x) ≡ Self.value x)
+            × (Self.value x ≡ round Self.format false digits (10 ^ places))) };
 
     /// Returns the float with the other sign.
     fn negated(self) -> Self
@@ -149,7 +150,8 @@ fn ends_float(input: &[u8]) -> bool
     }
 }
 
-// Whether `digits / 10 ^ places` is printed without an exponent if it is printed with these digits.
+// Whether `digits / 10 ^ places` is above 0, and can be a text of `{:?}` as it is written: without an exponent, and with no zero at
+// the end but one right after the point.
 #[inline(always)]
 fn is_plain(digits: u64, places: u64) -> bool
     ensures { IsTrue result → IsPlainDecimal digits places }
@@ -159,6 +161,7 @@ fn is_plain(digits: u64, places: u64) -> bool
         && 0 < places
         && places <= 19
         && (places <= 4 || ten_to(places - 4) <= digits)
+        && (places == 1 || digits % 10 != 0)
 }
 
 // Whether the decimal is printed as `digits / 10 ^ places`: with no zero at the end, but for one after the point.
@@ -180,21 +183,28 @@ fn is_decimal(decimal: Decimal, digits: u64, places: u64) -> bool
     digits as u128 == decimal.digits as u128 * ten_to(end - 400) as u128
 }
 
-// Whether `{:?}` prints the float as `digits / 10 ^ places`.
+// Whether `{:?}` prints the float nearest to `digits / 10 ^ places` with these digits. It does if they are fewer than its significand
+// has: no two such decimals with as many places have one nearest float.
 #[inline(always)]
-fn is_printed<F: Float>(x: F, digits: u64, places: u64) -> bool
-    requires { places ≤ 19 }
-    ensures { IsTrue result → (left : ℕ) × (power : ℕ) × IsShortestDecimal F.format (float_with_sign false (F.value x)) left power
+fn is_printed<F: Float>(nearest: F, digits: u64, places: u64) -> bool
+    requires plain { IsPlainDecimal digits places }
+    requires above { IsAboveZero (F.value nearest) × (float_with_sign false (F.value nearest) ≡ F.value nearest) }
+    requires nearest { F.value nearest ≡ round F.format false digits (10 ^ places) }
+    ensures { IsTrue result → (left : ℕ) × (power : ℕ) × IsShortestDecimal F.format (float_with_sign false (F.value nearest)) left power
         × IsPrintedAs digits places left power }
 {
-    match shortest(x) {
+    if digits < F::HIDDEN {
+        nearest.prove_float();
+        return true;
+    }
+    match shortest(nearest) {
         None => false,
         Some(decimal) => is_decimal(decimal, digits, places),
     }
 }
 
-// The float whose text is at the front, and what follows it. It finds those whose text has a point and no exponent, but 0, and
-// takes a third of the time that reading and printing a text takes.
+// The float whose text is at the front, and what follows it. It finds those whose text has a point and no exponent, but 0, and is
+// quicker than reading the text and printing the float, since it does neither.
 fn split_plain<F: Float>(input: &[u8]) -> Option<(F, &[u8])>
     ensures { IfSome result (λ x. IsFloatOf F.format (F.value x.0)
         × (input.now ≡ float_text F.format true (F.value x.0) ++ x.1.now) × (float_len x.1.now ≡ 0)) }
