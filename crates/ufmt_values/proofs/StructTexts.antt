@@ -200,7 +200,7 @@ module _ (name field : List ℕ) (value : Document) (dots : Bool) (rest text aft
         size_is = omega (arith, length-append front found.front, length-append field inside, length-append (plain_text value) (codes ", "), found.size_is);
         is = ap (λ t. field ++ (codes ": " ++ (plain_text value ++ (codes ", " ++ t)))) found.is
             ∙ sym (append_assoc front found.front (text ++ after) ∙ append_assoc field inside (found.front ++ (text ++ after))
-                ∙ ap (λ t. field ++ (codes ": " ++ t)) (append_assoc (plain_text value) (codes ", ") (found.front ++ (text ++ after))));
+            ∙ ap (λ t. field ++ (codes ": " ++ t)) (append_assoc (plain_text value) (codes ", ") (found.front ++ (text ++ after))));
       }
 
 -- a leaf comes after what is before it in the fields' text

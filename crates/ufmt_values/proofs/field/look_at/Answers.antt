@@ -36,11 +36,17 @@ returns-in-None c =
 pub overflow_sub-result : goal.overflow_sub-result
 overflow_sub-result c =
     let found = c.in-Some.ensures.1 in
-    omega (arith, leaf_fits c.args.class c.args.line.now c.in-Some.start found.document _ found.is c.args.name.now c.in-Some-leaf_of.text.now c.in-Some-leaf_of.after.now
-    (rw take_rest at c.in-Some-leaf_of.ensures found.document _ found.is))
+    omega (
+      arith,
+      leaf_fits c.args.class c.args.line.now c.in-Some.start found.document _ found.is c.args.name.now c.in-Some-leaf_of.text.now c.in-Some-leaf_of.after.now
+          (rw take_rest at c.in-Some-leaf_of.ensures found.document _ found.is),
+    )
 
 pub overflow_sub-result-in-Some-leaf_of : goal.overflow_sub-result-in-Some-leaf_of
 overflow_sub-result-in-Some-leaf_of c =
     let found = c.in-Some.ensures.1 in
-    omega (arith, leaf_fits c.args.class c.args.line.now c.in-Some.start found.document _ found.is c.args.name.now c.in-Some-leaf_of.text.now c.in-Some-leaf_of.after.now
-    (rw take_rest at c.in-Some-leaf_of.ensures found.document _ found.is))
+    omega (
+      arith,
+      leaf_fits c.args.class c.args.line.now c.in-Some.start found.document _ found.is c.args.name.now c.in-Some-leaf_of.text.now c.in-Some-leaf_of.after.now
+          (rw take_rest at c.in-Some-leaf_of.ensures found.document _ found.is),
+    )
