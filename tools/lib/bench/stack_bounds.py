@@ -22,6 +22,6 @@ PROGRAMS = {"ufmt_conv": (12864, 0), "ufmt_lines": (29400, 0), "ufmt_model_probe
 # By its name after `ufmt_`. None of these recurses. Of the library that tools/try-c builds, where no call is put into another.
 FROM_C = {
     "binary": 320, "convert": 1456, "difference": 672, "dump": 720, "field": 1424, "first_difference": 608, "float": 1440,
-    "float_fixed": 7840, "hexadecimal": 272, "in_column": 352, "is_text": 1024, "parse_float": 3840, "parse_signed": 128,
+    "float_fixed": 7840, "hexadecimal": 272, "in_column": 352, "is_text": 1024, "parse_float": 4592, "parse_signed": 128,
     "parse_unsigned": 112, "quote": 224, "signed": 144, "unquote": 240, "unquote_debug": 288, "unsigned": 144, "version": 48,
 }
