@@ -3,6 +3,8 @@
 #include <string.h>
 
 #include "ufmt.h"
+/* Once more, as a file does that includes two headers over this one. */
+#include "ufmt.h"
 
 static char buffer[256];
 
