@@ -1,10 +1,10 @@
 """Installs what tools/build leaves, as a packager would, and builds callers over it.
 
-The programs are those in out/ of their crates, which `rt ci` built; the archive is built here with nothing proved. They are installed
-into a prefix with a space in its name. There the programs run, their manual pages are compared with them, and the callers of
+The programs are those in out/ of their crates, which `rt ci` built; the archive is built here with nothing proved. They are put into a
+folder and installed into a prefix, each with a space in its name. There the programs run, their manual pages are compared with them, and the callers of
 crates/ufmt_c/examples are built: convert.c by pkg-config, with the archive and with the shared library, and convert.rs by cargo with
 build.rs. Then a second version is installed over the first, and the ways in which an installation goes wrong are tried, and tools/build
-with a full folder and with a kit that fails. What the machine hasn't is left out and said.
+with a full folder and with kits that fail. What the machine hasn't is left out and said.
 """
 import contextlib
 import filecmp
@@ -34,8 +34,10 @@ TEXT, OUTPUT = "[Pair { x: 1, y: -2 }]", b"[\n    Pair {\n        x: 1,\n       
 CARGO = '[package]\nname = "convert"\nversion = "0.1.0"\nedition = "2024"\n'
 # Without each of these a folder isn't whole.
 NEEDED = ("BUILD", "bin/ufmt_conv", "bin/ufmt_lines", "lib/libufmt_c.a", "lib/libufmt_c.so", "lib/pkgconfig/ufmt_c.pc", "include/ufmt.h")
-# A kit that runs programs, and proves no library.
-FAILING_KIT = '#!/bin/sh\n[ "$1" != lib ]\n'
+# A kit that proves nothing where it is asked so: `run` is asked of a program, and `lib` of the library.
+FAILING_KIT = '#!/bin/sh\n[ "$1" != %s ]\n'
+# No file may have more than a block, as on a disk that is full.
+WITHOUT_ROOM = """trap '' XFSZ; ulimit -f 1; exec "$@" """
 # Each file below the prefix, and its mode.
 FILES = {
     "bin/ufmt_conv": 0o755, "bin/ufmt_lines": 0o755,
@@ -51,7 +53,7 @@ FILES = {
 class Trial:
     def __init__(self, room):
         self.room, self.faults = room, []
-        self.built = room / "built"
+        self.built = room / "built here"
         self.prefix = room / "a prefix"
 
     def expect(self, what, said, status, output=None):
@@ -64,14 +66,16 @@ class Trial:
     def install(self, *words, **variables):
         return run(["env", *("%s=%s" % it for it in variables.items()), INSTALL, *words])
 
-    def compare_files(self, prefix):
+    def compare_files(self, prefix, mask=None):
+        """Below the prefix there are these files with their modes, in folders as the mask makes them."""
         found = {str(path.relative_to(prefix)): None if path.is_symlink() else stat.S_IMODE(path.stat().st_mode)
                  for path in sorted(prefix.rglob("*")) if path.is_symlink() or path.is_file()}
         for file in sorted({*FILES, *found}):
             if file not in found or file not in FILES or found[file] != FILES[file]:
                 self.faults.append("%s of the prefix: %s, and wanted %s" % (file, found.get(file, "missing"), FILES.get(file, "none")))
-        mask = os.umask(0)
-        os.umask(mask)
+        if mask is None:
+            mask = os.umask(0)
+            os.umask(mask)
         for path in prefix.rglob("*"):
             if path.is_dir() and stat.S_IMODE(path.stat().st_mode) != 0o777 & ~mask:
                 self.faults.append("the folder %s has the mode %o" % (path.relative_to(prefix), stat.S_IMODE(path.stat().st_mode)))
@@ -140,10 +144,31 @@ class Trial:
             self.faults.append("without a file, something is installed")
         self.expect("--help", self.install("--help"), 0)
 
+    def install_elsewhere(self):
+        """What is installed depends neither on the mask nor on the folders where a shell looks for a folder."""
+        masked, found = self.room / "masked", self.room / "found"
+        self.expect("with a mask", run(["bash", "-c", 'umask 077; exec "$@"', "bash", INSTALL, self.built, masked]), 0)
+        self.compare_files(masked, 0o077)
+        self.expect("with CDPATH", run(["env", "-C", self.room, "CDPATH=.", INSTALL, self.built.name, found]), 0)
+        self.compare_files(found)
+
+    def be_blocked(self):
+        """A folder where a file must go, and no room."""
+        for number, file in enumerate(("bin/ufmt_conv", "share/doc/ufmt/BUILD", "share/doc/ufmt/FILES")):
+            to = self.room / ("blocked %d" % number)
+            (to / file).mkdir(parents=True)
+            self.expect("over a folder %s" % file, self.install(self.built, to), 1)
+        self.expect("without room", run(["bash", "-c", WITHOUT_ROOM, "bash", INSTALL, self.built, self.room / "short"]), 1)
+
     def remove(self):
-        """After --uninstall no file is left but one that was not installed, and the folders stay."""
-        own = self.prefix / "bin" / "own"
+        """A file that can't be removed is a fault. After --uninstall no file is left but one that was not installed, and the folders
+        stay."""
+        own, program = self.prefix / "bin" / "ufmt_own", self.prefix / "bin" / "ufmt_conv"
         own.write_text("mine")
+        program.unlink()
+        program.mkdir()
+        self.expect("--uninstall of a folder", self.install("--uninstall", self.prefix), 1)
+        program.rmdir()
         self.expect("--uninstall", self.install("--uninstall", self.prefix), 0)
         left = [path for path in self.prefix.rglob("*") if not path.is_dir()]
         if left != [own]:
@@ -187,6 +212,35 @@ class Trial:
         if others or not seen:
             self.faults.append("the shared library shows %s" % others[:5])
 
+    def look_into_built(self):
+        """Its programs can be started where it lies, and its links lead to the same file after it is moved."""
+        for name in folder.PROGRAMS:
+            if not os.access(self.built / "bin" / name, os.X_OK):
+                self.faults.append("bin/%s of the built folder can't be started" % name)
+        for path in sorted((self.built / "lib").iterdir()):
+            if path.is_symlink() and "/" in os.readlink(path):
+                self.faults.append("%s of the built folder leads to %s" % (path.name, os.readlink(path)))
+
+    def told_of_commits(self):
+        """A copy without git has no commit. A tree has its own, and a changed file is said."""
+        tree, given = self.room / "tree", folder.TOP
+        tree.mkdir()
+        git = ["git", "-C", tree, "-c", "user.name=trial", "-c", "user.email=trial@localhost"]
+        folder.TOP = tree
+        try:
+            told = [folder.commit()]
+            for words in (["init", "--quiet"], ["add", "."], ["commit", "--quiet", "--message=first"]):
+                (tree / "file").write_text("first")
+                self.expect("git " + words[0], run([*git, *words]), 0)
+            head = run([*git, "rev-parse", "HEAD"]).output.decode().strip()
+            told.append(folder.commit())
+            (tree / "file").write_text("second")
+            told.append(folder.commit())
+        finally:
+            folder.TOP = given
+        if told != ["unknown", head, head + " with changes"]:
+            self.faults.append("of no commit, of %s and of a change BUILD has %s" % (head, told))
+
     def told_of_build(self):
         """BUILD says the commit, and whether files were changed."""
         told = dict(line.split(": ", 1) for line in (self.built / "BUILD").read_text().splitlines())
@@ -195,7 +249,8 @@ class Trial:
             changed = subprocess.run(["git", "diff-index", "--quiet", "HEAD", "--"], cwd=TOP).returncode != 0
             if not told["commit"].startswith(head) or changed and not told["commit"].endswith(" with changes"):
                 self.faults.append("BUILD has the commit %s" % told["commit"])
-        if told["version"] != folder.version() or told["proved"] != "no":
+        kit = run(["rt", "version"]).output.decode().strip()
+        if (told["version"], told["kit"], told["proved"]) != (folder.version(), kit, "no"):
             self.faults.append("BUILD has %s" % told)
 
     def build_says(self, programs, library):
@@ -204,6 +259,8 @@ class Trial:
         tool = importlib.util.module_from_spec(importlib.util.spec_from_loader("build_tool", loader))
         loader.exec_module(tool)
         tool.unproved, tool.proved = lambda _room: (programs, library), lambda: (programs, library)
+        # A folder that is there and empty does as well.
+        (self.room / "said-no").mkdir()
         for words, wanted in (([], "no"), (["--proved"], "yes")):
             to, printed, given = self.room / ("said-" + wanted), io.StringIO(), sys.argv
             sys.argv = [str(BUILD), str(to), *words]
@@ -216,17 +273,22 @@ class Trial:
                 self.faults.append("tools/build %s says %s" % (" ".join(words), told))
 
     def build_goes_wrong(self):
-        """A folder in use stays as it is, and of a kit that doesn't prove the library nothing is left."""
+        """A folder in use stays as it is, and of a kit that doesn't prove a program or the library nothing is left."""
         full, kit, to = self.room / "full", self.room / "kit", self.room / "unbuilt"
         full.mkdir()
         (full / "own").write_text("mine")
         self.expect("tools/build into a full folder", run([BUILD, full]), 1)
         kit.mkdir()
-        (kit / "rt").write_text(FAILING_KIT)
-        (kit / "rt").chmod(0o755)
-        self.expect("tools/build --proved, of a kit that fails", run(["env", "PATH=%s:%s" % (kit, os.environ["PATH"]), BUILD, to, "--proved"]), 1)
-        if to.exists() or [path.name for path in full.iterdir()] != ["own"]:
-            self.faults.append("tools/build leaves files where it fails")
+        for verb in ("run", "lib"):
+            (kit / "rt").write_text(FAILING_KIT % verb)
+            (kit / "rt").chmod(0o755)
+            said = run(["env", "PATH=%s:%s" % (kit, os.environ["PATH"]), BUILD, to, "--proved"])
+            self.expect("tools/build --proved, of a kit whose rt %s fails" % verb, said, 1)
+            if to.exists():
+                self.faults.append("tools/build leaves files where rt %s fails" % verb)
+                shutil.rmtree(to)
+        if [path.name for path in full.iterdir()] != ["own"]:
+            self.faults.append("tools/build leaves files in a full folder")
         for words in ([], ["a", "b"], ["--proven", "a"]):
             self.expect("tools/build %s" % words, run([BUILD, *words]), 2)
 
@@ -236,6 +298,8 @@ class Trial:
         folder.made(self.built, programs, library, False)
         told = (self.built / "BUILD").read_bytes()
         self.told_of_build()
+        self.told_of_commits()
+        self.look_into_built()
         self.look_into_library(library)
         self.expect("tools/install", self.install(self.built, self.prefix), 0, told)
         self.compare_files(self.prefix)
@@ -250,7 +314,9 @@ class Trial:
         if left:
             self.faults.append("after --uninstall with DESTDIR there are %s" % left[:3])
         self.upgrade()
+        self.install_elsewhere()
         self.go_wrong()
+        self.be_blocked()
         self.build_says(programs, library)
         self.build_goes_wrong()
         self.remove()
