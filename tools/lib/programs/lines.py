@@ -1,9 +1,11 @@
 """Runs the built ufmt_lines as a shell would, and compares its status, standard output and standard error."""
 import os
 import pathlib
+import pty
 import subprocess
+import tty
 
-from lib.programs.cases import CLOSED, FOLDER, Cases, texts
+from lib.programs.cases import CLOSED, FOLDER, LATE, Cases, texts
 
 LOGS_FOLDER = pathlib.Path(__file__).resolve().parents[2] / "data" / "logs"
 USAGE = "usage: ufmt_lines [--longer-than N | --plain | --help | --version] [--] [FILE..]"
@@ -24,6 +26,7 @@ read as one, in their order. Without a file, standard input is read.
 CLOSED_FILE = "Bad file descriptor (os error 9)"
 IS_FOLDER = "Is a directory (os error 21)"
 IS_FULL = "No space left on device (os error 28)"
+IS_GONE = "Input/output error (os error 5)"
 IS_MISSING = "No such file or directory (os error 2)"
 OUT_OF_MEMORY = "ufmt_lines: out of memory"
 # The status of a program that SIGPIPE ends, as a shell has it.
@@ -179,6 +182,25 @@ def inputs(cases):
         cases.judge("--plain: standard input is %s" % source, cases.run("--plain", source=source), 3, b"", cannot_read("standard input", reason))
 
 
+def terminals(cases):
+    """A terminal is read to its first end of file, and isn't asked again while the next file is opened. One that goes away fails in the
+    middle: the reason is said, and a line that had begun continues in the next file."""
+    leader, follower = pty.openpty()
+    os.write(leader, LONG + b"\x04")
+    ran = cases.run("-", "none", source=follower, seconds=LATE)
+    cases.judge("a terminal with one end of file, and a missing file", ran, 3, LONG_PRETTY, cannot_read("none", IS_MISSING))
+    os.close(leader)
+    os.close(follower)
+    leader, follower = pty.openpty()
+    tty.setraw(follower)
+    os.write(follower, LONG[:20])
+    os.close(follower)
+    (cases.room / "rest of a line").write_bytes(LONG[20:])
+    ran = cases.run("-", "rest of a line", source=leader, seconds=LATE)
+    cases.judge("a terminal that goes away, and a file", ran, 3, LONG_PRETTY, cannot_read("standard input", IS_GONE))
+    os.close(leader)
+
+
 def outputs(cases):
     for name, sink, reason in (("is closed", CLOSED, CLOSED_FILE), ("is full", "/dev/full", IS_FULL)):
         cases.judge("standard output %s" % name, cases.run(text=PLAIN, sink=sink), 4, b"", cannot_write(reason))
@@ -243,7 +265,7 @@ def many_lines(cases):
 
 def main(program):
     cases = Cases(program)
-    for part in (conversions, limits, slow_producer, helps, arguments, files, inputs, outputs, errors, readers_go_away, slow_reader_goes_away,
+    for part in (conversions, limits, slow_producer, helps, arguments, files, inputs, terminals, outputs, errors, readers_go_away, slow_reader_goes_away,
                  too_long_a_line, many_lines):
         part(cases)
     return cases.end()
