@@ -7,9 +7,9 @@ PARSED = range(13)
 
 HEAD = """\
 //! Tests of the forms of macros, which tools/lib/crates/grammar.py writes.
-use super::page::{same_parts, writes};
+use super::page::{Page, same_parts, writes};
 use ufmt::pieces::{Debug, Line};
-use ufmt::{Align, Column, HexOptions, fields, pieces, uwrite, uwriteln};
+use ufmt::{Align, Column, Formatter, Full, HexOptions, fields, pieces, uwrite, uwriteln, variants};
 use ufmt_parse::{Fault, Parser, PlainText, parse_fields, parse_variants};
 use ufmt_snapshot::assert_snapshot;
 
@@ -234,9 +234,9 @@ def parse_fields_tests(count):
     yield test("parse_fields_%d" % count, rows)
 
 
-def variant(kind, count):
-    """A variant: how it is declared, how it is written for `parse_variants!`, and its text for some values."""
-    title, listed_names = "%s%d" % (kind, count), ", ".join(names(count))
+def variant(kind, count, comma=False):
+    """A variant: how it is declared, how it is written for the macros, and its text for some values."""
+    title, listed_names = "%s%d" % (kind, count), listed(names(count), comma)
     if kind == "Unit":
         return title, title, lambda values: title
     if kind == "Struct":
@@ -265,6 +265,34 @@ def enum_test(name, members, inner, outer):
     yield test("parse_%s_variants" % name.lower(), rows)
 
 
+def value_of(kind, count, values):
+    """The variant with these values, as an expression."""
+    title = "%s%d" % (kind, count)
+    if kind == "Unit":
+        return title
+    if kind == "Struct":
+        return "%s { %s }" % (title, ", ".join("f%d: %d" % pair for pair in enumerate(values, 1)))
+    return "%s(%s)" % (title, ", ".join(map(str, values)))
+
+
+def print_variants_test(name, members, inner, outer):
+    """Each variant of an enum printed by `variants!`, with and without a comma at the end of its fields."""
+    rows = []
+    for lists in (False, True):
+        function = "print_%s_%d" % (name.lower(), lists)
+        written = listed([variant(*member, lists)[1] for member in members], inner)
+        yield """
+fn %s(value: &%s, out: &mut Formatter<Page>) -> Result<(), Full> {
+    variants!(out, value, %s { %s }%s)
+}
+""" % (function, name, name, written, "," if outer else "")
+        for number, (kind, count) in enumerate(members, 1):
+            values = list(range(1, 1 + (0 if kind == "Unit" else count)))
+            call = "%s(&%s::%s, out)" % (function, name, value_of(kind, count, values))
+            rows.append(row(call, variant(kind, count)[2](values), number))
+    yield test("print_%s_variants" % name.lower(), rows)
+
+
 def variants_tests():
     kinds = (("Unit", 1), ("Struct", 2), ("Tuple", 3))
     number = 0
@@ -272,9 +300,14 @@ def variants_tests():
         for inner in (False, True):
             number += 1
             outer = number % 4 < 2
-            yield from enum_test("E%d" % number, [kinds[(first + place) % 3] for place in range(3)], inner, outer)
+            members = [kinds[(first + place) % 3] for place in range(3)]
+            yield from enum_test("E%d" % number, members, inner, outer)
+            yield from print_variants_test("E%d" % number, members, inner, outer)
     wide = [(kind, count) for count in PARSED for kind in ("Struct", "Tuple")]
     yield from enum_test("Wide", wide, False, False)
+    bare = [("Tuple", 0), ("Struct", 0), ("Unit", 1)]
+    yield from enum_test("Bare", bare, False, False)
+    yield from print_variants_test("Bare", bare, False, False)
 
 
 def snapshot_test():
