@@ -3,7 +3,7 @@ import re
 
 LIBRARIES = ("ufmt_core", "ufmt", "ufmt_snapshot", "ufmt_parse")
 # A type parameter with one of these bounds is a value, a mark, a line or a chain of values that is printed. One that is parsed is
-# printed too where a call takes it by reference.
+# printed too if the call takes it by reference.
 BOUND = re.compile(r": (?:[\w:<>]+ \+ )*(?:uDebug|uDisplay|uDisplayFixed|uDisplayHex|uDisplayRadix|uDisplayZeros|Mark<|Line\b|NamedFields<|UnnamedFields<|uParse<[^{]*: &T\b)")
 TRAIT = re.compile(r"(?:uDebug|uDisplay|uDisplayFixed|uDisplayHex|uDisplayRadix|uDisplayZeros|Mark<T>|Line|NamedFields<'a>|UnnamedFields<'a>) for [^{]+?(?= \{)")
 HEAD = re.compile(r"(?:\bimpl|\bpub fn (\w+))(?=<)")
