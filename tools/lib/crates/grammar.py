@@ -265,31 +265,35 @@ def enum_test(name, members, inner, outer):
     yield test("parse_%s_variants" % name.lower(), rows)
 
 
-def value_of(kind, count, values):
-    """The variant with these values, as an expression."""
-    title = "%s%d" % (kind, count)
+def value_of(kind, count):
+    """The variant as an expression, with the values 1, 2 and so on."""
+    title, values = "%s%d" % (kind, count), range(1, count + 1)
     if kind == "Unit":
         return title
     if kind == "Struct":
-        return "%s { %s }" % (title, ", ".join("f%d: %d" % pair for pair in enumerate(values, 1)))
+        return "%s { %s }" % (title, ", ".join("f%d: %d" % (value, value) for value in values))
     return "%s(%s)" % (title, ", ".join(map(str, values)))
+
+
+def print_function(function, name, variants, outer):
+    """A function that prints an enum by `variants!`."""
+    return """
+fn %s(value: &%s, out: &mut Formatter<Page>) -> Result<(), Full> {
+    variants!(out, value, %s { %s }%s)
+}
+""" % (function, name, name, variants, "," if outer else "")
 
 
 def print_variants_test(name, members, inner, outer):
     """Each variant of an enum printed by `variants!`, with and without a comma at the end of its fields."""
+    texts = [variant(kind, count)[2](list(range(1, count + 1))) for kind, count in members]
     rows = []
-    for lists in (False, True):
-        function = "print_%s_%d" % (name.lower(), lists)
-        written = listed([variant(*member, lists)[1] for member in members], inner)
-        yield """
-fn %s(value: &%s, out: &mut Formatter<Page>) -> Result<(), Full> {
-    variants!(out, value, %s { %s }%s)
-}
-""" % (function, name, name, written, "," if outer else "")
-        for number, (kind, count) in enumerate(members, 1):
-            values = list(range(1, 1 + (0 if kind == "Unit" else count)))
-            call = "%s(&%s::%s, out)" % (function, name, value_of(kind, count, values))
-            rows.append(row(call, variant(kind, count)[2](values), number))
+    for comma in (False, True):
+        function = "print_%s_%d" % (name.lower(), comma)
+        written = [variant(*member, comma)[1] for member in members]
+        yield print_function(function, name, listed(written, inner), outer)
+        calls = ["%s(&%s::%s, out)" % (function, name, value_of(*member)) for member in members]
+        rows += [row(call, text, number) for number, (call, text) in enumerate(zip(calls, texts), 1)]
     yield test("print_%s_variants" % name.lower(), rows)
 
 
