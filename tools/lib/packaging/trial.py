@@ -1,10 +1,10 @@
 """Installs what tools/build leaves, as a packager would, and builds callers over it.
 
 The programs are those in out/ of their crates, which `rt ci` built; the archive is built here with nothing proved. They are put into a
-folder and installed into a prefix, each with a space in its name. There the programs run, their manual pages are compared with them, and the callers of
-crates/ufmt_c/examples are built: convert.c by pkg-config, with the archive and with the shared library, and convert.rs by cargo with
-build.rs. Then a second version is installed over the first, and the ways in which an installation goes wrong are tried, and tools/build
-with a full folder and with kits that fail. What the machine hasn't is left out and said.
+folder, and from there installed into a prefix, each with a space in its name. There the programs run, their manual pages are compared
+with them, and the callers of crates/ufmt_c/examples are built: convert.c by pkg-config, with the archive and with the shared library,
+and convert.rs by cargo with build.rs. Then a second version is installed over the first, and the ways in which an installation goes
+wrong are tried, and tools/build with a full folder and with kits that fail. What the machine hasn't is left out and said.
 """
 import contextlib
 import filecmp
@@ -223,6 +223,9 @@ class Trial:
 
     def told_of_commits(self):
         """A copy without git has no commit. A tree has its own, and a changed file is said."""
+        if not shutil.which("git"):
+            print("no git: what BUILD says of a commit isn't tried")
+            return
         tree, given = self.room / "tree", folder.TOP
         tree.mkdir()
         git = ["git", "-C", tree, "-c", "user.name=trial", "-c", "user.email=trial@localhost"]
