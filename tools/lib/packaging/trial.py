@@ -34,6 +34,8 @@ TEXT, OUTPUT = "[Pair { x: 1, y: -2 }]", b"[\n    Pair {\n        x: 1,\n       
 CARGO = '[package]\nname = "convert"\nversion = "0.1.0"\nedition = "2024"\n'
 # Without each of these a folder isn't whole.
 NEEDED = ("BUILD", "bin/ufmt_conv", "bin/ufmt_lines", "lib/libufmt_c.a", "lib/libufmt_c.so", "lib/pkgconfig/ufmt_c.pc", "include/ufmt.h")
+# There may be a link in the place of each of these.
+LINKED = ("bin/ufmt_conv", "share/doc/ufmt/FILES")
 # A kit that proves nothing where it is asked so: `run` is asked of a program, and `lib` of the library.
 FAILING_KIT = '#!/bin/sh\n[ "$1" != %s ]\n'
 # No file may have more than a block, as on a disk that is full.
@@ -122,13 +124,14 @@ class Trial:
             print("no cargo: no package is built over the installed library")
 
     def go_wrong(self):
-        """A link in the place of a file, a program that is missing, a folder that can't be written, wrong words."""
+        """Links in the place of files, a program that is missing, a folder that can't be written, wrong words."""
         linked, other = self.room / "linked", self.room / "other"
         other.write_text("mine")
-        (linked / "bin").mkdir(parents=True)
-        (linked / "bin" / "ufmt_conv").symlink_to(other)
-        self.expect("over a link", self.install(self.built, linked), 0)
-        if other.read_text() != "mine" or (linked / "bin" / "ufmt_conv").is_symlink():
+        for file in LINKED:
+            (linked / file).parent.mkdir(parents=True)
+            (linked / file).symlink_to(other)
+        self.expect("over links", self.install(self.built, linked), 0)
+        if other.read_text() != "mine" or any((linked / file).is_symlink() for file in LINKED):
             self.faults.append("a link in the prefix is followed")
         for file in NEEDED:
             part = self.room / "part"
