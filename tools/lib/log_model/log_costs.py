@@ -21,6 +21,8 @@ LONGER = 16
 # byte of its longest line or group and of its longest write. The longer log has more bytes than that.
 SLACK = 160 * 1024
 MEMORY = 4
+# The same where a line has no bracket: it is written from where it is, and kept once, though it is the longest write too.
+KEPT_ONCE = 0.5
 # By how much a shape may cost more steps than were measured: compilers differ.
 SPARE = 1.4
 PAGE = 16 * 1024
@@ -47,11 +49,17 @@ class Shape(NamedTuple):
     mode: str
     steps: int
     log: Callable[[int], bytes]
+    memory: float = MEMORY
 
 
 def line(name, mode, steps, piece):
     """One line, or a log of lines: the piece as often as it fits."""
     return Shape(name, mode, steps, lambda size: piece * (size // len(piece)))
+
+
+def kept_once(name, steps, piece):
+    """One line without a bracket."""
+    return line(name, "pretty", steps, piece)._replace(memory=KEPT_ONCE)
 
 
 def listed(name, mode, steps, printed):
@@ -68,14 +76,14 @@ def group(name, steps, first, piece):
 
 
 LONG_LINES = (
-    line("a long word", "pretty", 2, b"a"),
-    line("a line of words", "pretty", 2, b"a "),
-    line("a line of spaces", "pretty", 2, b" "),
+    kept_once("a long word", 2, b"a"),
+    kept_once("a line of words", 2, b"a "),
+    kept_once("a line of spaces", 2, b" "),
     line("a line of brackets", "pretty", 3, b"[ "),
     line("brackets in brackets", "pretty", 3, b"["),
     line("a line of lists", "pretty", 139, b"[1] "),
-    line("a line of quotes", "pretty", 2, b'"a '),
-    line("a line of bytes that aren't UTF-8", "pretty", 2, b"\xff "),
+    kept_once("a line of quotes", 2, b'"a '),
+    kept_once("a line of bytes that aren't UTF-8", 2, b"\xff "),
     listed("a long list", "pretty", 37, plain),
     line("a line of only dots", "pretty", 67, b"S { .. } "),
     line("a line of open tuples", "pretty", 4, b"(a, "),
@@ -242,7 +250,7 @@ def wrong_memory(meter, shape):
     """The longer log passes in the memory of one half as long, and some more for a line, group or write that is longer."""
     short, long = shape.log(SIZE * LONGER // 2), shape.log(SIZE * LONGER)
     least = meter.least(meter.put(shape.name, short), shape.mode)
-    most = least + SLACK + MEMORY * (kept(shape, long) - kept(shape, short))
+    most = least + SLACK + int(shape.memory * (kept(shape, long) - kept(shape, short)))
     if not meter.passes(meter.put(shape.name, long), shape.mode, most):
         return "%s: %d bytes pass in %d bytes of memory, and %d bytes not in %d" % (shape.name, len(short), least, len(long), most)
     return None
