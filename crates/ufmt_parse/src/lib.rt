@@ -22,6 +22,7 @@ mod expected;
 mod keys;
 pub mod laws;
 mod macros;
+mod name;
 mod place;
 mod placed;
 mod round_trips;

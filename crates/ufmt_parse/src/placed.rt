@@ -9,7 +9,8 @@ ghost use Rattle.ufmt_parse.specs.declared.placed.PlacedError.TheVariants.{NotTe
 
 use crate::error::ParseError;
 use crate::expected::Expected;
-use crate::place::{line_and_column, name_before};
+use crate::name::name_before;
+use crate::place::line_and_column;
 use ufmt::{Formatter, Line, fields, pieces, uDebug, uDisplay, uWrite};
 
 /// A `ParseError` with the line and the column of its place, both from 1. A column counts characters. If the text

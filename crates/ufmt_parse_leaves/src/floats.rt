@@ -1,22 +1,21 @@
 //! Floats, exactly as `{:?}` prints them.
-ghost use Rattle.std.specs.Prelude.{◌≡◌, ◌≤◌, ◌≢◌, ◌++◌, ◌^◌, length, List, ℕ, T, true, false, drop, take, IfOk, IfErr, IfSome, IsErrOf, IsTrue, MatchOption, None, Some, IsAscii};
+ghost use Rattle.std.specs.Prelude.{◌≡◌, ◌≤◌, ◌≢◌, ◌^◌, length, List, ℕ, T, true, false, drop, take, IfOk, IfErr, IfSome, IsErrOf, IsTrue, MatchOption, None, Some, IsAscii};
 ghost use Rattle.std.specs.Float.Parse.{parse_float};
 ghost use Rattle.core.specs.Float.{float_with_sign};
 ghost use lib.Ieee.{binary32, binary64, fits, neg, round};
 ghost use Rattle.ufmt_core.specs.Document.{leaf};
 ghost use Rattle.ufmt_core.specs.FloatText.{float_text};
-ghost use Rattle.ufmt_float.specs.Shortest.{IsAboveZero, IsShortestDecimal};
+ghost use Rattle.ufmt_float.specs.Shortest.{IsAboveZero};
 ghost use Rattle.ufmt_parser.specs.Needs.{need};
 ghost use Rattle.ufmt_parser.specs.Next.{IsNotNext, NextLeaves};
 ghost use Rattle.ufmt_parser.specs.Taking.{IsTaken, open_blocks, rest};
 ghost use Rattle.ufmt_parse_leaves.specs.Values.{IsFloatOf};
 ghost use Rattle.ufmt_parse_leaves.specs.Private.FloatBytes.{after_float, float_len, is_float_byte};
-ghost use Rattle.ufmt_parse_leaves.specs.Private.PlainDecimals.{IsPlainDecimal, IsPrintedAs};
 
-use crate::fixed_point::split_fixed;
-use core::dec2flt::{from_decimal, ten_to};
+use crate::plain_floats::split_plain;
+use core::dec2flt::from_decimal;
 use ufmt_core::ascii::text_from;
-use ufmt_float::{DebugText, Decimal, shortest};
+use ufmt_float::DebugText;
 use ufmt_parser::mode::ParseMode;
 use ufmt_parser::need::Need;
 use ufmt_parser::parser::{Fault, Parser};
@@ -98,7 +97,7 @@ impl Float for f64 {
 
 // Whether the byte may be in the text of a float.
 #[inline(always)]
-fn is_float_byte(byte: u8) -> bool
+pub(crate) fn is_float_byte(byte: u8) -> bool
     ensures { result ≡ is_float_byte byte }
 {
     byte.is_ascii_digit() || matches!(byte, b'-' | b'.' | b'e' | b'N' | b'a' | b'i' | b'n' | b'f')
@@ -137,92 +136,6 @@ fn read_exactly<F: Float>(text: &str) -> Option<F>
             }
         }
     }
-}
-
-// Whether no byte of a float's text is at the front.
-#[inline(always)]
-fn ends_float(input: &[u8]) -> bool
-    ensures { IsTrue result → float_len input.now ≡ 0 }
-{
-    match input.first() {
-        None => true,
-        Some(&byte) => !is_float_byte(byte),
-    }
-}
-
-// Whether `digits / 10 ^ places` is above 0, and can be a text of `{:?}` as it is written: without an exponent, and with no zero at
-// the end but one right after the point.
-#[inline(always)]
-fn is_plain(digits: u64, places: u64) -> bool
-    ensures { IsTrue result → IsPlainDecimal digits places }
-{
-    0 < digits
-        && digits < 100_000_000_000_000_000
-        && 0 < places
-        && places <= 19
-        && (places <= 4 || ten_to(places - 4) <= digits)
-        && (places == 1 || digits % 10 != 0)
-}
-
-// Whether the decimal is printed as `digits / 10 ^ places`: with no zero at the end, but for one after the point.
-#[inline(always)]
-fn is_decimal(decimal: Decimal, digits: u64, places: u64) -> bool
-    requires { places ≤ 19 }
-    ensures { IsTrue result → IsPrintedAs digits places decimal.digits decimal.power }
-{
-    if decimal.power > 415 {
-        return false;
-    }
-    let end = decimal.power + places;
-    if end == 400 {
-        return digits == decimal.digits;
-    }
-    if places != 1 || end < 400 {
-        return false;
-    }
-    digits as u128 == decimal.digits as u128 * ten_to(end - 400) as u128
-}
-
-// Whether `{:?}` prints the float nearest to `digits / 10 ^ places` with these digits. It does if they are fewer than its significand
-// has: no two such decimals with as many places have one nearest float.
-#[inline(always)]
-fn is_printed<F: Float>(nearest: F, digits: u64, places: u64) -> bool
-    requires plain { IsPlainDecimal digits places }
-    requires above { IsAboveZero (F.value nearest) × (float_with_sign false (F.value nearest) ≡ F.value nearest) }
-    requires nearest { F.value nearest ≡ round F.format false digits (10 ^ places) }
-    ensures { IsTrue result → (left : ℕ) × (power : ℕ) × IsShortestDecimal F.format (float_with_sign false (F.value nearest)) left power
-        × IsPrintedAs digits places left power }
-{
-    if digits < F::HIDDEN {
-        nearest.prove_float();
-        return true;
-    }
-    match shortest(nearest) {
-        None => false,
-        Some(decimal) => is_decimal(decimal, digits, places),
-    }
-}
-
-// The float whose text is at the front, and what follows it. It finds those whose text has a point and no exponent, but 0, and is
-// quicker than reading the text and printing the float, since it does neither.
-fn split_plain<F: Float>(input: &[u8]) -> Option<(F, &[u8])>
-    ensures { IfSome result (λ x. IsFloatOf F.format (F.value x.0)
-        × (input.now ≡ float_text F.format true (F.value x.0) ++ x.1.now) × (float_len x.1.now ≡ 0)) }
-{
-    let ((number, places), after) = split_fixed(input)?;
-    let digits = number.unsigned_abs();
-    let places = places as u64;
-    if !is_plain(digits, places) || !ends_float(after) {
-        return None;
-    }
-    let size = F::nearest(digits, places)?;
-    if !is_printed(size, digits, places) {
-        return None;
-    }
-    let negative = number.is_negative();
-    let value = if negative { size.negated() } else { size };
-    value.prove_float();
-    Some((value, after))
 }
 
 // The float whose text the bytes at the front are, and what follows them.

@@ -8,5 +8,6 @@ pub mod fixed_point;
 pub mod floats;
 pub mod integers;
 mod plain_bytes;
+mod plain_floats;
 mod sixteen_digits;
 pub mod texts;

@@ -1,7 +1,7 @@
 -- The bytes from the start on are of a name.
 use Rattle.std.proofs.Common.{◌≡◌, ◌<◌, ◌≤◌, ℕ, length, slice_index, true}
 use Rattle.ufmt_parse.specs.NamesBefore.{is_name_byte}
-use Rattle.ufmt_parse.proofs.place.name_start.Given as goal
+use Rattle.ufmt_parse.proofs.name.name_start.Given as goal
 
 abbrev pub invariant-bytes : goal.invariant-bytes
 invariant-bytes l = record {

@@ -2,7 +2,7 @@ use Rattle.std.proofs.Common.{◌-◌, None, drop, length, option_map, take, sym
 use Rattle.std.specs.Result.{result_ok}
 use Rattle.ufmt_parse.specs.NamesBefore.{IsNameBefore}
 use Rattle.ufmt_parse.proofs.NamesBefore.{IsNameStart, after_suffix, is_nil, is_some_text, no_name, no_suffix, text_name, until_end, up_to}
-use Rattle.ufmt_parse.proofs.place.name_before.Goals as goal
+use Rattle.ufmt_parse.proofs.name.name_before.Goals as goal
 
 pub returns-in_err-front : goal.returns-in_err-front
 returns-in_err-front c =

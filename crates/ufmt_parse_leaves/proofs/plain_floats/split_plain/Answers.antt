@@ -4,8 +4,8 @@ use Rattle.std.specs.Int.{is_negative}
 use Rattle.ufmt_core.specs.FloatText.{float_text}
 use Rattle.ufmt_parse_leaves.specs.Values.{IsFloatOf}
 use Rattle.ufmt_parse_leaves.proofs.PlainFloats.{text_above, text_below}
-use Rattle.ufmt_parse_leaves.proofs.floats.split_plain.Goals as goal
-use Rattle.ufmt_parse_leaves.proofs.floats.split_plain.Goals.{then-negative, else-negative}
+use Rattle.ufmt_parse_leaves.proofs.plain_floats.split_plain.Goals as goal
+use Rattle.ufmt_parse_leaves.proofs.plain_floats.split_plain.Goals.{then-negative, else-negative}
 
 pub returns : goal.returns
 returns g c =
