@@ -31,7 +31,7 @@ macro_rules! fields {
         $crate::fields!(formatter, $name($(*$field),*))
     }};
     ($formatter:expr, $value:ident, $name:ident $(,)?) => {{
-        let $name = $value;
+        let $name {} = &$value;
         $crate::fields!($formatter, $name)
     }};
     ($formatter:expr, self $(,)?) => { $crate::fields!() };
