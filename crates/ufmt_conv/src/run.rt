@@ -3,7 +3,7 @@ ghost use Rattle.std.specs.Prelude.{◌≡◌, ◌≢◌, ◌↔◌, false, IsTr
 ghost use Rattle.std.specs.Io.KnownBytes.{IsAtEnd};
 ghost use Rattle.ufmt.specs.Layout.{plain_text, pretty_text};
 ghost use Rattle.ufmt_conv.specs.Output.{WritesOutput, WritesOutputPrefix, NoDocumentPrintsInput};
-ghost use Rattle.ufmt_io.specs.Watched.{device_of, has_failed};
+ghost use Rattle.ufmt_io.specs.Watched.{device_of, has_failed, has_given_up};
 
 mod command;
 mod fault;
@@ -53,6 +53,8 @@ pub fn run<R: Read, W: Write>(
         → output.new ≡ output.old) }
     ensures input_failed { IsErrOf result Fault.CannotRead ↔ IsTrue (has_failed input.new) }
     ensures output_failed { IsErrOf result Fault.CannotWrite ↔ IsTrue (has_failed output.new) }
+    ensures reads_on { has_given_up input.new ≡ has_given_up input.old }
+    ensures writes_on { has_given_up output.new ≡ has_given_up output.old }
 {
     let text = read_to_end(alloc, input)?;
     let line = output_line(alloc, command, &text)?;

@@ -14,3 +14,7 @@ first_failure watched = watched.failure
 -- whether a call has failed
 abbrev pub has_failed : {D : Type 0} → Watched D → Bool
 has_failed watched = is_some (first_failure watched)
+
+-- whether the caller gave up: a failure is then perhaps none of the reader or writer
+abbrev pub has_given_up : {D : Type 0} → Watched D → Bool
+has_given_up watched = watched.gave_up

@@ -1,7 +1,9 @@
 //! Tests of watched devices, of reading to the end and of writing whole.
 use super::*;
-use crate::testing::{NEVER, Sink, Source, WHOLE};
-use std::io::ErrorKind;
+use crate::testing::{Calls, NEVER, NotedSink, NotedSource, Sink, Source, WHOLE};
+use std::alloc::Global;
+use std::cell::RefCell;
+use std::io::{ErrorKind, Read, Write};
 use std::process::Abort;
 use std::{fmt, io};
 
@@ -123,6 +125,93 @@ fn the_first_failure_stays(rt: HostRuntime) {
     input.give_up();
     let other = Some(ErrorKind::Other);
     same(&rt, kind_of(input.first_failure()), other, "given up");
+}
+
+// A device that fails isn't given up, also if it takes nothing.
+#[test]
+fn a_caller_gives_up(rt: HostRuntime) {
+    let mut output = Watched::new(Sink::new(rt.alloc(), 0, NEVER, true));
+    let _written = output.write_some(b"abc");
+    let _flushed = output.flush_all();
+    let left = (output.has_failed(), output.has_given_up());
+    same(&rt, left, (true, false), "a device that fails");
+    output.give_up();
+    let left = (output.has_failed(), output.has_given_up());
+    same(&rt, left, (true, true), "given up");
+}
+
+// A device that is interrupted isn't asked again.
+#[derive(Drop)]
+struct Interrupted {
+    calls: usize,
+}
+
+impl Read for Interrupted {
+    fn read(&mut self, _buffer: &mut [u8]) -> io::Result<usize> {
+        self.calls = self.calls.saturating_add(1);
+        Err(io::Error::from(ErrorKind::Interrupted))
+    }
+}
+
+#[test]
+fn an_interrupted_read_fails(rt: HostRuntime) {
+    let mut input = Watched::new(Interrupted { calls: 0 });
+    same(&rt, input.read_some(&mut [0]), Err(Failed), "a read");
+    let left = (input.device().calls, kind_of(input.first_failure()));
+    let interrupted = Some(ErrorKind::Interrupted);
+    same(&rt, left, (1, interrupted), "calls and kind");
+}
+
+// Bytes are flushed also if there are none.
+#[test]
+fn no_bytes_are_flushed(rt: HostRuntime) {
+    let mut output = Watched::new(Sink::new(rt.alloc(), WHOLE, NEVER, true));
+    same(&rt, write_whole(&mut output, b""), Err(Failed), "no bytes");
+    same(&rt, output.device().calls, 1, "calls");
+}
+
+// What one read, an empty write, a write, a flush and a read leave: how many bytes of the input are left after
+// the first read and at the end, what was taken, and the row of calls.
+fn left_by_calls(alloc: Global, fails_at: usize) -> (usize, usize, Vec<u8>, String) {
+    let row = String::new(alloc);
+    let calls = RefCell::new(Calls { row, fails_at });
+    let mut input = NotedSource {
+        source: Source::new(b"xy", WHOLE, NEVER),
+        calls: &calls,
+    };
+    let mut output = NotedSink {
+        sink: Sink::new(alloc, WHOLE, NEVER, false),
+        calls: &calls,
+    };
+    let mut buffer = *b"..";
+    let _first = input.read(&mut buffer);
+    let after_first = input.source.left.len();
+    let _empty = output.write(b"");
+    let _written = output.write(b"abc");
+    let _flushed = output.flush();
+    let _last = input.read(&mut buffer);
+    let at_end = input.source.left.len();
+    drop(input);
+    let taken = output.sink.taken;
+    (after_first, at_end, taken, calls.into_inner().row)
+}
+
+// The calls of a reader and a writer are in one row, each before it is made: the device isn't asked in a call
+// that fails.
+#[test]
+fn calls_are_noted_in_a_row(rt: HostRuntime) {
+    let rows: [(usize, usize, usize, &[u8], &str); 4] = [
+        (NEVER, 0, 0, b"abc", "rewf0"),
+        (1, 2, 0, b"abc", "!ewfr"),
+        (3, 0, 0, b"", "re!f0"),
+        (5, 0, 0, b"abc", "rewf!"),
+    ];
+    for (fails_at, after_first, at_end, taken, row) in rows {
+        let left = left_by_calls(rt.alloc(), fails_at);
+        same(&rt, (left.0, left.1), (after_first, at_end), row);
+        same(&rt, left.2.as_slice(), taken, row);
+        same(&rt, left.3.as_str(), row, "the calls");
+    }
 }
 
 // A writer that takes nothing of a piece has an error too.

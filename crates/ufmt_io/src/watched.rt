@@ -3,7 +3,7 @@ ghost use Rattle.std.specs.Prelude.{◌≡◌, ◌<◌, false, length, IfOk, IfS
 ghost use Rattle.std.specs.Option.{option_or};
 ghost use Rattle.std.specs.Io.{ReadsAtMost, WritesAtMost};
 ghost use Rattle.std.specs.Io.KnownBytes.{Keeps, ReadConsumes, WriteAppends};
-ghost use Rattle.ufmt_io.specs.Watched.{device_of, first_failure, has_failed};
+ghost use Rattle.ufmt_io.specs.Watched.{device_of, first_failure, has_failed, has_given_up};
 
 use std::io;
 use std::io::{ErrorKind, Read, Write};
@@ -12,11 +12,12 @@ use std::io::{ErrorKind, Read, Write};
 #[derive(Clone, Copy, PartialEq, Eq, Debug)]
 pub struct Failed;
 
-/// A reader or writer, and the error of its first failure.
+/// A reader or writer, the error of its first failure, and whether its caller gave up.
 #[derive(Drop)]
 pub struct Watched<D> {
     inner: D,
     failure: Option<io::Error>,
+    gave_up: bool,
 }
 
 impl<D> Watched<D> {
@@ -24,10 +25,12 @@ impl<D> Watched<D> {
     pub fn new(device: D) -> Self
         ensures device { device_of result ≡ device }
         ensures works { has_failed result ≡ false }
+        ensures goes_on { has_given_up result ≡ false }
     {
         Watched {
             inner: device,
             failure: None,
+            gave_up: false,
         }
     }
 
@@ -52,18 +55,28 @@ impl<D> Watched<D> {
         self.failure
     }
 
+    /// Returns whether `give_up` was called, so that a failure may be none of the device.
+    pub fn has_given_up(&self) -> bool
+        ensures { result ≡ has_given_up self.now }
+    {
+        self.gave_up
+    }
+
     /// Notes a failure, without a call of the device. If it is the first, its kind is `Other`.
     pub fn give_up(&mut self)
         ensures device { device_of self.new ≡ device_of self.old }
         ensures noted { IsTrue (has_failed self.new) }
+        ensures given_up { IsTrue (has_given_up self.new) }
         ensures first { IfSome (first_failure self.old) (λ error. first_failure self.new ≡ Some error) }
     {
+        self.gave_up = true;
         self.note(io::Error::from(ErrorKind::Other));
     }
 
     // Keeps the error, if it is the first.
     fn note(&mut self, error: io::Error)
         ensures device { device_of self.new ≡ device_of self.old }
+        ensures goes_on { has_given_up self.new ≡ has_given_up self.old }
         ensures first { first_failure self.new ≡ option_or (first_failure self.old) (Some error) }
     {
         self.failure = self.failure.or(Some(error));
@@ -71,6 +84,7 @@ impl<D> Watched<D> {
 
     fn fail(&mut self, error: io::Error) -> Failed
         ensures device { device_of self.new ≡ device_of self.old }
+        ensures goes_on { has_given_up self.new ≡ has_given_up self.old }
         ensures first { first_failure self.new ≡ option_or (first_failure self.old) (Some error) }
     {
         self.note(error);
@@ -86,6 +100,7 @@ impl<D: Read> Watched<D> {
             (D.remaining (device_of self.new)) result buffer.new }
         ensures ok { OnOk result (has_failed self.new ≡ has_failed self.old) }
         ensures err { OnErr result (IsTrue (has_failed self.new)) }
+        ensures goes_on { has_given_up self.new ≡ has_given_up self.old }
         ensures first { IfSome (first_failure self.old) (λ error. first_failure self.new ≡ Some error) }
     {
         match self.inner.read(buffer) {
@@ -105,6 +120,7 @@ impl<D: Write> Watched<D> {
         ensures some { IfOk result (λ count. 0 < length bytes.now → 0 < count) }
         ensures ok { OnOk result (has_failed self.new ≡ has_failed self.old) }
         ensures err { OnErr result (IsTrue (has_failed self.new)) }
+        ensures goes_on { has_given_up self.new ≡ has_given_up self.old }
         ensures first { IfSome (first_failure self.old) (λ error. first_failure self.new ≡ Some error) }
     {
         match self.inner.write(bytes) {
@@ -119,6 +135,7 @@ impl<D: Write> Watched<D> {
         ensures bytes { Keeps (D.contents (device_of self.old)) (D.contents (device_of self.new)) }
         ensures ok { OnOk result (has_failed self.new ≡ has_failed self.old) }
         ensures err { OnErr result (IsTrue (has_failed self.new)) }
+        ensures goes_on { has_given_up self.new ≡ has_given_up self.old }
         ensures first { IfSome (first_failure self.old) (λ error. first_failure self.new ≡ Some error) }
     {
         match self.inner.flush() {

@@ -1,7 +1,7 @@
 //! Reading an input to its end, and writing bytes whole.
 ghost use Rattle.std.specs.Prelude.{◌≡◌, ◌+◌, ◌≤◌, ◌↔◌, ◌⊎◌, false, drop, take, vec_len, IfErr, IfOk, IfSome, IsErr, IsErrOf, IsTrue, OnErr, OnOk};
 ghost use Rattle.std.specs.Io.KnownBytes.{Appends, Consumes, IsAtEnd};
-ghost use Rattle.ufmt_io.specs.Watched.{device_of, has_failed};
+ghost use Rattle.ufmt_io.specs.Watched.{device_of, has_failed, has_given_up};
 ghost use Rattle.ufmt_io.specs.Whole.{AppendsPrefix};
 
 use crate::fault::IoFault;
@@ -20,6 +20,7 @@ pub fn read_to_end<R: Read>(alloc: Global, input: &mut Watched<R>) -> Result<Vec
         text.items ≡ bytes)) }
     ensures end { OnOk result (IsAtEnd (R.remaining (device_of input.new))) }
     ensures failed { IsErrOf result IoFault.CannotRead ↔ IsTrue (has_failed input.new) }
+    ensures goes_on { has_given_up input.new ≡ has_given_up input.old }
     ensures refusals { IfErr result (λ fault.
         (fault ≡ IoFault.CannotRead) ⊎ (fault ≡ IoFault.OutOfMemory)) }
 {
@@ -49,6 +50,7 @@ fn read_after<R: Read>(
         (R.remaining (device_of input.new)) (take count (drop filled text.new.items))) }
     ensures end { IfOk result (λ count. count ≡ 0 → IsAtEnd (R.remaining (device_of input.new))) }
     ensures failed { IsErrOf result IoFault.CannotRead ↔ IsTrue (has_failed input.new) }
+    ensures goes_on { has_given_up input.new ≡ has_given_up input.old }
     ensures refusals { IfErr result (λ fault.
         (fault ≡ IoFault.CannotRead) ⊎ (fault ≡ IoFault.OutOfMemory)) }
 {
@@ -69,6 +71,7 @@ pub fn write_whole<W: Write>(output: &mut Watched<W>, bytes: &[u8]) -> Result<()
     ensures err { OnErr result (AppendsPrefix (W.contents (device_of output.old))
         (W.contents (device_of output.new)) bytes.now) }
     ensures failed { IsErr result ↔ IsTrue (has_failed output.new) }
+    ensures goes_on { has_given_up output.new ≡ has_given_up output.old }
 {
     let mut written = 0;
     while written < bytes.len() {

@@ -1,5 +1,5 @@
 -- What was read, and for which of it the output was written, from one read to the next.
-use Rattle.std.proofs.Common.{◌≡◌, ◌∙◌, refl, ap, sym, subst, ℕ, List, [], ◌++◌, append-nil, Option, Some, None, IfSome}
+use Rattle.std.proofs.Common.{◌≡◌, ◌≢◌, ◌∙◌, ◌≤◌, ◌+◌, refl, ap, sym, subst, arith, ℕ, List, [], ◌++◌, append-nil, length, length-append, Option, Some, None, IfSome}
 use Rattle.std.proofs.KnownBytes.{Consumes-kept, Consumes-nil, Consumes-trans, Consumes-whole, Appends-trans}
 use Rattle.std.specs.Io.KnownBytes.{Appends, Consumes, IsAtEnd, Keeps}
 use Rattle.ufmt_lines.specs.declared.run.conversion.Conversion.{Conversion}
@@ -15,6 +15,16 @@ consumed_front : (old new : Option (List ℕ)) (bytes : List ℕ) (P : List ℕ 
 consumed_front None new bytes P read holds = tt
 consumed_front (Some x) None bytes P read holds = absurd read
 consumed_front (Some x) (Some y) bytes P read holds = subst P (sym read) (holds y)
+
+-- known bytes are as many as those that were consumed, or more
+pub consumed_within : (old new : Option (List ℕ)) (bytes known : List ℕ) → Consumes old new bytes → old ≡ Some known → length bytes ≤ length known
+consumed_within old new bytes known read is =
+    subst (λ o. IfSome o (λ xs. length bytes ≤ length xs)) is
+    (consumed_front old new bytes (λ xs. length bytes ≤ length xs) read (λ more. let all = length-append bytes more in omega (arith, all)))
+
+-- a turn that reads something is one turn more, and one byte more at least
+pub one_each : (text bytes : List ℕ) (count turns : ℕ) → turns ≤ length text → length bytes ≡ count → count ≢ 0 → turns + 1 ≤ length (text ++ bytes)
+one_each text bytes count turns each size some = let all = length-append text bytes in omega (arith, each, size, some, all)
 
 module _ (conversion : Conversion) where
   -- what was read is whole groups, whose outputs were written, and this group so far
@@ -58,6 +68,12 @@ module _ (conversion : Conversion) where
           is_rest = holds;
           written = front_then conversion _ _ rest known old new front_with more;
         }
+
+        -- and the text that was read is longer by them
+        pub read_more_text : (P : List ℕ → Type 0) (rest : List ℕ) (holds : P rest) (more : WritesFront conversion (group ++ bytes) rest old new)
+            → (read_more P rest holds more).text ≡ so_far.text ++ bytes
+        unfolding read_more
+        read_more_text P rest holds more = refl
 
         -- the output failed in between
         pub read_in_part : ((more : List ℕ) → AppendsPrefix old new (outputs_of conversion ((group ++ bytes) ++ more))) → WritesOutputPrefix conversion first known new

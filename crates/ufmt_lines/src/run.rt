@@ -1,10 +1,10 @@
 //! A run of the program: writes the outputs for all groups of lines that have ended before it reads more.
-ghost use Rattle.std.specs.Prelude.{◌≡◌, ◌↔◌, ◌<◌, ◌≤◌, false, take, vec_len, IfErr, IfOk, IsErr, IsErrOf, IsTrue, OnErr, OnOk, ⊤};
+ghost use Rattle.std.specs.Prelude.{◌≡◌, ◌↔◌, ◌<◌, ◌≤◌, ◌-◌, ◌^◌, List, ℕ, Some, false, length, take, vec_len, IfErr, IfOk, IsErr, IsErrOf, IsTrue, OnErr, OnOk, ⊤};
 ghost use Rattle.std.specs.Io.KnownBytes.{Appends, Consumes, IsAtEnd, Keeps};
 ghost use Rattle.ufmt_io.specs.Whole.{AppendsPrefix};
 ghost use Rattle.ufmt_lines.specs.Output.{WritesOutput, WritesOutputPrefix, ReadsAndWrites};
 ghost use Rattle.ufmt_lines.specs.Groups.{IsInGroup};
-ghost use Rattle.ufmt_io.specs.Watched.{device_of, has_failed};
+ghost use Rattle.ufmt_io.specs.Watched.{device_of, has_failed, has_given_up};
 
 mod arguments;
 mod conversion;
@@ -65,15 +65,22 @@ pub fn run<R: Read, W: Write>(
     // What each fault means.
     ensures input_failed { IsErrOf result IoFault.CannotRead ↔ IsTrue (has_failed input.new) }
     ensures output_failed { IsErrOf result IoFault.CannotWrite ↔ IsTrue (has_failed output.new) }
+
+    // Until then it continues: known bytes are read to their end, and outputs are written to theirs.
+    ensures reads_on { (bytes : List ℕ) → R.remaining (device_of input.old) ≡ Some bytes
+        → length bytes < 2 ^ 64 - 1 → has_given_up input.new ≡ has_given_up input.old }
+    ensures writes_on { has_given_up output.new ≡ has_given_up output.old }
 {
     let mut group = Group::new(alloc);
     let mut chunk = new_chunk(alloc)?;
-    'reads: for _ in 0..u64::MAX {
+    let mut turns: u64 = 0;
+    'reads: while turns < u64::MAX {
         let count = read_chunk(input, &mut chunk)?;
         if count == 0 {
             return group.write_last(conversion, output);
         }
         group.write_ended(conversion, front(&chunk, count), output)?;
+        turns += 1;
     }
     // An input with no end, after 2^64 - 1 reads.
     input.give_up();
@@ -89,6 +96,7 @@ pub fn print<W: Write>(text: &str, output: &mut Watched<W>) -> Result<(), IoFaul
         (W.contents (device_of output.new)) text.now) }
     ensures failed { IsErrOf result IoFault.CannotWrite ↔ IsTrue (has_failed output.new) }
     ensures no_other { IfErr result (λ fault. fault ≡ IoFault.CannotWrite) }
+    ensures writes_on { has_given_up output.new ≡ has_given_up output.old }
 {
     write_whole(output, text.as_bytes()).map_err(|_| IoFault::CannotWrite)
 }
@@ -116,6 +124,7 @@ fn read_chunk<R: Read>(input: &mut Watched<R>, chunk: &mut Vec<u8>) -> Result<us
         (R.remaining (device_of input.new))) }
     ensures failed { IsErr result ↔ IsTrue (has_failed input.new) }
     ensures no_other { IfErr result (λ fault. fault ≡ IoFault.CannotRead) }
+    ensures reads_on { has_given_up input.new ≡ has_given_up input.old }
 {
     let buffer = chunk.as_mut_slice();
     input.read_some(buffer).map_err(|_| IoFault::CannotRead)
@@ -124,7 +133,8 @@ fn read_chunk<R: Read>(input: &mut Watched<R>, chunk: &mut Vec<u8>) -> Result<us
 // What was read.
 fn front(chunk: &Vec<u8>, count: usize) -> &[u8]
     requires { count ≤ vec_len chunk.now }
-    ensures { result.now ≡ take count chunk.now.items }
+    ensures bytes { result.now ≡ take count chunk.now.items }
+    ensures size { length result.now ≡ count }
 {
     let bytes = chunk.as_slice();
     &bytes[..count]

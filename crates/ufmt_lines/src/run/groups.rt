@@ -2,7 +2,7 @@
 ghost use Rattle.std.specs.Prelude.{◌≡◌, ◌≢◌, ◌↔◌, ◌<◌, ◌+◌, ◌≤◌, ◌++◌, ◌⊎◌, ◌∷◌, [], List, ℕ, IfErr, IfOk, IsErr, IsErrOf, IsTrue, MatchOption, OnErr, OnOk, drop, false, length, take, true};
 ghost use Rattle.std.specs.Io.KnownBytes.{Appends};
 ghost use Rattle.ufmt.specs.Bytes.{line_feed};
-ghost use Rattle.ufmt_io.specs.Watched.{device_of, has_failed};
+ghost use Rattle.ufmt_io.specs.Watched.{device_of, has_failed, has_given_up};
 ghost use Rattle.ufmt_io.specs.Whole.{AppendsPrefix};
 ghost use Rattle.ufmt_lines.specs.Output.{WritesFront, outputs_of};
 ghost use Rattle.ufmt_lines.specs.Groups.{IsInGroup, IsInLine, is_indented, is_spaced_brace, opens, word_start};
@@ -75,6 +75,7 @@ impl Group {
             (W.contents (device_of output.old)) (W.contents (device_of output.new)) }
         ensures failed { IsErrOf result IoFault.CannotWrite ↔ IsTrue (has_failed output.new) }
         ensures no_reader { IfErr result (λ fault. fault ≢ IoFault.CannotRead) }
+        ensures writes_on { has_given_up output.new ≡ has_given_up output.old }
     {
         let (whole, last) = split_last_line(bytes);
         let mut lines = whole;
@@ -102,6 +103,7 @@ impl Group {
         ensures out_of_memory { IsErrOf result IoFault.OutOfMemory → output.new ≡ output.old }
         ensures failed { IsErrOf result IoFault.CannotWrite ↔ IsTrue (has_failed output.new) }
         ensures no_reader { IfErr result (λ fault. fault ≢ IoFault.CannotRead) }
+        ensures writes_on { has_given_up output.new ≡ has_given_up output.old }
     {
         // It is written from where it is, if it stays as it is.
         let Some(_) = next_bracket(&self.bytes, self.bytes.len(), 0) else {
@@ -213,6 +215,7 @@ impl Group {
             (W.contents (device_of output.new)) (gathered self.old)) }
         ensures failed { IsErr result ↔ IsTrue (has_failed output.new) }
         ensures no_other { IfErr result (λ fault. fault ≡ IoFault.CannotWrite) }
+        ensures writes_on { has_given_up output.new ≡ has_given_up output.old }
     {
         if self.outputs.as_bytes().len() < LEAST {
             return Ok(());
@@ -232,6 +235,7 @@ impl Group {
             (W.contents (device_of output.new)) (gathered self.old)) }
         ensures failed { IsErr result ↔ IsTrue (has_failed output.new) }
         ensures no_other { IfErr result (λ fault. fault ≡ IoFault.CannotWrite) }
+        ensures writes_on { has_given_up output.new ≡ has_given_up output.old }
     {
         write_some(output, self.outputs.as_bytes())?;
         self.outputs.clear();
@@ -248,6 +252,7 @@ fn write_some<W: Write>(output: &mut Watched<W>, bytes: &[u8]) -> Result<(), IoF
         (W.contents (device_of output.new)) bytes.now) }
     ensures failed { IsErr result ↔ IsTrue (has_failed output.new) }
     ensures no_other { IfErr result (λ fault. fault ≡ IoFault.CannotWrite) }
+    ensures writes_on { has_given_up output.new ≡ has_given_up output.old }
 {
     if bytes.is_empty() {
         return Ok(());

@@ -9,6 +9,7 @@ loop-written-preserved g c =
     record {
       within = search (rules, places);
       works = search rules;
+      goes_on = search rules;
       so_far = appends_longer_prefix _ _ _ c.args.bytes.now c.loop-written.written c.in_ok-written.field-0
           c.loop-written.invariant.so_far (rw take_rest at taken.bytes);
     }

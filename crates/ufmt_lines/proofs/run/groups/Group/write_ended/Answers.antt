@@ -1,4 +1,4 @@
-use Rattle.std.proofs.Common.{◌≡◌, ◌∙◌, ◌++◌, rules, subst, sym, []}
+use Rattle.std.proofs.Common.{◌≡◌, refl, ◌∙◌, ◌++◌, rules, subst, sym, []}
 use Rattle.std.proofs.lemmas.Result.{on_ok_weaker}
 use Rattle.ufmt_lines.specs.Private.Group.{Gathers, gathered, group_bytes}
 use Rattle.ufmt_lines.proofs.Fronts.{all_written, lines_more, nothing_gathered, nothing_written, written_if_full, written_in_part}
@@ -10,6 +10,7 @@ use Rattle.ufmt_lines.proofs.run.groups.Group.write_ended.Goals as goal
 pub ended-init : goal.ended-init
 ended-init g c = record {
   works = c.requires.works;
+  writes_on = refl;
   reading = c.requires.reading;
   whole = c.split_last_line.ensures.whole;
   middle = group_bytes c.args.self.now ++ c.args.bytes.now;
@@ -25,6 +26,7 @@ ended-preserved g c =
     let all = written_if_full c.args.conversion _ so_far.middle _ _ _ _ _ _ so_far.so_far line full.ok in
     record {
       works = search rules;
+      writes_on = search rules;
       reading = reading_same c.args.conversion.to _ _ c.write_if_full.ensures.same c.write_if_full.ensures.line ended.reading;
       whole = ended.whole;
       middle = all.0;

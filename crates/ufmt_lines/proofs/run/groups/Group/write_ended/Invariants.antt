@@ -3,12 +3,13 @@ use Rattle.std.proofs.Common.{◌≡◌, ◌++◌, [], ℕ, List, false, length}
 use Rattle.ufmt_lines.specs.Output.{WritesFront}
 use Rattle.ufmt_lines.specs.Private.Group.{Gathers, IsReading, gathered, group_bytes}
 use Rattle.ufmt_lines.specs.Private.WholeLines.{EndsLine}
-use Rattle.ufmt_io.specs.Watched.{device_of, has_failed}
+use Rattle.ufmt_io.specs.Watched.{device_of, has_failed, has_given_up}
 use Rattle.ufmt_lines.proofs.run.groups.Group.write_ended.Given as goal
 
 abbrev pub invariant-ended : goal.invariant-ended
 invariant-ended g l = record {
   works : has_failed l.output ≡ false;
+  writes_on : has_given_up l.output ≡ has_given_up l.initial.output;
   reading : IsReading l.conversion.to l.self;
   whole : EndsLine l.lines;
   middle : List ℕ;
