@@ -1,14 +1,17 @@
 """Refuses each allocation of ufmt_memory_probe, which makes each call of the library.
 
-Its input says how many allocations it makes before the calls. With fewer of them, one fixed number refuses a later allocation
-of the calls. So one build serves all runs. After the calls the program makes one more allocation. When that is refused, each
+Its input says how many allocations it makes before the calls. In each run the allocation of one fixed number is refused. With fewer
+before the calls, that is a later one of the calls. After the calls the program makes one more allocation. When that is refused, each
 allocation of the calls has been refused.
 
 A run refuses one allocation, and the line of one call says so. The number of runs in which a call's line says so must be the
 number of allocations in that line. Before a call without allocations the program makes one of its own, which counts for that
 line. If no line of a run says so, a call made the allocation in secret, and the fault names the lines before and after it.
+
+First there is a run with ample memory. It makes as many allocations as its lines say, so none of the C library's is counted.
 """
 import re
+from concurrent.futures import ThreadPoolExecutor
 
 from lib.alloc_failures import tried
 
@@ -33,9 +36,8 @@ PIECES = {
 class Calls:
     """What the runs showed so far. Lines are counted from 0."""
 
-    def __init__(self, crate):
-        self.crate = crate
-        self.ample = (crate / "stdout").read_text().splitlines()
+    def __init__(self, ample):
+        self.ample = ample.splitlines()
         self.faults = []
         self.runs = self.refusals = self.secret = 0
         # In how many runs each line says that memory was refused, and the last line that said so.
@@ -72,8 +74,27 @@ class Calls:
             return False
         return True
 
+    def said(self, index):
+        """How many allocations a line says. The program's own one before a call without any isn't among them."""
+        return int(AMPLE.search(self.ample[index]).group(1))
+
+    def judge_end(self, number, ended):
+        """Judges how a run ended, whatever it printed."""
+        wrong = tried.end_fault(ended, [0])
+        if wrong or ended.error:
+            self.faults.append("ufmt_memory_probe, allocation %d of the calls refused: %s" % (number, wrong or ended.error[:80]))
+
+    def judge_ample(self, ended):
+        """Judges the run with ample memory and no allocation before the calls."""
+        wrong = tried.end_fault(ended, [0])
+        said = [self.said(index) or 1 for index in range(len(self.ample))]
+        if wrong or ended.output.decode(errors="replace").splitlines() != self.ample:
+            self.faults.append("ufmt_memory_probe with ample memory: %s" % (wrong or "another output than the file stdout has"))
+        elif tried.asked(ended.counts) != sum(said):
+            self.faults.append("ufmt_memory_probe makes %d allocations, and its lines say %d" % (tried.asked(ended.counts), sum(said)))
+
     def judge_run(self, output):
-        """Judges a run: only the refused call's line differs from those with ample memory."""
+        """Judges what a run printed: only the refused call's line differs from those with ample memory."""
         lines = output.decode(errors="replace").splitlines()
         met = 0
         self.runs += 1
@@ -97,19 +118,19 @@ class Calls:
     def judge_counts(self, end):
         """Compares the number in each line before this one with the runs in which it said that memory was refused."""
         for index in range(end):
-            said = int(AMPLE.search(self.ample[index]).group(1))
+            said = self.said(index)
             count = self.refused[index] - (said == 0)  # Without allocations, the program's own one.
             if said != count:
                 self.faults.append("%s: %d allocations, and its line says %d" % (self.name(index), count, said))
 
-    def judge(self, outputs, errors):
-        if " ended=%d fault=0 " % (REFUSED + 1) not in errors:
-            self.faults.append("not each run of ufmt_memory_probe ended: %s" % errors.splitlines()[-1:])
-            return
-        if outputs["0"] != b"refused before the calls\n":
-            self.faults.append("the last allocation before the calls is not the one that was refused: %s" % outputs["0"][:80])
-        for number in range(1, REFUSED + 1):
-            self.judge_run(outputs[str(number)])
+    def judge(self, runs):
+        """Judges the runs in order, up to the one whose refusal comes after the calls."""
+        for number, ended in enumerate(runs):
+            self.judge_end(number, ended)
+            if number > 0:
+                self.judge_run(ended.output)
+            elif ended.output != b"refused before the calls\n":
+                self.faults.append("the last allocation before the calls is not the one that was refused: %s" % ended.output[:80])
             if len(self.faults) >= MOST_FAULTS:
                 self.faults.append("the runs of ufmt_memory_probe after number %d are not judged" % number)
                 return
@@ -122,13 +143,16 @@ class Calls:
         self.judge_counts(self.last or 0)
 
 
-def tried_calls(crate, room):
-    """Runs the program once for each number. The name of a case is the number of the refused allocation of the calls. Its input
-    has the number of allocations before the calls."""
-    cases = room / "calls"
-    cases.mkdir()
-    for number in range(REFUSED + 1):
-        (cases / str(number)).write_text("%d\n" % (REFUSED - number))
-    calls = Calls(crate)
-    calls.judge(*tried.run(crate, REFUSED, cases))
+def tried_calls(counter):
+    """Runs the program once for each number, that of the refused allocation of the calls. The run of number 0 refuses the last one
+    before them."""
+    program = tried.program("ufmt_memory_probe")
+    calls = Calls((tried.TOP / "crates" / "ufmt_memory_probe" / "stdout").read_text())
+
+    def run(number, refused=REFUSED):
+        return counter.run_refused([program], b"%d\n" % (REFUSED - number), "calls-%d" % number, refused, tried.SECONDS)
+
+    calls.judge_ample(run(REFUSED, 0))
+    with ThreadPoolExecutor(tried.SIDE_BY_SIDE) as pool:
+        calls.judge(pool.map(run, range(REFUSED + 1)))
     return calls

@@ -1,29 +1,48 @@
-"""Runs of `rt try` in which an allocation is refused, over many inputs of one build."""
-import re
-import subprocess
+"""Runs of a built program in which an allocation is refused."""
+import os
+import pathlib
+import sys
+import tempfile
+from contextlib import contextmanager
 
-CASE = re.compile(rb"^== ([a-z0-9-]+)\n", re.MULTILINE)
+from lib.model.counter import Counter
+
+TOP = pathlib.Path(__file__).resolve().parents[3]
+# A run that takes longer is a fault.
+SECONDS = 60
+# How many runs there are at a time.
+SIDE_BY_SIDE = os.cpu_count() or 1
 
 
-def run(crate, number, cases):
-    """Builds the crate's program once, and runs it on each case of the folder with its allocation of this number refused.
-    Returns what each run wrote to standard output, by its case, and what came on standard error."""
-    ran = subprocess.run(["rt", "try", "--fail-alloc", str(number), "--cases", cases], cwd=crate, stdin=subprocess.DEVNULL,
-                         stdout=subprocess.PIPE, stderr=subprocess.PIPE)
-    parts = CASE.split(ran.stdout)
-    return {name.decode(): text for name, text in zip(parts[1::2], parts[2::2])}, ran.stderr.decode(errors="replace")
+def program(name):
+    """The built program of this name."""
+    path = TOP / "crates" / name / "out" / name
+    if not os.access(path, os.X_OK):
+        sys.exit("tools/try-alloc-failures: %s isn't there: `rt ci` builds it, and so does `rt run` in its crate" % path)
+    return path
 
 
-def said(name, errors):
-    """What the program wrote to standard error in the run of a case, and then rt's line of that run."""
-    lines = []
-    for line in errors.splitlines():
-        if line.startswith("allocations: "):
-            continue
-        if line.startswith("case="):
-            if line.split()[0] == "case=" + name:
-                return lines, line
-            lines = []
-        else:
-            lines.append(line)
-    return [], ""
+@contextmanager
+def counter():
+    """What counts and refuses, in a temporary folder."""
+    with tempfile.TemporaryDirectory(prefix="try-alloc-failures-") as room:
+        made = Counter(pathlib.Path(room))
+        if made.library is None:
+            sys.exit("tools/try-alloc-failures: a C compiler is needed")
+        yield made
+
+
+def asked(counts):
+    """How many allocations a run made, each growth among them."""
+    return counts.allocations + counts.growths
+
+
+def end_fault(ended, statuses):
+    """What is wrong with the end of a run that may have one of these statuses, or None. What it wrote isn't looked at."""
+    if ended.status is None:
+        return "it doesn't end"
+    if ended.status not in statuses or ended.counts is None:
+        return "it ended with status %d: %s" % (ended.status, ended.error[:80])
+    if ended.counts.left:
+        return "%d blocks are never freed" % ended.counts.left
+    return None

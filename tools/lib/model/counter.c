@@ -3,7 +3,12 @@
  * An allocation of MARK bytes is a mark of ufmt_model_probe: a call begins, it ended and its result is held, or the result
  * was dropped. No memory is given for a mark. At the third one a line of counts is written to the file that COUNTS names.
  * A program without marks gets a line when it ends; with COUNTS_OF=writes it gets one after each write, too.
- * With COUNTS_REFUSE=N the Nth allocation or growth of each call is refused. With COUNTS_READ=N a read takes at most N bytes.
+ * With COUNTS_REFUSE=N the Nth allocation or growth of each call is refused. With COUNTS_REFUSE_OF=run it is the Nth of the whole run,
+ * in a program without marks. Then each block is filled before the program has it and before it is freed, and moves when it grows: a read
+ * of memory that isn't written yet, or is freed, finds other bytes. A program that wrote past the end of a block is ended when it frees
+ * that. With COUNTS_READ=N a read takes at most N bytes, with COUNTS_WRITE=N a write.
+ * With COUNTS_PARTS="N N .." the input has parts of so many bytes. A read takes bytes of one part. Before the first byte of each part is
+ * read, there is a line of counts too: first of the start, and then of each part but the last, of which there is one at the end.
  *
  * In a line are, in order: allocations, bytes, growths, bytes held at the second mark, most bytes held at once, blocks
  * that were never freed, reads, writes, nanoseconds of the processor. callgrind is asked for the steps from counts_begin to counts_end.
@@ -20,6 +25,10 @@
 #include <unistd.h>
 
 #define MARK ((size_t)1 << 62)
+/* Where the whole run is one call: what memory is filled with, and how many bytes after each block are filled too. */
+#define FRESH 0xa5
+#define FREED 0x5a
+#define AFTER 16
 
 /* These are the C library's own. */
 void *__libc_malloc(size_t);
@@ -42,11 +51,15 @@ static ssize_t (*real_read)(int, void *, size_t);
 static ssize_t (*real_write)(int, const void *, size_t);
 static int file = -1;
 static int is_each_write;
-/* Which allocation of a call is refused, 0 for none; how many it asked for so far; whether it hasn't ended. */
+/* Which allocation of a call is refused, 0 for none; how many it asked for so far; whether it hasn't ended; whether the whole run is
+ * that call. */
 static uint64_t refused, asked;
-static int is_in_call;
-/* How many bytes a read takes at most. */
-static size_t most_read = SIZE_MAX;
+static int is_in_call, is_of_run;
+/* How many bytes a read or a write takes at most. */
+static size_t most_read = SIZE_MAX, most_written = SIZE_MAX;
+/* The sizes of the parts of the input that no read has come to yet, or NULL; and how many bytes are left of the one that is read. */
+static const char *parts;
+static size_t left_of_part;
 
 static int64_t nanoseconds(void) {
     struct timespec now;
@@ -82,11 +95,17 @@ __attribute__((constructor)) static void start(void) {
     if (name)
         file = open(name, O_WRONLY | O_CREAT | O_APPEND | O_CLOEXEC, 0644);
     const char *which = getenv("COUNTS_REFUSE");
+    const char *refused_of = getenv("COUNTS_REFUSE_OF");
     is_each_write = of && strcmp(of, "writes") == 0;
     const char *most = getenv("COUNTS_READ");
+    const char *written = getenv("COUNTS_WRITE");
     refused = which ? strtoull(which, NULL, 10) : 0;
+    is_in_call = is_of_run = refused_of && strcmp(refused_of, "run") == 0;
     if (most)
         most_read = strtoull(most, NULL, 10);
+    if (written)
+        most_written = strtoull(written, NULL, 10);
+    parts = getenv("COUNTS_PARTS");
     counts_begin();
 }
 
@@ -128,10 +147,24 @@ static void *with_header(char *base, size_t offset, size_t size) {
     struct header *header = (struct header *)(base + offset) - 1;
     header->size = size;
     header->offset = offset;
+    if (is_of_run)
+        memset(base + offset, FRESH, size + AFTER);
     counts.allocations++;
     counts.bytes += size;
     hold(size);
     return base + offset;
+}
+
+static size_t bytes_after(void) {
+    return is_of_run ? AFTER : 0;
+}
+
+/* Fills a block that is freed, if no byte after it was written. */
+static void fill_freed(unsigned char *block, size_t size) {
+    for (size_t at = size; at < size + AFTER; at++)
+        if (block[at] != FRESH)
+            abort();
+    memset(block, FREED, size);
 }
 
 void *malloc(size_t size) {
@@ -142,13 +175,15 @@ void *malloc(size_t size) {
     }
     if (is_refused())
         return NULL;
-    return with_header(__libc_malloc(size + sizeof(struct header)), sizeof(struct header), size);
+    return with_header(__libc_malloc(size + sizeof(struct header) + bytes_after()), sizeof(struct header), size);
 }
 
 void free(void *block) {
     if (!block)
         return;
     struct header *header = (struct header *)block - 1;
+    if (is_of_run)
+        fill_freed(block, header->size);
     counts.frees++;
     hold(-(int64_t)header->size);
     __libc_free((char *)block - header->offset);
@@ -158,7 +193,7 @@ void *memalign(size_t alignment, size_t size) {
     if (is_refused())
         return NULL;
     size_t offset = alignment < sizeof(struct header) ? sizeof(struct header) : alignment;
-    return with_header(__libc_memalign(offset, size + offset), offset, size);
+    return with_header(__libc_memalign(offset, size + offset + bytes_after()), offset, size);
 }
 
 void *aligned_alloc(size_t alignment, size_t size) {
@@ -184,7 +219,7 @@ void *realloc(void *block, size_t size) {
     struct header *header = (struct header *)block - 1;
     size_t old = header->size;
     /* Blocks of another alignment aren't grown in place. */
-    if (header->offset != sizeof(struct header)) {
+    if (is_of_run || header->offset != sizeof(struct header)) {
         void *next = memalign(header->offset, size);
         if (next) {
             memcpy(next, block, old < size ? old : size);
@@ -204,21 +239,46 @@ void *realloc(void *block, size_t size) {
     return header + 1;
 }
 
+/* Writes a line of a count that has ended, and begins the next one with what is held. */
+static void count_anew(void) {
+    int64_t held = counts.held;
+    counts.held_at_end = held;
+    write_line();
+    counts_begin();
+    counts.held = counts.most = held;
+}
+
+/* A read takes bytes of one part. Where the last one was read whole, its count ends. */
+static __attribute__((noinline)) ssize_t read_of_part(int device, void *bytes, size_t count) {
+    if (left_of_part == 0 && *parts) {
+        char *after;
+        counts_end();
+        left_of_part = strtoull(parts, &after, 10);
+        parts = after;
+        count_anew();
+    }
+    counts.reads++;
+    ssize_t taken = real_read(device, bytes, left_of_part && left_of_part < count ? left_of_part : count);
+    if (taken > 0 && left_of_part)
+        left_of_part -= taken;
+    return taken;
+}
+
+/* Without parts it takes few steps of its own, since steps of reads have a bound. */
 ssize_t read(int device, void *bytes, size_t count) {
+    if (parts)
+        return read_of_part(device, bytes, count);
     counts.reads++;
     return real_read(device, bytes, count < most_read ? count : most_read);
 }
 
 ssize_t write(int device, const void *bytes, size_t count) {
     counts.writes++;
+    count = count < most_written ? count : most_written;
     if (!is_each_write)
         return real_write(device, bytes, count);
     counts_end();
     ssize_t written = real_write(device, bytes, count);
-    counts.held_at_end = counts.held;
-    write_line();
-    struct counts old = counts;
-    counts_begin();
-    counts.held = counts.most = old.held;
+    count_anew();
     return written;
 }

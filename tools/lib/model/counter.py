@@ -4,7 +4,7 @@ import pathlib
 import re
 import shutil
 import subprocess
-from typing import NamedTuple
+from typing import NamedTuple, Optional
 
 HERE = pathlib.Path(__file__).resolve().parent
 CALLGRIND = ("--tool=callgrind", "--combine-dumps=yes", "--zero-before=counts_begin", "--dump-before=counts_end")
@@ -25,6 +25,15 @@ class Counts(NamedTuple):
     nanoseconds: int
 
 
+class Ended(NamedTuple):
+    """How a run ended: its status, or None if it didn't end in time; what it wrote; and its counts, or None if it was killed."""
+
+    status: Optional[int]
+    output: bytes
+    error: bytes
+    counts: Optional[Counts]
+
+
 class Counter:
     def __init__(self, room):
         """Compiles the library into the folder. `library` is None if there is no C compiler."""
@@ -40,32 +49,63 @@ class Counter:
     def run(self, arguments, data, name, of_writes=False, seconds=None, refused=0):
         """Runs a program, and returns its standard output and its counts: of the whole run, or of each write. Of each call that it
         marks, the allocation or growth of this number is refused, if it isn't 0."""
-        path = self.room / (re.sub(r"\W", "-", name) + ".counts")
-        path.write_bytes(b"")
+        path = self.emptied(name, "counts")
         output = self.ran(arguments, data, name, path, of_writes, seconds, refused)
-        return output, [Counts(*map(int, line.split())) for line in path.read_text().splitlines()]
+        return output, counts_in(path)
 
-    def steps(self, arguments, data, name, of_writes=False, seconds=None, most_read=None):
-        """Runs a program with valgrind, and returns the steps of each part that it counts. A read takes at most so many bytes."""
-        path = self.room / (re.sub(r"\W", "-", name) + ".steps")
-        path.write_bytes(b"")
+    def run_refused(self, arguments, data, name, number, seconds):
+        """Runs a program, and returns how it ended. Of the whole run, the allocation or growth of this number is refused, if it isn't 0."""
+        path = self.emptied(name, "counts")
+        try:
+            ran = self.ended(arguments, data, name, path, seconds, COUNTS_REFUSE=str(number), COUNTS_REFUSE_OF="run")
+        except subprocess.TimeoutExpired:
+            return Ended(None, b"", b"", None)
+        counts = counts_in(path)
+        path.unlink()
+        return Ended(ran.returncode, ran.stdout, ran.stderr, counts[0] if counts else None)
+
+    def steps(self, arguments, data, name, of_writes=False, seconds=None, most_read=None, parts=()):
+        """Runs a program with valgrind, and returns the steps of each part that it counts. A read takes at most so many bytes. If the
+        input has parts of these sizes, the steps are those of the start and of each part, which a read doesn't go past."""
+        path = self.emptied(name, "steps")
         arguments = [self.valgrind, *CALLGRIND, "--callgrind-out-file=" + str(path), *arguments]
-        self.ran(arguments, data, name, "/dev/null", of_writes, seconds, most_read=most_read)
+        self.ran(arguments, data, name, "/dev/null", of_writes, seconds, most_read=most_read, parts=parts)
         steps = [int(found) for found in re.findall(rb"^summary: (\d+)", path.read_bytes(), re.M)]
         path.unlink()
         return steps
 
-    def ran(self, arguments, data, name, path, of_writes, seconds, refused=0, most_read=None):
-        # A file is read in whole chunks, which a pipe isn't.
-        given = self.room / (re.sub(r"\W", "-", name) + ".input")
-        given.write_bytes(data)
-        room = dict(os.environ, LD_PRELOAD=str(self.library), COUNTS=str(path), COUNTS_OF="writes" if of_writes else "run",
-                    COUNTS_REFUSE=str(refused))
+    def ran(self, arguments, data, name, path, of_writes, seconds, refused=0, most_read=None, parts=()):
+        """Runs a program, which must end with 0, and returns its standard output."""
+        asked = {"COUNTS_OF": "writes" if of_writes else "run", "COUNTS_REFUSE": str(refused)}
+        if parts:
+            asked["COUNTS_PARTS"] = " ".join(map(str, parts))
         if most_read is not None:
-            room["COUNTS_READ"] = str(most_read)
-        with open(given, "rb") as device:
-            ran = subprocess.run([str(argument) for argument in arguments], stdin=device, capture_output=True, env=room, timeout=seconds)
-        given.unlink()
+            asked["COUNTS_READ"] = str(most_read)
+        ran = self.ended(arguments, data, name, path, seconds, **asked)
         if ran.returncode != 0:
             raise ValueError("status %d: %s" % (ran.returncode, ran.stderr[-200:].decode("utf-8", "replace")))
         return ran.stdout
+
+    def ended(self, arguments, data, name, path, seconds, **asked):
+        """Runs a program to its end, with the library before it, which is asked by these variables."""
+        # A file is read in whole chunks, which a pipe isn't.
+        given = self.file(name, "input")
+        given.write_bytes(data)
+        room = dict(os.environ, LD_PRELOAD=str(self.library), COUNTS=str(path), **asked)
+        with open(given, "rb") as device:
+            ran = subprocess.run([str(argument) for argument in arguments], stdin=device, capture_output=True, env=room, timeout=seconds)
+        given.unlink()
+        return ran
+
+    def file(self, name, kind):
+        return self.room / ("%s.%s" % (re.sub(r"\W", "-", name), kind))
+
+    def emptied(self, name, kind):
+        path = self.file(name, kind)
+        path.write_bytes(b"")
+        return path
+
+
+def counts_in(path):
+    """The counts in each line of a file that the library wrote."""
+    return [Counts(*map(int, line.split())) for line in path.read_text().splitlines()]
