@@ -176,7 +176,8 @@ def line_steps(line):
 
 
 def line_faults(counter, program, is_plain):
-    """The faults of runs of ufmt_lines on a log of all shapes and on each group by itself, and how many groups were counted."""
+    """The faults of runs of ufmt_lines on a log of all shapes, on each group by itself and on the short groups in turn, and how many
+    groups were counted."""
     arguments = [program] + ["--plain"] * is_plain
     name = "ufmt_lines --plain" if is_plain else "ufmt_lines"
     log = list(lines(is_plain))
@@ -185,8 +186,15 @@ def line_faults(counter, program, is_plain):
     if output != "".join(line.output + "\n" for line in log).encode():
         return [name + ": another output for a log of all shapes"], len(log)
     with ThreadPoolExecutor() as pool:
-        wrong = pool.map(lambda it: line_fault(counter, arguments, "%s %d" % (name, it[0]), it[1]), enumerate(log))
-        return ["%s, %s" % (name, fault) for fault in wrong if fault], len(log)
+        wrong = list(pool.map(lambda it: line_fault(counter, arguments, "%s %d" % (name, it[0]), it[1]), enumerate(log)))
+    if counter.valgrind:
+        wrong += short_line_faults(counter, arguments, name, [line for line in log if not is_long(line)])
+    return ["%s, %s" % (name, fault) for fault in wrong if fault], len(log)
+
+
+def is_long(line):
+    """Whether rooms grow for the group or its output. Then the steps are those of a run on it alone."""
+    return len(line.group.encode()) + len(line.output.encode()) > CHUNK
 
 
 def line_fault(counter, arguments, name, line):
@@ -196,9 +204,19 @@ def line_fault(counter, arguments, name, line):
     if output != (line.output + "\n").encode():
         return line.name + ": another output"
     wrong = line_memory_fault(line, counts[0])
-    if wrong is None and counter.valgrind:
+    if wrong is None and counter.valgrind and is_long(line):
         wrong = line_steps_fault(line, counter.steps(arguments, data, name, seconds=SECONDS)[0])
     return wrong
+
+
+def short_line_faults(counter, arguments, name, log):
+    """What is wrong with the steps of short groups, if anything is. One run reads them one by one: the outputs of those that have ended
+    are written before more is read. To the steps of each are added those of the start."""
+    parts = [(line.group + "\n").encode() for line in log]
+    start, *steps, _after = counter.steps(arguments, b"".join(parts), name + ", in turn", seconds=SECONDS, parts=list(map(len, parts)))
+    if len(steps) != len(log):
+        return ["steps of %d groups, and not of %d" % (len(steps), len(log))]
+    return [line_steps_fault(line, start + taken) for line, taken in zip(log, steps)]
 
 
 def line_steps_fault(line, steps):

@@ -5,6 +5,7 @@ has a field, and a set has an entry.
 
 There are two classes of texts, TOKEN and DEBUG. A reader takes the texts of one class. The layout is the same for both.
 """
+import functools
 import re
 from typing import Callable, NamedTuple
 
@@ -136,6 +137,8 @@ QUOTED_CHARACTER = re.compile(r"'(?:[^'\\\x00-\x1f\x7f]|\\[0tnr\\']|" + CODE + r
 ESCAPE = re.compile(r"\\u\{([0-9a-f]+)\}|\\(.)")
 
 
+# Each type with such a leaf asks for its text.
+@functools.lru_cache(maxsize=64)
 def unquoted(leaf):
     """The text between the quotes of a leaf, without escapes. None if a token document has no such leaf in quotes."""
     if leaf[0] not in "\"'" or not (QUOTED_TEXT.fullmatch(leaf) or QUOTED_CHARACTER.fullmatch(leaf)):
@@ -228,14 +231,14 @@ def empty_at(text, at):
 
 class Reader:
     """A reader of one mode and one class. `entries_at` reads the entries of a block up to its closing bracket. `reached` is
-    where the last piece of a text ended that fits it."""
+    where the last piece of a text ended that fits it, of the text that was read last."""
 
     def __init__(self, text_class=TOKEN):
         self.text_class = text_class
-        self.reached = 0
+        self.reached, self.last = 0, None
 
     def read(self, text):
-        self.reached = 0
+        self.reached, self.last = 0, text
         found = self.document_at(text, 0, 0)
         if found is None or found[1] != len(text):
             return None
@@ -243,12 +246,14 @@ class Reader:
 
     def place(self, text):
         """How many bytes at the front of a text are before the piece that doesn't fit, or all of them if none is."""
-        self.read(text)
+        if text is not self.last:
+            self.read(text)
         return len(text[: self.reached].encode("utf-8", "surrogateescape"))
 
     def passed(self, at):
         """A piece of the text ended here."""
-        self.reached = max(self.reached, at)
+        if at > self.reached:
+            self.reached = at
         return at
 
     def document_at(self, text, at, depth):

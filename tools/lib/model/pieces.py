@@ -46,7 +46,7 @@ def digest(data):
 
 def by_text(*pieces):
     """Pieces that come by `write_str`."""
-    return b"".join(b"t" + piece.encode() + END for piece in pieces)
+    return b"".join([b"t" + piece.encode() + END for piece in pieces])
 
 
 def by_character(*pieces):

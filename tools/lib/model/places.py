@@ -26,6 +26,8 @@ NAME_BYTES = (string.ascii_letters + string.digits + "_").encode() + bytes(range
 DECIMAL = re.compile(rb"-?[0-9]*(?:\.[0-9]*)?")
 FLOAT_BYTES = re.compile(rb"[-.0-9eNainf]*")
 LONGEST_FLOAT = 400
+# A leaf in these quotes, as far as its end shows: a backslash takes the next byte with it.
+IN_QUOTES = {b'"': re.compile(rb'"[^"\\]*(?:\\.[^"\\]*)*"', re.DOTALL), b"'": re.compile(rb"'[^'\\]*(?:\\.[^'\\]*)*'", re.DOTALL)}
 DEEPEST = 255
 # What `{:?}` writes: of a block with entries its beginning, and its end.
 OPENINGS = {"struct": b" {", "tuple": b"(", "list": b"[", "set": b"{", "map": b"{"}
@@ -36,9 +38,7 @@ OPTION, RESULT = ("None", {"Some"}), (None, {"Ok", "Err"})
 
 
 class Stop(Exception):
-    def __init__(self, at, expected):
-        super().__init__(at, expected)
-        self.at, self.expected = at, expected
+    """Its arguments are where a text stops, and what is expected there."""
 
 
 class Texts:
@@ -46,6 +46,8 @@ class Texts:
 
     def __init__(self, data, is_pretty):
         self.data, self.is_pretty = data, is_pretty
+        # Where the leaves in quotes end that types asked for, by their quote and their place. Many types ask for the same one.
+        self.ends = {}
 
     def line(self, blocks):
         """What begins a line in so many blocks."""
@@ -104,25 +106,23 @@ class Texts:
         raise Stop(at, "Name" if kind.words[0].isalpha() else "Punctuation")
 
     def quoted(self, kind, at, _blocks):
-        end = self.quoted_end(kind.quote.encode(), at)
-        if end is None:
+        place = kind.quote.encode(), at
+        if place not in self.ends:
+            self.ends[place] = self.quoted_end(*place)
+        if self.ends[place] is None:
             raise Stop(at, "Text" if kind.quote == '"' else "Character")
-        return end
+        return self.ends[place]
 
     def quoted_end(self, quote, at):
         """Where a leaf in these quotes ends, or None if none is there."""
-        data, end = self.data, at + 1
-        if data[at:end] != quote:
+        found = IN_QUOTES[quote].match(self.data, at)
+        if not found:
             return None
-        while data[end : end + 1] != quote:
-            if end >= len(data):
-                return None
-            end += 2 if data[end : end + 1] == b"\\" else 1
         try:
-            leaf = data[at : end + 1].decode()
+            leaf = found[0].decode()
         except UnicodeDecodeError:
             return None
-        return end + 1 if len(leaf) >= 2 and unquoted(leaf) is not None else None
+        return found.end() if unquoted(leaf) is not None else None
 
     # ---- blocks
 
@@ -227,13 +227,17 @@ TAKERS = {
 }
 
 
-def stop(kind, data, is_pretty):
+def stop(kind, texts):
     """Where the text stops, and what is expected there. None if it is the text of a value."""
     try:
-        end = Texts(data, is_pretty).value(kind, 0, 0)
+        end = texts.value(kind, 0, 0)
     except Stop as found:
-        return found.at, found.expected
-    return None if end == len(data) else (end, "End")
+        return found.args
+    return None if end == len(texts.data) else (end, "End")
+
+
+# The bytes of a character, but for its first.
+LATER_BYTES = bytes(range(0x80, 0xC0))
 
 
 def line_and_column(data, at):
@@ -241,7 +245,7 @@ def line_and_column(data, at):
     before = data[:at]
     line = before.count(b"\n") + 1
     last = before[before.rfind(b"\n") + 1 :]
-    return line, sum(byte & 0xC0 != 0x80 for byte in last) + 1
+    return line, len(last.translate(None, LATER_BYTES)) + 1
 
 
 def name_before(data, at):
@@ -261,15 +265,20 @@ def after(name):
     return "" if name is None else ", after `%s: `" % name
 
 
+def stopped(data, at, expected):
+    """What is printed of a type by which the text stops here."""
+    place = *line_and_column(data, at), after(name_before(data, at))
+    return "expected %s at line %d column %d%s, NotText { at: %d, expected: %s };" % (WORDS[expected], *place, at, expected)
+
+
 def stops(data, is_pretty):
     """What the program prints of the types that have no value with the text."""
-    told, places = [], {}
+    texts, told, lines = Texts(data, is_pretty), [], {}
     for letter, kind in values.TYPES.items():
-        found = stop(kind, data, is_pretty)
+        found = stop(kind, texts)
         if found is None:
             continue
-        at, expected = found
-        if at not in places:
-            places[at] = *line_and_column(data, at), after(name_before(data, at))
-        told.append("%sexpected %s at line %d column %d%s, NotText { at: %d, expected: %s };" % (letter, WORDS[expected], *places[at], at, expected))
+        if found not in lines:
+            lines[found] = stopped(data, *found)
+        told.append(letter + lines[found])
     return "".join(told)
