@@ -111,7 +111,7 @@ def small_types():
     yield Parsed("Ordering", "Ordering", plainly("Greater", "Great"))
     yield Parsed("RangeFull", "RangeFull", plainly("..", "."))
     yield Parsed("f32", "f32", plainly("1.1754944e-38", "16777216.0", "0.10000000149", "21.5", "21.50"))
-    yield Parsed("f64", "f64", plainly("2.2250738585072014e-308", "9007199254740993.0", "3.141592653589793", "-1234.567", "-1234.5670"))
+    yield Parsed("f64", "f64", plainly("2.2250738585072014e-308", "9007199254740993.0", "3.141592653589793", "-1234.567", "-1234.5670", "0.30000000000000004"))
     yield Parsed("Decimal", "Decimal", plainly("-92233720368547758.08", "0.%s1" % ("0" * 200), "1."))
     yield Parsed("Option<T>", "Option<Option<u8>>", plainly("Some(Some(255))", "None", "Some(None"))
     yield Parsed("Result<T, E>", "Result<String, char>", lambda size: ["Ok(%s)" % it for it in quoted(size)] + ["Err('a')", "Err(a)"])

@@ -1,17 +1,46 @@
 """Writes the tests of each form of each macro: every kind of piece in each place, and many numbers of fields, with and
-without the comma at the end. The texts are written here, as core::fmt has them."""
+without the comma at the end. The texts are written here, as core::fmt has them.
+
+Where the macros are called, `Result`, `Ok` and their like are names of other things, and what a macro names of the libraries has no
+name of its own."""
 
 COUNTS = (0, 1, 2, 3, 12, 13, 14, 24, 25)
 MORE_COUNTS = tuple(range(26))
 PARSED = range(13)
+# Numbers of pieces in a line. Lines of more than eight are grouped in fours, and these in pairs.
+LINES = (*range(4, 19), 20, 21, 24, 25, 32, 33)
 
 HEAD = """\
 //! Tests of the forms of macros, which tools/lib/crates/grammar.py writes.
 use super::page::{Page, same_parts, writes};
-use ufmt::pieces::{Debug, Line};
-use ufmt::{Align, Column, Formatter, Full, HexOptions, fields, pieces, uwrite, uwriteln, variants};
-use ufmt_parse::{Fault, Parser, PlainText, parse_fields, parse_variants};
+use std::option::Option::{None as Nothing, Some as There};
+use std::result::Result as Outcome;
+use std::result::Result::{Err as Wrong, Ok as Right};
+use ufmt::pieces::{Debug as ByDebug, Line};
+use ufmt::{Align, Column, Formatter as Output, Full, HexOptions, fields, pieces, uwrite, uwriteln, variants};
+use ufmt_parse::{Fault as NoValue, Parser as Input, PlainText, parse_fields, parse_variants};
 use ufmt_snapshot::assert_snapshot;
+
+#[derive(Drop)]
+struct Result;
+
+#[derive(Drop)]
+struct Option;
+
+#[derive(Drop)]
+enum Choice {
+    Ok,
+    Err,
+    Some,
+    None,
+}
+
+use Choice::{Err, None, Ok, Some};
+
+#[test]
+fn names_are_shadowed(_rt: HostRuntime) {
+    drop((Ok, Err, Some, None, Result, Option));
+}
 
 const HEX: HexOptions = HexOptions { upper_case: false, pad_char: b'0', pad_length: 6, ox_prefix: true };
 const BITS: HexOptions = HexOptions { upper_case: false, pad_char: b'0', pad_length: 12, ox_prefix: true };
@@ -25,12 +54,12 @@ PIECES = (
     ('text "t{0}"', "t{0}"),
     ('display "s{0}"', "s{0}"),
     ('debug "d{0}"', '"d{0}"'),
-    ("pretty Some({0}u16)", "Some(\n    {0},\n)"),
+    ("pretty There({0}u16)", "Some(\n    {0},\n)"),
     ("hex {0}u16 with HEX", "0x{1}"),
     ("hex {0}u16 with HEX in RIGHT", "............0x{1}"),
     ('display "s{0}" in RIGHT', "..............s{0}"),
     ('debug "d{0}" in RIGHT', '............"d{0}"'),
-    ("pretty (Some({0}u16)) in RIGHT", "..Some(\n    {0},\n)"),
+    ("pretty (There({0}u16)) in RIGHT", "..Some(\n    {0},\n)"),
     ("bin {0}u16 with BITS", "0b{3}"),
     ("oct {0}u16 with HEX", "0o{2}"),
     ("zeros {0}u16 to 6", "000{0}"),
@@ -39,17 +68,17 @@ PIECES = (
     ("zeros {0}u16 to 6 in RIGHT", "............000{0}"),
     ('each display ["s{0}", "7"] between "-"', "s{0}-7"),
     ('each debug ["d{0}", "7"] between "+"', '"d{0}"+"7"'),
-    ('each pretty [Some({0}u16), None] between "_"', "Some(\n    {0},\n)_None"),
+    ('each pretty [There({0}u16), Nothing] between "_"', "Some(\n    {0},\n)_None"),
     ('each hex [{0}u16, 9] with HEX between ";"', "0x{1};0x0009"),
     ('each display ["s{0}", "7"] in RIGHT between "|"', "..............s{0}|.................7"),
     ('each debug ["d{0}", "7"] in RIGHT between ":"', '............"d{0}":..............."7"'),
-    ('each pretty [Some({0}u16), None] in RIGHT between "*"', "..Some(\n    {0},\n)*..............None"),
+    ('each pretty [There({0}u16), Nothing] in RIGHT between "*"', "..Some(\n    {0},\n)*..............None"),
     ('each hex [{0}u16, 9] with HEX in RIGHT between "/"', "............0x{1}/............0x0009"),
     ('each bin [{0}u16, 9] with BITS between "#"', "0b{3}#0b0000001001"),
     ('each oct [{0}u16, 9] with HEX in RIGHT between "@"', "............0o{2}@............0o0011"),
     ('each zeros [{0}u16, 9] to 6 between "~"', "000{0}~000009"),
     ('each zeros [{0}u16, 9] to 6 in RIGHT between "^"', "............000{0}^............000009"),
-    ('each [{0}u16, 5] by Debug between "="', "{0}=5"),
+    ('each [{0}u16, 5] by ByDebug between "="', "{0}=5"),
 )
 WRITTEN = 15
 
@@ -178,6 +207,11 @@ def pieces_tests():
             rows.append(row("pieces!(%s%s).print(out)" % (source, comma), text, number))
         yield test("pieces_%d" % place, rows)
     yield test("no_pieces", [row("pieces!().print(out)", "", 1)])
+    rows = []
+    for count in LINES:
+        source, text = line([PIECES[place % 2] for place in range(count)], 100 + count)
+        rows.append(row("pieces!(%s).print(out)" % source, text, count))
+    yield test("numbers_of_pieces", rows)
 
 
 def uwrite_tests():
@@ -192,10 +226,10 @@ def uwrite_tests():
 def parse_function(name, result, call):
     """A function that returns the value that has a whole text."""
     return """
-fn %s(text: &str) -> Result<%s, Fault> {
-    let mut parser: Parser<'_, PlainText> = Parser::new(text.as_bytes());
+fn %s(text: &str) -> Outcome<%s, NoValue> {
+    let mut parser: Input<'_, PlainText> = Input::new(text.as_bytes());
     let value = %s?;
-    if parser.len() == 0 { Ok(value) } else { Err(Fault::NotText) }
+    if parser.len() == 0 { Right(value) } else { Wrong(NoValue::NotText) }
 }
 """ % (name, result, call)
 
@@ -203,9 +237,9 @@ fn %s(text: &str) -> Result<%s, Fault> {
 def parsed_row(name, shape, fields, text, values, number):
     """A row that parses a text, and compares the fields that come with `values`, or with none if there is no value."""
     wanted = "&[%s]" % ", ".join(map(str, values)) if values is not None else "&[]"
-    found = "Ok(%s) => same_parts(&rt, %s, &[%s], %s)," % (shape, quoted("row %d" % number), fields, wanted)
+    found = "Right(%s) => same_parts(&rt, %s, &[%s], %s)," % (shape, quoted("row %d" % number), fields, wanted)
     if values is None:
-        found = "Err(Fault::NotText) => {}"
+        found = "Wrong(NoValue::NotText) => {}"
     return "    match %s(%s) {\n        %s\n        _ => same_parts(&rt, %s, &[255], %s),\n    }" % (
         name, quoted(text), found, quoted("row %d" % number), wanted)
 
@@ -278,7 +312,7 @@ def value_of(kind, count):
 def print_function(function, name, variants, outer):
     """A function that prints an enum by `variants!`."""
     return """
-fn %s(value: &%s, out: &mut Formatter<Page>) -> Result<(), Full> {
+fn %s(value: &%s, out: &mut Output<Page>) -> Outcome<(), Full> {
     variants!(out, value, %s { %s }%s)
 }
 """ % (function, name, name, variants, "," if outer else "")

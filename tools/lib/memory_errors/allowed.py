@@ -113,7 +113,7 @@ IN_BODIES = [
     (NAMED, "ufmt_parse/src/placed.rt", "uDisplay for PlacedError<'_>::fmt", "\"out of memory\""),
     (LARGE, "ufmt_parse_leaves/src/digits.rt", "Magnitude for u64::with_digit", "u64::MAX"),
     (LARGE, "ufmt_parse_leaves/src/digits.rt", "Magnitude for u64::has_room", "u64::MAX"),
-    (LARGE, "ufmt_parse_leaves/src/floats.rt", "is_plain", "100_000_000_000_000_000"),
+    (LARGE, "ufmt_parse_leaves/src/plain_floats.rt", "is_plain", "100_000_000_000_000_000"),
     (LARGE, "ufmt_parse_leaves/src/digits.rt", "Magnitude for u64::has_room", "10_000_000_000_000_000"),
     (LARGE, "ufmt_parse_leaves/src/digits.rt", "Magnitude for u64::with_sixteen", "*10_000_000_000_000_000"),
     (LARGE, "ufmt_parse_leaves/src/digits.rt", "Magnitude for u128::with_digit", "u128::MAX"),

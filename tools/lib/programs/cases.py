@@ -15,12 +15,19 @@ import tempfile
 import threading
 from typing import NamedTuple, Optional, Tuple
 
+from lib.model.counter import Counter
+
 TOP = pathlib.Path(__file__).resolve().parents[3]
 # A run that takes longer is a fault.
 SECONDS = 120
 # So long a wait for an output that must come, and for one that must not come yet.
 LATE, SOON = 10, 0.2
 CLOSED, FOLDER = "closed", "a folder"
+# The number of the user who owns nothing.
+NOBODY = 65534
+# Variables that other programs look at.
+OTHERS = ("NO_COLOR", "CLICOLOR", "CLICOLOR_FORCE", "FORCE_COLOR", "COLUMNS", "LINES", "TERM", "LANG", "LC_ALL", "TZ", "PAGER", "CI", "DEBUG", "POSIXLY_CORRECT",
+          "RUST_LOG", "RUST_BACKTRACE", "HOME", "PATH", "TMPDIR", "UFMT_LINES", "UFMT_LINES_LONGER_THAN")
 
 
 class Ran(NamedTuple):
@@ -55,10 +62,12 @@ class Cases:
         print("%d cases, %d faults" % (self.count, self.faults))
         return 1 if self.faults else 0
 
-    def run(self, *arguments, text=b"", source=None, sink=None, error=None, limit=None, seconds=SECONDS):
+    def run(self, *arguments, text=b"", source=None, sink=None, error=None, limit=None, files_limit=None, seconds=SECONDS, variables=None,
+            as_nobody=False):
         """Runs the program to its end. Standard input has the text, or is `source`: CLOSED, FOLDER or an open file. What
         doesn't come through a pipe is empty: `sink` and `error` are CLOSED, the path of a device or an open file. `limit`
-        is how many KiB of memory it has."""
+        is how many KiB of memory it has, `files_limit` how many files it has open at once. It has these variables of the
+        environment more. It may run as a user who owns nothing, if this one may read everything."""
         files, closed = [], []
         streams = [self.stream(0, source, files, closed), self.stream(1, sink, files, closed), self.stream(2, error, files, closed)]
 
@@ -67,9 +76,15 @@ class Cases:
                 os.close(number)
             if limit:
                 resource.setrlimit(resource.RLIMIT_AS, (limit * 1024, limit * 1024))
+            if files_limit:
+                resource.setrlimit(resource.RLIMIT_NOFILE, (files_limit, files_limit))
+            if is_other:
+                os.setuid(NOBODY)
 
-        process = subprocess.Popen([self.program, *arguments], stdin=streams[0], stdout=streams[1], stderr=streams[2],
-                                   cwd=self.room, preexec_fn=prepared)
+        is_other = as_nobody and os.geteuid() == 0
+        program = self.for_all() if is_other else self.program
+        process = subprocess.Popen([program, *arguments], stdin=streams[0], stdout=streams[1], stderr=streams[2],
+                                   cwd=self.room, preexec_fn=prepared, env=dict(os.environ, **(variables or {})))
         for file in files:
             os.close(file)
         try:
@@ -79,6 +94,15 @@ class Cases:
             process.communicate()
             return Ran(None, b"", b"")
         return Ran(process.returncode, output or b"", said or b"")
+
+    def for_all(self):
+        """A copy of the program that each user may run, in the folder, which each may read."""
+        copy = self.room / "program"
+        if not copy.exists():
+            shutil.copyfile(self.program, copy)
+            copy.chmod(0o755)
+            self.room.chmod(0o755)
+        return copy
 
     def stream(self, number, given, files, closed):
         """What a standard stream of a run is."""
@@ -95,6 +119,13 @@ class Cases:
             given = os.dup(given)
         files.append(given)
         return given
+
+    def byte_by_byte(self, *arguments, text):
+        """Runs the program with devices that move one byte at a call."""
+        library = Counter(self.room).library
+        if library is None:
+            sys.exit("a C compiler is needed, for devices that move one byte at a call")
+        return self.run(*arguments, text=text, variables={"LD_PRELOAD": str(library), "COUNTS_READ": "1", "COUNTS_WRITE": "1"})
 
     def without_input(self, *arguments):
         """Runs the program with an input that stays open and has nothing: what reads it doesn't end in time."""

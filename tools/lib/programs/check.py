@@ -1,26 +1,35 @@
-"""Runs tools/check over two small crates, and compares its last line, its status and the lines that it shows.
+"""Runs tools/check over four small crates, and compares how it calls the checker, its last line, its status and the lines that it shows.
 
-In the place of the kit's checker there is a script that prints what that prints of such a crate. What the kit's own prints isn't
-tried here.
+In the place of the kit's checker there is a script that keeps its arguments, and prints what that prints of such a crate. What the
+kit's own prints isn't tried here.
 """
 import os
-from typing import NamedTuple
+import pathlib
+import signal
+import subprocess
+import time
+from typing import NamedTuple, Tuple
 
-from lib.programs.cases import TOP, Cases, run
+from lib.programs.cases import LATE, TOP, Cases, Ran, run
 
 CHECK = TOP / "tools" / "check"
-# Prints the crates and paths that it is called with, and then what a file says. Another file has its status.
+# Keeps its arguments, prints what a file says, and ends with the status in another.
 CHECKER = """#!/bin/sh
-while [ $# -gt 0 ]; do
-    case $1 in --lib | --only) echo "$1 $2" ;; esac
-    shift
-done
+printf '%s\\n' "$@" > "$0.asked"
 cat "$0.output"
 exit "$(cat "$0.status")"
 """
-PROVED = "fn small::one: proved\n"
+# Starts another process, says its number, and waits for it.
+SLOW_CHECKER = """#!/bin/sh
+sleep 100 &
+echo $!
+wait
+"""
+# `tall` stands on `small`, which stands on `base`. `base` alone names a library of the kit.
+CRATES = "# what each stands on\nbase: core\nsmall: base\ntall: small base\nglue staticlib: small base\n"
+PROVED = "fn small::one: proved\nstruct small::Pair: proved\n"
 UNPROVED = "fn small::two: no proof: expected answers in ./proofs/two/Answers.antt; `search` did not prove `returns`\n"
-ERROR = "src/lib.rt:4:29: error: `ensures-is_one`: `≡` is not in scope\n"
+ERROR = "src/lib.rt:4:29: error: `ensures-is_one`: `≡` is not in scope\n  4 | ensures is_one\nhelp: bring it in\nnote: it is in Prelude\nwarning: an import\n"
 NOISE = "logic antt-project.json: libraries=16 files=2756\nstatements std: modules loaded=21 checked=0\ncrate small: modules loaded=16 checked=14\n"
 
 
@@ -32,28 +41,111 @@ class Row(NamedTuple):
     last: str
 
 
+class Called(NamedTuple):
+    """A crate, the root of its sources, what it stands on, each after those below it, and the libraries of the kit."""
+
+    crate: str
+    root: str
+    below: Tuple[str, ...]
+    kit: Tuple[str, ...]
+
+
 ROWS = (
     Row("a crate whose functions are proved", PROVED + NOISE + "only=1 proved=1\n", 0, "", "checked: 1 of 1 functions proved; "),
     Row("one that isn't", PROVED + UNPROVED + NOISE + "only=2 proved=1\n", 1, UNPROVED, "not checked: 1 of 2 functions proved; "),
+    Row("an error beside proofs", PROVED + ERROR + "only=1 proved=1\n", 1, ERROR, "not checked: 1 of 1 functions proved; "),
+    Row("a verdict without numbers", PROVED, 0, "", "checked: "),
     Row("an error before any proof", ERROR, 1, ERROR, "not checked: "),
+    Row("a checker that failed", ERROR, 2, ERROR, "not checked: "),
+    Row("no verdict", PROVED + NOISE, 3, "", "not checked: "),
 )
+BASE, SMALL = "base:std,core=../base/src/lib.rt", "small:std,base=../small/src/lib.rt"
+CALLS = (
+    Called("base", "src/lib.rt", (), ("core", "std")),
+    Called("small", "src/lib.rt", (BASE,), ("core", "std")),
+    Called("tall", "src/main.rt", (BASE, SMALL), ("core", "std")),
+    Called("glue", "src/lib.rt", (BASE, SMALL), ("core", "std")),
+)
+
+
+class Check:
+    """tools/check in a folder with these crates, and a script in the place of the checker."""
+
+    def __init__(self, cases):
+        self.cases = cases
+        self.kit = cases.room / "kit"
+        self.checker = self.kit / "bin" / "rattle"
+        self.checker.parent.mkdir()
+        (cases.room / "crates.txt").write_text(CRATES)
+        for called in CALLS:
+            root = self.crate(called.crate) / called.root
+            root.parent.mkdir(parents=True)
+            root.touch()
+        self.write(CHECKER)
+
+    def crate(self, name):
+        return self.cases.room / "crates" / name
+
+    def write(self, script):
+        self.checker.write_text(script)
+        self.checker.chmod(0o755)
+
+    def answer(self, printed, status):
+        """What the checker will print, and its status."""
+        self.checker.with_name("rattle.output").write_text(printed)
+        self.checker.with_name("rattle.status").write_text(str(status))
+
+    def command(self, folder, *words):
+        return ["env", "-C", folder, "PATH=%s:%s" % (self.checker.parent, os.environ["PATH"]), CHECK, *words]
+
+    def judge_call(self, called, paths):
+        """Compares the arguments of the checker with what it takes of this crate, or of these paths in it."""
+        run(self.command(self.crate(called.crate) / "src", called.crate, *paths))
+        wanted = ["check", "--crate-name", called.crate, called.root]
+        for name in called.kit:
+            wanted += ["--extern", "%s=%s/rlibs/%s.rlib" % (name, self.kit, name)]
+        wanted += ["-L", "dependency=%s/rlibs" % self.kit, "--antt-project", "%s/rattle/logic/antt-project.json" % self.kit,
+                   "--logic-built", "%s/logic_built" % self.kit, "--jobs", str(os.cpu_count()), "--incremental", "%s/out/trusting" % self.crate(called.crate)]
+        for library in called.below:
+            wanted += ["--lib", library]
+        for path in paths or (called.crate,):
+            wanted += ["--only", path]
+        asked = self.checker.with_name("rattle.asked").read_bytes()
+        self.cases.judge("how tools/check calls the checker of %s %s" % (called.crate, paths), Ran(0, asked, b""), 0, "".join(word + "\n" for word in wanted).encode())
+
+    def judge_end(self):
+        """Compares what is left when it is ended before the verdict: nothing of the checker."""
+        self.write(SLOW_CHECKER)
+        process = subprocess.Popen(self.command(self.cases.room, "small"), stdout=subprocess.PIPE, stderr=subprocess.PIPE)
+        number = int(process.stdout.readline())
+        process.send_signal(signal.SIGTERM)
+        output, said = process.communicate(timeout=LATE)
+        self.cases.judge("tools/check that is ended", Ran(process.returncode, output, said), 1, line="not checked: ended before the verdict")
+        self.cases.judge("the checker's own process, after it", Ran(0, state_of(number), b""), 0, b"ended")
+
+
+def state_of(number):
+    """Whether a process has ended, at the latest after a while. Nobody may have asked for its status yet."""
+    status = pathlib.Path("/proc/%d/status" % number)
+    for _ in range(50):
+        if not status.exists() or "State:\tZ" in status.read_text():
+            return b"ended"
+        time.sleep(0.1)
+    return b"there"
 
 
 def main():
     cases = Cases(CHECK)
-    checker = cases.room / "kit" / "bin" / "rattle"
-    for folder in (checker.parent, cases.room / "crates" / "small" / "src"):
-        folder.mkdir(parents=True)
-    (cases.room / "crates.txt").write_text("base:\nsmall: base\n")
-    checker.write_text(CHECKER)
-    checker.chmod(0o755)
-    check = ["env", "-C", cases.room, "PATH=%s:%s" % (checker.parent, os.environ["PATH"]), CHECK]
+    (cases.room / "kit").mkdir()
+    check = Check(cases)
     for row in ROWS:
-        checker.with_name("rattle.output").write_text(row.printed)
-        checker.with_name("rattle.status").write_text(str(row.status))
+        check.answer(row.printed, row.status)
+        output = row.shown + row.last + "the libraries are trusted\n"
+        cases.judge("tools/check, %s" % row.name, run(check.command(cases.room, "small")), row.status, output.encode())
+    for called in CALLS:
         for paths in ((), ("types", "types::Pair::swap")):
-            asked = "--lib base:std=../base/src/lib.rt\n" + "".join("--only %s\n" % path for path in paths or ("small",))
-            output = asked + row.shown + row.last + "the libraries are trusted\n"
-            cases.judge("tools/check, %s" % row.name, run([*check, "small", *paths]), row.status, output.encode())
-    cases.judge("tools/check of no crate", run([*check, "none"]), 1, line="tools/check: crates.txt names no crate none")
+            check.judge_call(called, paths)
+    cases.judge("tools/check of no crate", run(check.command(cases.room, "none")), 1, line="tools/check: crates.txt names no crate none")
+    cases.judge("tools/check outside of crates", run(check.command("/", "small")), 1, line="tools/check: no crates.txt here or above")
+    check.judge_end()
     return cases.end()

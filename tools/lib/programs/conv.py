@@ -2,7 +2,7 @@
 import os
 import pathlib
 
-from lib.programs.cases import CLOSED, FOLDER, Cases, texts
+from lib.programs.cases import CLOSED, FOLDER, OTHERS, Cases, texts
 
 USAGE = "usage: ufmt_conv lengths|pretty|plain"
 NO_TEXT = {"pretty": "ufmt_conv: not a plain text", "plain": "ufmt_conv: not a pretty text"}
@@ -21,6 +21,12 @@ def conversions(cases):
     cases.judge("plain of a pretty text", cases.run("plain", text=PRETTY), 0, PLAIN)
     cases.judge("lengths of three lines", cases.run("lengths", text=b"ab\n\nxyz"), 0, b"[2, 0, 3]\n")
     cases.judge("lengths of no line", cases.run("lengths"), 0, b"[]\n")
+
+
+def environments(cases):
+    """What other programs take from the environment changes nothing."""
+    for value in ("", "1"):
+        cases.judge("variables that are %r" % value, cases.run("pretty", text=PLAIN, variables=dict.fromkeys(OTHERS, value)), 0, PRETTY)
 
 
 def other_texts(cases):
@@ -86,6 +92,14 @@ def large_inputs(cases):
     cases.judge("lengths of 8 MiB in a line", cases.run("lengths", text=brackets), 0, b"[8388608]\n")
 
 
+def byte_by_byte(cases):
+    """Devices that move one byte at a call are called a million times, and nothing gives up."""
+    word = b"a" * MIB
+    for command in ("pretty", "plain"):
+        cases.judge("%s, a million calls of each device" % command, cases.byte_by_byte(command, text=word), 0, word + b"\n")
+    cases.judge("lengths, a million calls of each device", cases.byte_by_byte("lengths", text=b"\n" * (MIB // 3)), 0, b"[%s]\n" % b", ".join([b"0"] * (MIB // 3)))
+
+
 def too_little_memory(cases):
     """With 6 MiB the program starts, and can't keep 4 MiB of input in a vector that grows."""
     for command in COMMANDS:
@@ -102,7 +116,7 @@ def too_many_arguments(cases):
 
 def main(program):
     cases = Cases(program)
-    for part in (conversions, other_texts, arguments, inputs, outputs, errors, open_input, reader_goes_away, large_inputs,
-                 too_little_memory, too_many_arguments):
+    for part in (conversions, environments, other_texts, arguments, inputs, outputs, errors, open_input, reader_goes_away, large_inputs,
+                 byte_by_byte, too_little_memory, too_many_arguments):
         part(cases)
     return cases.end()

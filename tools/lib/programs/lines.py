@@ -3,9 +3,11 @@ import os
 import pathlib
 import pty
 import subprocess
+import threading
+import time
 import tty
 
-from lib.programs.cases import CLOSED, FOLDER, LATE, Cases, texts
+from lib.programs.cases import CLOSED, FOLDER, LATE, OTHERS, SOON, Cases, texts
 
 LOGS_FOLDER = pathlib.Path(__file__).resolve().parents[2] / "data" / "logs"
 USAGE = "usage: ufmt_lines [--longer-than N | --plain | --help | --version] [--] [FILE..]"
@@ -24,6 +26,7 @@ read as one, in their order. Without a file, standard input is read.
 """
 # What the C library says of these failures.
 CLOSED_FILE = "Bad file descriptor (os error 9)"
+IS_BUSY = "Resource temporarily unavailable (os error 11)"
 IS_FOLDER = "Is a directory (os error 21)"
 IS_FULL = "No space left on device (os error 28)"
 IS_GONE = "Input/output error (os error 5)"
@@ -110,6 +113,14 @@ def slow_producer(cases):
     cases.judge("--plain: a slow producer", cases.slow(["--plain"], turned), 0, b"".join(output for _, output in turned))
 
 
+def environments(cases):
+    """What other programs take from the environment changes nothing."""
+    for name in OTHERS:
+        for value in ("", "1"):
+            cases.judge("%s=%s" % (name, value), cases.run(text=LONG, variables={name: value}), 0, LONG_PRETTY)
+    cases.judge("--plain: another environment", cases.run("--plain", text=LONG_PRETTY, variables=dict.fromkeys(OTHERS, "1")), 0, LONG)
+
+
 def helps(cases):
     """`--help` and `--version` print to standard output, and nothing is read."""
     for word, wanted in (("--help", HELP), ("--version", VERSION)):
@@ -126,7 +137,7 @@ def helps(cases):
 
 def arguments(cases):
     """The first wrong argument is named, and the usage follows. The arguments are judged before anything is read."""
-    long = "--" + "a" * 2000
+    long = "--" + "a" * 100_000
     no_number, with_plain = "--longer-than needs a number", "--longer-than doesn't go with --plain"
     rows = [((word,), "unknown option: " + word) for word in ("--pretty", "--Plain", "--plai", "--plain1", "--plain ", "--plain=1", "-p", "-h", "-V",
                                                               "--help ", "--versio", "---", "--longer-than=1", long)]
@@ -176,6 +187,87 @@ def files(cases):
     cases.judge("a file, and an input that stays open", cases.without_input("front", "back"), 0, whole)
 
 
+def many_files(cases):
+    """As many as an argument list has, with few open at once. Those that are empty or missing in a row end nothing."""
+    (cases.room / "long").write_bytes(LONG)
+    (cases.room / "nothing").write_bytes(b"")
+    cases.judge("2,000 files of which 24 may be open", cases.run(*["long"] * 2000, files_limit=24), 0, LONG_PRETTY * 2000)
+    cases.judge("2,000 files without a byte", cases.run(*["nothing"] * 2000, "long", files_limit=24), 0, LONG_PRETTY)
+    names = ["none-%d" % number for number in range(2000)]
+    missing = "\n".join(cannot_read(name, IS_MISSING) for name in names)
+    cases.judge("2,000 missing files", cases.run(*names, "long"), 3, LONG_PRETTY, missing)
+
+
+def file_names(cases):
+    """A name is taken and said as it is given, whole."""
+    (cases.room / "logs").mkdir()
+    for name in (" log", "log ", "log\t", "-", "b" * 250, "logs/in it", "[1, 2]", "a\nb"):
+        name = name if name != "-" else "./-"
+        cases.judge("the missing file %r" % name[:20], cases.run(name), 3, b"", cannot_read(name, IS_MISSING))
+        (cases.room / name).write_bytes(LONG)
+        cases.judge("the file %r" % name[:20], cases.run(name), 0, LONG_PRETTY)
+    whole = str(cases.room / "logs" / "missing" / "/".join(["b" * 250] * 12))
+    cases.judge("a missing file by its whole path", cases.run(whole), 3, b"", cannot_read(whole, IS_MISSING))
+
+
+def each_byte(cases):
+    """No byte has a meaning of its own, at the front or in the middle: a byte order mark, NUL, an end of file of other systems."""
+    log = b"\xef\xbb\xbf" + bytes(range(256)).replace(b"[", b"").replace(b"{", b"").replace(b"(", b"") + b"\n"
+    (cases.room / "each byte").write_bytes(log * 2)
+    for row in ((), ("--plain",)):
+        cases.judge("each byte of standard input %s" % (row,), cases.run(*row, text=log * 2), 0, log * 2)
+        cases.judge("each byte of a file %s" % (row,), cases.run(*row, "each byte"), 0, log * 2)
+    for byte in range(256):
+        log = bytes([byte]) + LONG
+        cases.judge("a line that begins with byte %d" % byte, cases.run(text=log), 0, bytes([byte]) + LONG_PRETTY)
+
+
+def named_pipe(cases):
+    """A pipe with a name is read until its writers are gone, however slow they are. A file is opened to be read only: who opens a pipe to
+    write it, too, waits for itself."""
+    pipe = cases.room / "pipe"
+    os.mkfifo(pipe)
+
+    def write():
+        with open(pipe, "wb", buffering=0) as writer:
+            for part in (LONG[:20], LONG[20:]):
+                writer.write(part)
+                time.sleep(SOON)
+
+    producer = threading.Thread(target=write, daemon=True)
+    producer.start()
+    cases.judge("a pipe with a name, and a slow writer", cases.run("pipe", seconds=LATE), 0, LONG_PRETTY)
+    producer.join(LATE)
+
+
+def byte_by_byte(cases):
+    """Devices that move one byte at a call are called a million times, and nothing gives up."""
+    count = MIB // len(LONG)
+    cases.judge("a million calls of each device", cases.byte_by_byte(text=LONG * count), 0, LONG_PRETTY * count)
+    cases.judge("--plain: a million calls of each device", cases.byte_by_byte("--plain", text=LONG_PRETTY * count), 0, LONG * count)
+
+
+def reasons(cases):
+    """Each reason for which the system refuses a file is said, and the next is read."""
+    (cases.room / "log").write_bytes(LONG)
+    os.symlink("loop", cases.room / "loop")
+    (cases.room / "secret").write_bytes(LONG)
+    (cases.room / "secret").chmod(0)
+    rows = [("log/x", "Not a directory (os error 20)"), ("b" * 300, "File name too long (os error 36)"),
+            ("loop", "Too many levels of symbolic links (os error 40)"), ("secret", "Permission denied (os error 13)")]
+    for name, reason in rows:
+        cases.judge("a file with the reason %s" % reason, cases.run(name, "log", as_nobody=True), 3, LONG_PRETTY, cannot_read(name, reason))
+
+
+def no_bytes_yet(cases):
+    """An input that would wait for its bytes, and isn't to wait: it can't be read."""
+    reader, writer = os.pipe()
+    os.set_blocking(reader, False)
+    cases.judge("a pipe that doesn't wait", cases.run(source=reader, seconds=LATE), 3, b"", cannot_read("standard input", IS_BUSY))
+    os.close(reader)
+    os.close(writer)
+
+
 def inputs(cases):
     for source, reason in ((CLOSED, CLOSED_FILE), (FOLDER, IS_FOLDER)):
         cases.judge("standard input is %s" % source, cases.run(source=source), 3, b"", cannot_read("standard input", reason))
@@ -207,6 +299,10 @@ def outputs(cases):
     pipe = cases.unread_pipe()
     cases.judge("standard output has no reader", cases.run(text=PLAIN, sink=pipe), PIPE_STATUS)
     os.close(pipe)
+    leader, follower = pty.openpty()
+    os.close(leader)
+    cases.judge("standard output is a terminal that went away", cases.run(text=PLAIN, sink=follower), 4, b"", cannot_write(IS_GONE))
+    os.close(follower)
 
 
 def errors(cases):
@@ -247,6 +343,13 @@ def slow_reader_goes_away(cases):
     cases.judge("a reader that goes away between two lines", cases.ended(status, first, process.stderr.read()), PIPE_STATUS, b"b\n")
 
 
+def too_many_arguments(cases):
+    """Twelve arguments of 130,000 bytes have 1.5 MiB. With 3.9 MiB the program starts, and with 5.5 MiB it can also copy the
+    arguments. 4.6 MiB is between these."""
+    words = ["--", *["a" * 130_000] * 12]
+    cases.judge("1.5 MiB of arguments in 4.6 MiB", cases.run(*words, limit=4700), 5, b"", OUT_OF_MEMORY)
+
+
 def too_long_a_line(cases):
     """With 6 MiB the program starts, and can't keep a line of 8 MiB. The lines before it are written."""
     line = b"a" * (8 * MIB)
@@ -265,7 +368,7 @@ def many_lines(cases):
 
 def main(program):
     cases = Cases(program)
-    for part in (conversions, limits, slow_producer, helps, arguments, files, inputs, terminals, outputs, errors, readers_go_away, slow_reader_goes_away,
-                 too_long_a_line, many_lines):
+    for part in (conversions, limits, slow_producer, environments, helps, arguments, files, many_files, file_names, each_byte, named_pipe, byte_by_byte, reasons, no_bytes_yet, inputs, terminals,
+                 outputs, errors, readers_go_away, slow_reader_goes_away, too_many_arguments, too_long_a_line, many_lines):
         part(cases)
     return cases.end()
