@@ -2,9 +2,9 @@
 
 /// Prints a whole struct, tuple struct or variant, in place of `#[derive(uDebug)]`.
 ///
-/// `fields!(f, self, Pair { x, y })` and `fields!(f, self, Tuple(x, y))` take the value apart. They
-/// write its name and its fields in the given order, as the builders would. If a field is left out, the
-/// compiler names it in an error.
+/// `fields!(f, self, Pair { x, y })`, `fields!(f, self, Tuple(x, y))` and `fields!(f, self, Unit)` take the
+/// value apart. They write its name and its fields in the given order, as the builders would. If a field is
+/// left out, the compiler names it in an error.
 ///
 /// A whole enum is printed by `variants!`. In an arm of a `match` of yours the variant is taken apart already:
 /// write `fields!(f, Variant { x, y })`, `fields!(f, Variant(x, y))` or `fields!(f, None)`. For other values,
