@@ -1,4 +1,4 @@
-"""How much each call may take of steps, of time and of memory, by what a text has."""
+"""How much each call may take of steps and of memory, by what a text has."""
 from typing import NamedTuple
 
 from lib.model.features import DEBUG_DOC, DOC, Features, indentation
@@ -54,9 +54,9 @@ for call in ("is_text", "read", "convert", "convert to a String", "convert into"
 STEPS["debug is_debug"] = tuple(map(sum, zip(STEPS["is_token"], DEBUG_STEPS)))
 # A call that reads a text and then does another thing takes what both take.
 STEPS["read_field"] = tuple(map(sum, zip(STEPS["read"], STEPS["leaf_text"], STEPS["field_text"])))
-# It may take so many times the steps, and a step so many nanoseconds, of a machine that does other things too. That is
-# for texts so long that time that grows in another order is far beyond. Spaces of indentation are compared and written
-# several at once, and a text may be nearly all indentation, so of these steps it may take fewer more.
+# It may take so many times the steps. If a step takes more nanoseconds, on long texts, then steps are counted: steps that grow
+# in another order are far beyond. Spaces of indentation are compared and written several at once, and a text may be nearly
+# all indentation, so of these steps it may take fewer more.
 MOST_STEPS = 1.8
 MOST_INDENTATION = 1.3
 NANOSECONDS = 3
