@@ -4,8 +4,8 @@ ghost use Rattle.ufmt_parse.specs.NamesBefore.{IsNameBefore, is_name_byte};
 
 use std::str::from_utf8;
 
-// The name of a field, or the key of an entry, that ends right before the byte `at`, with a colon and a space
-// after it. It looks at the bytes of the name only.
+// The name of a field, or the key of an entry, if it ends before the byte `at` with only a colon and a space
+// between. It looks at the bytes of the name, the colon and the space only.
 pub(crate) fn name_before(text: &[u8], at: usize) -> Option<&str>
     ensures { IsNameBefore (take at text.now) (option_map (λ name. name.now) result) }
 {

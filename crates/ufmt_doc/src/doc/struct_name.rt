@@ -1,5 +1,5 @@
 //! Names of structs in documents.
-ghost use Rattle.std.specs.Prelude.{◌≡◌, ℕ, Bool, IsTrue, List, MatchOption, string_bytes};
+ghost use Rattle.std.specs.Prelude.{◌≡◌, ℕ, [], Bool, IsTrue, List, MatchOption, string_bytes};
 ghost use Rattle.ufmt_doc.specs.StructNames.{debug_name, plain_name};
 
 use std::alloc::Global;
@@ -26,7 +26,8 @@ pub trait StructName: Drop {
 
     /// Takes its text, and leaves an empty one. `alloc` is only for the empty text.
     fn take_text(&mut self, alloc: Global) -> String
-        ensures { string_bytes result ≡ (shown self.old).0 };
+        ensures text { string_bytes result ≡ (shown self.old).0 }
+        ensures left { shown self.new ≡ ([], (shown self.old).1) };
 }
 
 /// The name of a struct that doesn't end in `..`.

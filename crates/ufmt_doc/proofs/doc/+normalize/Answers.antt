@@ -141,7 +141,7 @@ Tree::normalize-returns-else-has_block g t c =
     let fields = c.in-StructOf.fields in
     let none = tested shown name fields c.in-StructOf.name-is c.in-StructOf.fields-is c.has_block.ensures ∙ c.if-has_block.false in
     ap (tree_document shown) c.replace-else-has_block.ensures.after ∙ tree_document-Leaf shown c.take_text-name.result
-    ∙ ap leaf (c.take_text-name.ensures ∙ ap (λ n. (shown n).0) c.in-StructOf.name-is) ∙ sym (struct_leaf shown _ name fields c.in-StructOf.is none)
+    ∙ ap leaf (c.take_text-name.ensures.text ∙ ap (λ n. (shown n).0) c.in-StructOf.name-is) ∙ sym (struct_leaf shown _ name fields c.in-StructOf.is none)
 
 pub Tree::normalize-returns-then-is_empty : goal.Tree::normalize-returns-then-is_empty
 Tree::normalize-returns-then-is_empty g t c =
