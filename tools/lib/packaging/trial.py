@@ -4,13 +4,9 @@ The programs are those in out/ of their crates, which `rt ci` built; the archive
 folder, and from there installed into a prefix, each with a space in its name. There the programs run, their manual pages are compared
 with them, and the callers of crates/ufmt_c/examples are built: convert.c by pkg-config, with the archive and with the shared library,
 and convert.rs by cargo with build.rs. Then a second version is installed over the first, and the ways in which an installation goes
-wrong are tried, and tools/build with a full folder and with kits that fail. What the machine hasn't is left out and said.
+wrong are tried, and so is tools/build (building.py). What the machine hasn't is left out and said.
 """
-import contextlib
 import filecmp
-import importlib.machinery
-import importlib.util
-import io
 import os
 import pathlib
 import shlex
@@ -21,13 +17,13 @@ import sys
 import tempfile
 
 from lib.c import archive
-from lib.packaging import folder
+from lib.packaging import building, folder
 from lib.programs import installed
 from lib.programs.cases import run
 
 TOP = folder.TOP
 INSTALL = TOP / "tools" / "install"
-BUILD = TOP / "tools" / "build"
+USAGE = b"usage: tools/install DIR PREFIX | --uninstall PREFIX | --help\n"
 EXAMPLES = folder.CRATE / "examples"
 WARNINGS = ["-std=c99", "-Wall", "-Wextra", "-Wconversion", "-Wpedantic", "-Werror"]
 TEXT, OUTPUT = "[Pair { x: 1, y: -2 }]", b"[\n    Pair {\n        x: 1,\n        y: -2,\n    },\n]\n"
@@ -36,8 +32,8 @@ CARGO = '[package]\nname = "convert"\nversion = "0.1.0"\nedition = "2024"\n'
 NEEDED = ("BUILD", "bin/ufmt_conv", "bin/ufmt_lines", "lib/libufmt_c.a", "lib/libufmt_c.so", "lib/pkgconfig/ufmt_c.pc", "include/ufmt.h")
 # There may be a link in the place of each of these.
 LINKED = ("bin/ufmt_conv", "share/doc/ufmt/FILES")
-# A kit that proves nothing where it is asked so: `run` is asked of a program, and `lib` of the library.
-FAILING_KIT = '#!/bin/sh\n[ "$1" != %s ]\n'
+# A number of a user who isn't there, and a time long ago: of a build of somebody else.
+STRANGER, LONG_AGO = 54321, 1_000_000_000
 # No file may have more than a block, as on a disk that is full.
 WITHOUT_ROOM = """trap '' XFSZ; ulimit -f 1; exec "$@" """
 # Each file below the prefix, and its mode.
@@ -58,9 +54,9 @@ class Trial:
         self.built = room / "built here"
         self.prefix = room / "a prefix"
 
-    def expect(self, what, said, status, output=None):
-        """A command must end so. Returns whether it did."""
-        is_right = said.status == status and output in (None, said.output)
+    def expect(self, what, said, status, output=None, error=None):
+        """A command must end so, and say this on standard error. Returns whether it did."""
+        is_right = said.status == status and output in (None, said.output) and error in (None, said.error)
         if not is_right:
             self.faults.append("%s ends with %s: %s" % (what, said.status, (said.output + said.error).decode(errors="replace")[-600:]))
         return is_right
@@ -138,22 +134,49 @@ class Trial:
             shutil.rmtree(part, ignore_errors=True)
             shutil.copytree(self.built, part, symlinks=True)
             (part / file).unlink()
-            self.expect("without " + file, self.install(part, self.room / "nothing"), 1)
+            missing = "tools/install: %s/%s isn't there: run `tools/build %s`\n" % (part, file, part)
+            self.expect("without " + file, self.install(part, self.room / "nothing"), 1, b"", missing.encode())
         self.expect("below a file", self.install(self.built, other / "prefix"), 1)
-        self.expect("with nothing installed", self.install("--uninstall", self.room / "nothing"), 1)
-        for words in ([], [self.built], [self.built, "a", "b"], ["--uninstall"]):
-            self.expect("tools/install %s" % words, self.install(*words), 2)
-        if (self.room / "nothing").exists():
+        nothing = self.room / "nothing"
+        missing = "tools/install: %s/share/doc/ufmt/FILES isn't there: nothing of ufmt is installed\n" % nothing
+        self.expect("with nothing installed", self.install("--uninstall", nothing), 1, b"", missing.encode())
+        for words in ([], [self.built], [self.built, "a", "b"], ["--uninstall"], ["--uninstall", "a", "b"]):
+            self.expect("tools/install %s" % words, self.install(*words), 2, b"", USAGE)
+        if nothing.exists():
             self.faults.append("without a file, something is installed")
-        self.expect("--help", self.install("--help"), 0)
+        page = [line[1:].removeprefix(" ") for line in INSTALL.read_text().split("\nset -eu")[0].splitlines()[1:]]
+        for word in ("--help", "-h"):
+            self.expect(word, self.install(word), 0, USAGE + "".join(line + "\n" for line in page).encode(), b"")
 
     def install_elsewhere(self):
-        """What is installed depends neither on the mask nor on the folders where a shell looks for a folder."""
+        """What is installed depends neither on the mask nor on the folders where a shell looks for a folder. Paths begin where it is
+        called."""
         masked, found = self.room / "masked", self.room / "found"
         self.expect("with a mask", run(["bash", "-c", 'umask 077; exec "$@"', "bash", INSTALL, self.built, masked]), 0)
         self.compare_files(masked, 0o077)
         self.expect("with CDPATH", run(["env", "-C", self.room, "CDPATH=.", INSTALL, self.built.name, found]), 0)
         self.compare_files(found)
+        self.expect("into a folder from here", run(["env", "-C", self.room, INSTALL, self.built.name, "from here/prefix"]), 0)
+        self.compare_files(self.room / "from here" / "prefix")
+        self.expect("--uninstall from here", run(["env", "-C", self.room, INSTALL, "--uninstall", "from here/prefix"]), 0)
+        left = [path for path in (self.room / "from here").rglob("*") if not path.is_dir()]
+        if left:
+            self.faults.append("after --uninstall from here there are %s" % left[:3])
+
+    def belong_to(self):
+        """What is installed belongs to who installs it, and is as new as that, whoever built it and when."""
+        theirs, to = self.room / "theirs", self.room / "owned"
+        shutil.copytree(self.built, theirs, symlinks=True)
+        for path in theirs.rglob("*"):
+            if not path.is_symlink():
+                os.utime(path, (LONG_AGO, LONG_AGO))
+            if os.geteuid() == 0:
+                os.chown(path, STRANGER, STRANGER, follow_symlinks=False)
+        self.expect("of another's build", self.install(theirs, to), 0)
+        for path in to.rglob("*"):
+            found = path.lstat()
+            if found.st_uid != os.geteuid() or not path.is_symlink() and found.st_mtime == LONG_AGO:
+                self.faults.append("%s belongs to %d, and has the time %d" % (path, found.st_uid, found.st_mtime))
 
     def be_blocked(self):
         """A folder where a file must go, and no room."""
@@ -181,7 +204,7 @@ class Trial:
                 self.faults.append("after --uninstall the folder of %s isn't there" % file)
 
     def upgrade(self):
-        """A second version replaces each file of the first."""
+        """A second version replaces each file of the first: who has one of those open, or runs it, has it as before."""
         second = self.room / "second"
         shutil.copytree(self.built, second, symlinks=True)
         for path in sorted(second.rglob("*")):
@@ -189,7 +212,13 @@ class Trial:
                 path.write_bytes(path.read_bytes() + b"\n")
         to = self.room / "upgraded"
         self.expect("tools/install", self.install(self.built, to), 0)
+        files = [file for file in FILES if FILES[file]]
+        opened = {file: (open(to / file, "rb"), (to / file).read_bytes()) for file in files}
         self.expect("tools/install, of a second version", self.install(second, to), 0)
+        for file, (device, before) in opened.items():
+            if device.read() != before:
+                self.faults.append("%s is written over, under those who have it open" % file)
+            device.close()
         self.compare_files(to)
         for file in FILES:
             source = second / ("BUILD" if file.endswith("/BUILD") else file)
@@ -259,45 +288,6 @@ class Trial:
         if (told["version"], told["kit"], told["proved"]) != (folder.version(), kit, "no"):
             self.faults.append("BUILD has %s" % told)
 
-    def build_says(self, programs, library):
-        """What tools/build puts into its folder says whether it was proved. The builds themselves are those that are here."""
-        loader = importlib.machinery.SourceFileLoader("build_tool", str(BUILD))
-        tool = importlib.util.module_from_spec(importlib.util.spec_from_loader("build_tool", loader))
-        loader.exec_module(tool)
-        tool.unproved, tool.proved = lambda _room: (programs, library), lambda: (programs, library)
-        # A folder that is there and empty does as well.
-        (self.room / "said-no").mkdir()
-        for words, wanted in (([], "no"), (["--proved"], "yes")):
-            to, printed, given = self.room / ("said-" + wanted), io.StringIO(), sys.argv
-            sys.argv = [str(BUILD), str(to), *words]
-            with contextlib.redirect_stdout(printed):
-                status = tool.main()
-            sys.argv = given
-            told = (to / "BUILD").read_text()
-            page = (to / "lib" / "pkgconfig" / "ufmt_c.pc").read_text()
-            if status or printed.getvalue() != told or "proved: %s\n" % wanted not in told or "proved=%s\n" % wanted not in page:
-                self.faults.append("tools/build %s says %s" % (" ".join(words), told))
-
-    def build_goes_wrong(self):
-        """A folder in use stays as it is, and of a kit that doesn't prove a program or the library nothing is left."""
-        full, kit, to = self.room / "full", self.room / "kit", self.room / "unbuilt"
-        full.mkdir()
-        (full / "own").write_text("mine")
-        self.expect("tools/build into a full folder", run([BUILD, full]), 1)
-        kit.mkdir()
-        for verb in ("run", "lib"):
-            (kit / "rt").write_text(FAILING_KIT % verb)
-            (kit / "rt").chmod(0o755)
-            said = run(["env", "PATH=%s:%s" % (kit, os.environ["PATH"]), BUILD, to, "--proved"])
-            self.expect("tools/build --proved, of a kit whose rt %s fails" % verb, said, 1)
-            if to.exists():
-                self.faults.append("tools/build leaves files where rt %s fails" % verb)
-                shutil.rmtree(to)
-        if [path.name for path in full.iterdir()] != ["own"]:
-            self.faults.append("tools/build leaves files in a full folder")
-        for words in ([], ["a", "b"], ["--proven", "a"]):
-            self.expect("tools/build %s" % words, run([BUILD, *words]), 2)
-
     def run(self, programs):
         (self.room / "archive").mkdir()
         library = archive.unproved(self.room / "archive")
@@ -320,11 +310,11 @@ class Trial:
         if left:
             self.faults.append("after --uninstall with DESTDIR there are %s" % left[:3])
         self.upgrade()
+        self.belong_to()
         self.install_elsewhere()
         self.go_wrong()
         self.be_blocked()
-        self.build_says(programs, library)
-        self.build_goes_wrong()
+        building.tried(self, programs, library)
         self.remove()
 
 

@@ -1,4 +1,5 @@
-"""Runs tools/check over four small crates, and compares how it calls the checker, its last line, its status and the lines that it shows.
+"""Runs tools/check over four small crates, and compares how and where it calls the checker, its last line, its status and the lines that
+it shows.
 
 In the place of the kit's checker there is a script that keeps its arguments, and prints what that prints of such a crate. What the
 kit's own prints isn't tried here.
@@ -7,16 +8,18 @@ import os
 import pathlib
 import signal
 import subprocess
+import sys
 import time
 from typing import NamedTuple, Tuple
 
 from lib.programs.cases import LATE, TOP, Cases, Ran, run
 
 CHECK = TOP / "tools" / "check"
-# Keeps its arguments, prints what a file says, and ends with the status in another.
+# Keeps its folder and its arguments, prints what a file says, on standard error what another says, and ends with the status in a third.
 CHECKER = """#!/bin/sh
-printf '%s\\n' "$@" > "$0.asked"
+printf '%s\\n' "$PWD" "$@" > "$0.asked"
 cat "$0.output"
+cat "$0.error" >&2
 exit "$(cat "$0.status")"
 """
 # Starts another process, says its number, and waits for it.
@@ -30,6 +33,7 @@ CRATES = "# what each stands on\nbase: core\nsmall: base\ntall: small base\nglue
 PROVED = "fn small::one: proved\nstruct small::Pair: proved\n"
 UNPROVED = "fn small::two: no proof: expected answers in ./proofs/two/Answers.antt; `search` did not prove `returns`\n"
 ERROR = "src/lib.rt:4:29: error: `ensures-is_one`: `≡` is not in scope\n  4 | ensures is_one\nhelp: bring it in\nnote: it is in Prelude\nwarning: an import\n"
+MISUSE = "rattle: error: no file src/lib.rt\n"
 NOISE = "logic antt-project.json: libraries=16 files=2756\nstatements std: modules loaded=21 checked=0\ncrate small: modules loaded=16 checked=14\n"
 
 
@@ -39,6 +43,7 @@ class Row(NamedTuple):
     status: int
     shown: str
     last: str
+    error: str = ""
 
 
 class Called(NamedTuple):
@@ -58,6 +63,7 @@ ROWS = (
     Row("an error before any proof", ERROR, 1, ERROR, "not checked: "),
     Row("a checker that failed", ERROR, 2, ERROR, "not checked: "),
     Row("no verdict", PROVED + NOISE, 3, "", "not checked: "),
+    Row("what is said on standard error", PROVED, 2, MISUSE, "not checked: ", MISUSE),
 )
 BASE, SMALL = "base:std,core=../base/src/lib.rt", "small:std,base=../small/src/lib.rt"
 CALLS = (
@@ -90,18 +96,20 @@ class Check:
         self.checker.write_text(script)
         self.checker.chmod(0o755)
 
-    def answer(self, printed, status):
-        """What the checker will print, and its status."""
+    def answer(self, printed, status, error=""):
+        """What the checker will print, also on standard error, and its status."""
         self.checker.with_name("rattle.output").write_text(printed)
+        self.checker.with_name("rattle.error").write_text(error)
         self.checker.with_name("rattle.status").write_text(str(status))
 
-    def command(self, folder, *words):
-        return ["env", "-C", folder, "PATH=%s:%s" % (self.checker.parent, os.environ["PATH"]), CHECK, *words]
+    def command(self, folder, *words, path=None):
+        """tools/check with these words in a folder. The checker is found by `path`, or where it is."""
+        return ["env", "-C", folder, "PATH=%s:%s" % (path or self.checker.parent, os.environ["PATH"]), CHECK, *words]
 
     def judge_call(self, called, paths):
         """Compares the arguments of the checker with what it takes of this crate, or of these paths in it."""
         run(self.command(self.crate(called.crate) / "src", called.crate, *paths))
-        wanted = ["check", "--crate-name", called.crate, called.root]
+        wanted = [str(self.crate(called.crate)), "check", "--crate-name", called.crate, called.root]
         for name in called.kit:
             wanted += ["--extern", "%s=%s/rlibs/%s.rlib" % (name, self.kit, name)]
         wanted += ["-L", "dependency=%s/rlibs" % self.kit, "--antt-project", "%s/rattle/logic/antt-project.json" % self.kit,
@@ -113,15 +121,59 @@ class Check:
         asked = self.checker.with_name("rattle.asked").read_bytes()
         self.cases.judge("how tools/check calls the checker of %s %s" % (called.crate, paths), Ran(0, asked, b""), 0, "".join(word + "\n" for word in wanted).encode())
 
-    def judge_end(self):
-        """Compares what is left when it is ended before the verdict: nothing of the checker."""
+    def judge_end(self, number):
+        """Compares what is left when it is ended by this signal before the verdict: nothing of the checker."""
         self.write(SLOW_CHECKER)
         process = subprocess.Popen(self.command(self.cases.room, "small"), stdout=subprocess.PIPE, stderr=subprocess.PIPE)
-        number = int(process.stdout.readline())
-        process.send_signal(signal.SIGTERM)
+        started = int(process.stdout.readline())
+        process.send_signal(number)
         output, said = process.communicate(timeout=LATE)
-        self.cases.judge("tools/check that is ended", Ran(process.returncode, output, said), 1, line="not checked: ended before the verdict")
-        self.cases.judge("the checker's own process, after it", Ran(0, state_of(number), b""), 0, b"ended")
+        name = signal.Signals(number).name
+        self.cases.judge("tools/check after %s" % name, Ran(process.returncode, output, said), 1, line="not checked: ended before the verdict")
+        self.cases.judge("the checker's own process, after %s" % name, Ran(0, state_of(started), b""), 0, b"ended")
+
+    def judge_link(self):
+        """A kit is where its checker is, also where a link on the path leads to that."""
+        linked = self.cases.room / "linked"
+        linked.mkdir()
+        (linked / "rattle").symlink_to(self.checker)
+        run(self.command(self.cases.room, "base", path=linked))
+        asked = (linked / "rattle.asked") if (linked / "rattle.asked").exists() else self.checker.with_name("rattle.asked")
+        wanted = b"core=%s/rlibs/core.rlib" % str(self.kit).encode()
+        self.cases.judge("the kit of a link", Ran(0, b"\n".join(line for line in asked.read_bytes().splitlines() if line.startswith(b"core=")), b""), 0, wanted)
+
+    def judge_nearest(self):
+        """Of two repositories, one in the other, the inner one is meant."""
+        inner = self.crate("small") / "inner"
+        source = inner / "crates" / "nested" / "src" / "lib.rt"
+        source.parent.mkdir(parents=True)
+        source.touch()
+        (inner / "crates.txt").write_text("nested: core\n")
+        self.answer(PROVED, 0)
+        self.cases.judge("tools/check in a repository in another", run(self.command(source.parent, "nested")), 0, b"checked: the libraries are trusted\n")
+
+    def judge_kept(self):
+        """What the checker keeps of a crate stays from one run to the next."""
+        kept = self.crate("small") / "out" / "trusting" / "kept"
+        kept.write_text("kept")
+        self.answer(PROVED, 0)
+        run(self.command(self.cases.room, "small"))
+        self.cases.judge("what the checker kept", Ran(0, kept.read_bytes() if kept.exists() else b"", b""), 0, b"kept")
+
+    def judge_words(self):
+        """The page of the tool, and its first line where a crate is missing."""
+        page = CHECK.read_text().split('"""')[1].strip()
+        for word in ("--help", "-h"):
+            self.cases.judge("tools/check %s" % word, run(self.command("/", word)), 0, page.encode() + b"\n")
+        for words in ((), ("--jobs", "small")):
+            self.cases.judge("tools/check %s" % (words,), run(self.command(self.cases.room, *words)), 1, line=page.splitlines()[0])
+        self.cases.judge("tools/check of no crate", run(self.command(self.cases.room, "none")), 1, line="tools/check: crates.txt names no crate none")
+        without = self.cases.room / "without"
+        without.mkdir()
+        (without / "python3").symlink_to(sys.executable)
+        ran = run(["/usr/bin/env", "-C", self.cases.room, "PATH=%s" % without, CHECK, "small"])
+        self.cases.judge("tools/check without a kit", ran, 1, line="tools/check: no rattle on the path: the Rattle kit has it")
+        self.cases.judge("tools/check outside of crates", run(self.command("/", "small")), 1, line="tools/check: no crates.txt here or above")
 
 
 def state_of(number):
@@ -139,13 +191,16 @@ def main():
     (cases.room / "kit").mkdir()
     check = Check(cases)
     for row in ROWS:
-        check.answer(row.printed, row.status)
+        check.answer(row.printed, row.status, row.error)
         output = row.shown + row.last + "the libraries are trusted\n"
         cases.judge("tools/check, %s" % row.name, run(check.command(cases.room, "small")), row.status, output.encode())
     for called in CALLS:
         for paths in ((), ("types", "types::Pair::swap")):
             check.judge_call(called, paths)
-    cases.judge("tools/check of no crate", run(check.command(cases.room, "none")), 1, line="tools/check: crates.txt names no crate none")
-    cases.judge("tools/check outside of crates", run(check.command("/", "small")), 1, line="tools/check: no crates.txt here or above")
-    check.judge_end()
+    check.judge_link()
+    check.judge_nearest()
+    check.judge_kept()
+    check.judge_words()
+    for number in (signal.SIGINT, signal.SIGTERM):
+        check.judge_end(number)
     return cases.end()
