@@ -6,7 +6,7 @@ from lib.bench import build
 from lib.costs import types
 
 TOP = pathlib.Path(__file__).resolve().parents[3]
-LIBRARIES = ("ufmt_parse_examples", "ufmt_print_probe", "ufmt_parse", "ufmt_snapshot", "ufmt_scan", "ufmt")
+LIBRARIES = ("ufmt_parse_examples", "ufmt_print_probe", "ufmt_parse", "ufmt_snapshot", "ufmt_doc", "ufmt_scan", "ufmt")
 # Each call is printed at the first size and at twice that, and texts are so long.
 SIZES = (100, 200)
 LABELS = ("steps", "allocations", "bytes", "growths", "held", "most", "left")

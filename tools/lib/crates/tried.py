@@ -2,7 +2,7 @@
 import subprocess
 
 # The libraries that a crate here is over, each with those that it lists in crates.txt.
-LIBRARIES = ("ufmt_float", "ufmt_core", "ufmt_fixed", "ufmt_grammar", "ufmt", "ufmt_scan", "ufmt_doc", "ufmt_parser", "ufmt_parse_fields", "ufmt_parse_structs", "ufmt_parse_tuples", "ufmt_parse_entries", "ufmt_parse_leaves", "ufmt_parse", "ufmt_snapshot", "ufmt_io")
+LIBRARIES = ("ufmt_float", "ufmt_core", "ufmt_fixed", "ufmt_grammar", "ufmt", "ufmt_scan", "ufmt_doc", "ufmt_parser", "ufmt_parse_fields", "ufmt_parse_structs", "ufmt_parse_tuples", "ufmt_parse_entries", "ufmt_parse_leaves", "ufmt_parse", "ufmt_snapshot", "ufmt_values", "ufmt_io", "ufmt_print_examples")
 
 
 def write(room, name, files):

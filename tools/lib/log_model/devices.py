@@ -126,7 +126,8 @@ def wrong_end(devices, program, process, wanted, line):
     rest = devices.rest(devices.output)
     error = devices.rest(devices.error)
     ended = program.ended(process)
-    if rest or b"".join(error) != line or ended.status != wanted.status:
+    # Each line is one message: programs that share standard error don't mix theirs.
+    if rest or error != line.splitlines(keepends=True) or ended.status != wanted.status:
         return "at the end it writes %s and %s, and its status is %d" % (shown(b"".join(rest)), shown(b"".join(error)), ended.status)
     wanted = wanted._replace(writes=wanted.writes + len(error))
     if ended.reads is not None and ended != wanted:

@@ -9,6 +9,7 @@ import resource
 import select
 import shutil
 import signal
+import socket
 import subprocess
 import sys
 import tempfile
@@ -23,6 +24,8 @@ SECONDS = 120
 # So long a wait for an output that must come, and for one that must not come yet.
 LATE, SOON = 10, 0.2
 CLOSED, FOLDER = "closed", "a folder"
+# A message on standard error has fewer bytes.
+MESSAGE = 64 * 1024
 # The number of the user who owns nothing.
 NOBODY = 65534
 # Variables that other programs look at.
@@ -126,6 +129,27 @@ class Cases:
         if library is None:
             sys.exit("a C compiler is needed, for devices that move one byte at a call")
         return self.run(*arguments, text=text, variables={"LD_PRELOAD": str(library), "COUNTS_READ": "1", "COUNTS_WRITE": "1"})
+
+    def messages(self, *arguments, text=b""):
+        """What each write to standard error has, of a run to its end."""
+        ours, theirs = socket.socketpair(socket.AF_UNIX, socket.SOCK_SEQPACKET)
+        with ours, theirs:
+            self.run(*arguments, text=text, error=theirs.fileno())
+            theirs.close()
+            return list(iter(lambda: ours.recv(MESSAGE), b""))
+
+    def judge_messages(self, name, arguments, lines, text=b""):
+        """Each of these messages must be one write, so that programs that share standard error don't mix theirs."""
+        wanted = [line.encode() + b"\n" for line in lines]
+        self.judge("the messages of " + name, Ran(0, repr(self.messages(*arguments, text=text)).encode(), b""), 0, repr(wanted).encode())
+
+    def calls(self, *arguments):
+        """How often a run reads and writes."""
+        meter = Counter(self.room)
+        if meter.library is None:
+            sys.exit("a C compiler is needed, for calls that are counted")
+        _output, counts = meter.run([self.program, *arguments], b"", "calls", seconds=SECONDS)
+        return counts[0].reads, counts[0].writes
 
     def without_input(self, *arguments):
         """Runs the program with an input that stays open and has nothing: what reads it doesn't end in time."""

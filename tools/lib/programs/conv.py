@@ -74,6 +74,13 @@ def errors(cases):
     cases.judge("a full device, standard error closed", cases.run("pretty", text=PLAIN, sink="/dev/full", error=CLOSED), 4)
 
 
+def messages(cases):
+    """Each message is one write."""
+    cases.judge_messages("no command", ("Pretty",), [USAGE])
+    for command in ("pretty", "plain"):
+        cases.judge_messages("%s of no text" % command, (command,), [NO_TEXT[command]])
+
+
 def open_input(cases):
     """The output comes at the end of the input, and not before: the input may continue with the next line."""
     cases.judge("an input that stays open after a line", cases.slow(["pretty"], [(b"[1", None), (b"]\n", None)]), 0, b"[\n    1,\n]\n")
@@ -116,7 +123,7 @@ def too_many_arguments(cases):
 
 def main(program):
     cases = Cases(program)
-    for part in (conversions, environments, other_texts, arguments, inputs, outputs, errors, open_input, reader_goes_away, large_inputs,
+    for part in (conversions, environments, other_texts, arguments, inputs, outputs, errors, messages, open_input, reader_goes_away, large_inputs,
                  byte_by_byte, too_little_memory, too_many_arguments):
         part(cases)
     return cases.end()

@@ -7,7 +7,7 @@ import threading
 import time
 import tty
 
-from lib.programs.cases import CLOSED, FOLDER, LATE, OTHERS, SOON, Cases, texts
+from lib.programs.cases import CLOSED, FOLDER, LATE, OTHERS, SOON, Cases, Ran, texts
 
 LOGS_FOLDER = pathlib.Path(__file__).resolve().parents[2] / "data" / "logs"
 USAGE = "usage: ufmt_lines [--longer-than N | --plain | --help | --version] [--] [FILE..]"
@@ -36,6 +36,7 @@ OUT_OF_MEMORY = "ufmt_lines: out of memory"
 PIPE_STATUS = 141
 PLAIN, PRETTY = texts("node")
 MIB = 1024 * 1024
+CHUNK = 64 * 1024
 # A line with a value of more than forty bytes, and the same made pretty.
 LONG = b"got [1, 12345678901234567890, 23456789012345678901]\n"
 LONG_PRETTY = b"got [\n    1,\n    12345678901234567890,\n    23456789012345678901,\n]\n"
@@ -185,6 +186,22 @@ def files(cases):
     cases.judge("files around a closed standard input", cases.run("front", "-", "back", source=CLOSED), 3, whole, cannot_read("standard input", CLOSED_FILE))
     cases.judge("a missing file and a full device", cases.run("none", "front", sink="/dev/full"), 4, b"", missing + "\n" + cannot_write(IS_FULL))
     cases.judge("a file, and an input that stays open", cases.without_input("front", "back"), 0, whole)
+
+
+def messages(cases):
+    """Each message is one write."""
+    cases.judge_messages("a missing file and a folder", ("none", "folder"), [cannot_read("none", IS_MISSING), cannot_read("folder", IS_FOLDER)])
+    cases.judge_messages("an unknown option", ("-x",), ["ufmt_lines: unknown option: -x\n" + USAGE])
+    cases.judge_messages("an argument that isn't UTF-8", (b"\xff",), ["ufmt_lines: an argument isn't UTF-8\n" + USAGE])
+
+
+def calls_of_files(cases):
+    """Each read takes a chunk of a file, as of standard input, and one more read its end. The outputs of a chunk are one write."""
+    file = cases.room / "eight chunks"
+    file.write_bytes(b"0123456 9abcdef\n" * (8 * CHUNK // 16))
+    for names, wanted in ((1, (9, 8)), (3, (27, 24))):
+        reads, writes = cases.calls(*[str(file)] * names)
+        cases.judge("reads and writes of %d files" % names, Ran(0, b"%d %d" % (reads, writes), b""), 0, b"%d %d" % wanted)
 
 
 def many_files(cases):
@@ -368,7 +385,8 @@ def many_lines(cases):
 
 def main(program):
     cases = Cases(program)
-    for part in (conversions, limits, slow_producer, environments, helps, arguments, files, many_files, file_names, each_byte, named_pipe, byte_by_byte, reasons, no_bytes_yet, inputs, terminals,
+    for part in (conversions, limits, slow_producer, environments, helps, arguments, files, messages, calls_of_files,
+                 many_files, file_names, each_byte, named_pipe, byte_by_byte, reasons, no_bytes_yet, inputs, terminals,
                  outputs, errors, readers_go_away, slow_reader_goes_away, too_many_arguments, too_long_a_line, many_lines):
         part(cases)
     return cases.end()
