@@ -7,6 +7,8 @@ from lib.bench.stack_bounds import CALLS
 # more is what a level takes.
 WITHOUT_MEMORY = (
     ("print an i32", "number"), ("print an i128", "long_number"), ("print a text", "text"),
+    ("print an f64", "float"), ("print an f64, by uDisplay", "float_display"), ("print an f32, by uDisplay", "single_display"),
+    ("print an f64 with two decimals", "float_fixed"), ("print a Decimal", "decimal"),
     ("print a struct, plain", "struct"), ("print a struct, pretty", "struct_pretty", "struct_two", "struct_three", "struct_four"),
     ("print a struct of eight fields", "kinds_pretty"), ("print a struct, cut", "struct_cut"),
     ("print a line", "line"), ("print a column", "column"), ("dump bytes", "dump"),

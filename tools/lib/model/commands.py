@@ -21,7 +21,8 @@ READ_INDENTATION, SPLIT_INDENTATION = 1, 17
 # What a read of few bytes takes more, for each command: half as many steps again as were measured. It goes over these bytes, and not over a
 # chunk or what was read before.
 READ_BYTES, READS = 10, 2000
-READ_STEPS = {"ufmt_conv pretty": 50, "ufmt_lines": 580, "ufmt_lines --plain": 320}
+READ_STEPS = {"ufmt_conv pretty": 50, "ufmt_lines": 580, "ufmt_lines --plain": 320, "ufmt_lines, a long line": 580, "ufmt_lines --plain, a long line": 580,
+              "ufmt_lines --plain, a long group": 580}
 # What is before the text of a line, as in a log.
 STAMP = "12:00: "
 
@@ -123,10 +124,13 @@ def read_steps(counter, arguments, name, data):
 
 
 def short_reads(programs):
-    """Each command with what it reads: of ufmt_conv one text, of ufmt_lines a line for each read."""
+    """Each command with what it reads: of ufmt_conv one text, of ufmt_lines a line for each read, and a line or group of all reads."""
     yield "ufmt_conv pretty", programs["ufmt_conv"], ["pretty"], plain(shapes.listed(["12345678"] * READS)).encode()
     yield "ufmt_lines", programs["ufmt_lines"], [], b"a line: 7\n" * READS
     yield "ufmt_lines --plain", programs["ufmt_lines"], ["--plain"], b"a line: 7\n" * READS
+    yield "ufmt_lines, a long line", programs["ufmt_lines"], [], b"a word, 7 " * READS
+    yield "ufmt_lines --plain, a long line", programs["ufmt_lines"], ["--plain"], b"a word, 7 " * READS
+    yield "ufmt_lines --plain, a long group", programs["ufmt_lines"], ["--plain"], b"[\n" + b"    word,\n" * READS + b"]\n"
 
 
 def short_read_faults(counter, programs):

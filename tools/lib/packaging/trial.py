@@ -107,6 +107,12 @@ class Trial:
         said = run(["env", path, "cargo", "build", "--offline", "--quiet", "--manifest-path", package / "Cargo.toml"])
         if self.expect("cargo", said, 0):
             self.expect("convert.rs", run([package / "target" / "debug" / "convert", TEXT]), 0, OUTPUT)
+        nowhere = self.room / "nowhere"
+        nowhere.mkdir()
+        # The package was built: cargo must see that the path is another, and says what isn't found.
+        said = run(["env", "PKG_CONFIG_LIBDIR=", "PKG_CONFIG_PATH=%s" % nowhere, "cargo", "build", "--offline", "--quiet", "--manifest-path", package / "Cargo.toml"])
+        if said.status != 101 or b"pkg-config finds no ufmt_c: set PKG_CONFIG_PATH" not in said.error:
+            self.faults.append("cargo, without the library: status %s, %s" % (said.status, said.error.decode(errors="replace")[-300:]))
 
     def build_callers(self):
         missing = [tool for tool in ("pkg-config", "gcc") if not shutil.which(tool)]
@@ -254,7 +260,7 @@ class Trial:
                 self.faults.append("%s of the built folder leads to %s" % (path.name, os.readlink(path)))
 
     def told_of_commits(self):
-        """A copy without git has no commit. A tree has its own, and a changed file is said."""
+        """A copy without git has no commit. A tree has its own, and a changed file is said, and a new one."""
         if not shutil.which("git"):
             print("no git: what BUILD says of a commit isn't tried")
             return
@@ -271,10 +277,13 @@ class Trial:
             told.append(folder.commit())
             (tree / "file").write_text("second")
             told.append(folder.commit())
+            (tree / "file").write_text("first")
+            (tree / "another").write_text("first")
+            told.append(folder.commit())
         finally:
             folder.TOP = given
-        if told != ["unknown", head, head + " with changes"]:
-            self.faults.append("of no commit, of %s and of a change BUILD has %s" % (head, told))
+        if told != ["unknown", head, head + " with changes", head + " with changes"]:
+            self.faults.append("of no commit, of %s, of a change and of a new file BUILD has %s" % (head, told))
 
     def told_of_build(self):
         """BUILD says the commit, and whether files were changed."""

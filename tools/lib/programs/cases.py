@@ -143,13 +143,24 @@ class Cases:
         wanted = [line.encode() + b"\n" for line in lines]
         self.judge("the messages of " + name, Ran(0, repr(self.messages(*arguments, text=text)).encode(), b""), 0, repr(wanted).encode())
 
-    def calls(self, *arguments):
-        """How often a run reads and writes."""
+    def judge_calls(self, name, arguments, reads, writes, text=b""):
+        """Compares how often a run reads and writes, of a file with this text as its input."""
         meter = Counter(self.room)
         if meter.library is None:
             sys.exit("a C compiler is needed, for calls that are counted")
-        _output, counts = meter.run([self.program, *arguments], b"", "calls", seconds=SECONDS)
-        return counts[0].reads, counts[0].writes
+        _output, counts = meter.run([self.program, *arguments], text, "calls", seconds=SECONDS)
+        found = "%d reads, %d writes" % (counts[0].reads, counts[0].writes)
+        self.judge("reads and writes of " + name, Ran(0, found.encode(), b""), 0, ("%d reads, %d writes" % (reads, writes)).encode())
+
+    def full_pipe(self):
+        """Both ends of a pipe that doesn't wait and has no more room."""
+        reader, writer = os.pipe()
+        os.set_blocking(writer, False)
+        try:
+            while os.write(writer, b"x" * 4096):
+                pass
+        except BlockingIOError:
+            return reader, writer
 
     def without_input(self, *arguments):
         """Runs the program with an input that stays open and has nothing: what reads it doesn't end in time."""

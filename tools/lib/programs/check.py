@@ -1,4 +1,4 @@
-"""Runs tools/check over four small crates, and compares how and where it calls the checker, its last line, its status and the lines that
+"""Runs tools/check over five small crates, and compares how and where it calls the checker, its last line, its status and the lines that
 it shows.
 
 In the place of the kit's checker there is a script that keeps its arguments, and prints what that prints of such a crate. What the
@@ -28,13 +28,15 @@ sleep 100 &
 echo $!
 wait
 """
-# `tall` stands on `small`, which stands on `base`. `base` alone names a library of the kit.
-CRATES = "# what each stands on\nbase: core\nsmall: base\ntall: small base\nglue staticlib: small base\n"
-PROVED = "fn small::one: proved\nstruct small::Pair: proved\n"
-UNPROVED = "fn small::two: no proof: expected answers in ./proofs/two/Answers.antt; `search` did not prove `returns`\n"
+# `high` stands on `tall`, that on `small`, and that on `base`. `base` alone names a library of the kit.
+CRATES = "# what each stands on\nbase: core\nsmall: base\ntall: small base\nglue staticlib: small base\nhigh: tall\n"
+KINDS = ("fn small::one", "struct small::Pair", "enum small::Choice", "trait small::Prints", "impl small::PairuDebug")
+PROVED = "".join("%s: proved\n" % kind for kind in KINDS)
+UNPROVED = "".join("%s: no proof: expected answers in ./proofs/two/Answers.antt; `search` did not prove `returns`\n" % kind for kind in KINDS)
 ERROR = "src/lib.rt:4:29: error: `ensures-is_one`: `≡` is not in scope\n  4 | ensures is_one\nhelp: bring it in\nnote: it is in Prelude\nwarning: an import\n"
 MISUSE = "rattle: error: no file src/lib.rt\n"
-NOISE = "logic antt-project.json: libraries=16 files=2756\nstatements std: modules loaded=21 checked=0\ncrate small: modules loaded=16 checked=14\n"
+NOISE = ("logic antt-project.json: libraries=16 files=2756\nstatements std: modules loaded=21 checked=0\nlibrary base: modules loaded=4 checked=0\n"
+         "crate small: modules loaded=16 checked=14\nso far: checked 3 of 14 modules\nchecked 14 of 14 modules\n")
 
 
 class Row(NamedTuple):
@@ -66,11 +68,13 @@ ROWS = (
     Row("what is said on standard error", PROVED, 2, MISUSE, "not checked: ", MISUSE),
 )
 BASE, SMALL = "base:std,core=../base/src/lib.rt", "small:std,base=../small/src/lib.rt"
+TALL = "tall:std,small,base=../tall/src/lib.rt"
 CALLS = (
     Called("base", "src/lib.rt", (), ("core", "std")),
     Called("small", "src/lib.rt", (BASE,), ("core", "std")),
     Called("tall", "src/main.rt", (BASE, SMALL), ("core", "std")),
     Called("glue", "src/lib.rt", (BASE, SMALL), ("core", "std")),
+    Called("high", "src/lib.rt", (BASE, SMALL, TALL), ("core", "std")),
 )
 
 

@@ -2,7 +2,7 @@
 import os
 import pathlib
 
-from lib.programs.cases import CLOSED, FOLDER, OTHERS, Cases, texts
+from lib.programs.cases import CLOSED, FOLDER, LATE, OTHERS, Cases, texts
 
 USAGE = "usage: ufmt_conv lengths|pretty|plain"
 NO_TEXT = {"pretty": "ufmt_conv: not a plain text", "plain": "ufmt_conv: not a pretty text"}
@@ -81,6 +81,21 @@ def messages(cases):
         cases.judge_messages("%s of no text" % command, (command,), [NO_TEXT[command]])
 
 
+def calls(cases):
+    """Each read takes a chunk of 64 KiB, and one more read the end. The output is one write."""
+    for command in COMMANDS:
+        cases.judge_calls(command, [command], 17, 1, text=b"a" * MIB)
+
+
+def without_room(cases):
+    """An output that doesn't wait for room is a fault at once, and isn't tried again."""
+    for command in COMMANDS:
+        reader, writer = cases.full_pipe()
+        cases.judge("%s, no room" % command, cases.run(command, text=RIGHT[command], sink=writer, seconds=LATE), 4, b"", CANNOT_WRITE)
+        os.close(reader)
+        os.close(writer)
+
+
 def open_input(cases):
     """The output comes at the end of the input, and not before: the input may continue with the next line."""
     cases.judge("an input that stays open after a line", cases.slow(["pretty"], [(b"[1", None), (b"]\n", None)]), 0, b"[\n    1,\n]\n")
@@ -123,7 +138,7 @@ def too_many_arguments(cases):
 
 def main(program):
     cases = Cases(program)
-    for part in (conversions, environments, other_texts, arguments, inputs, outputs, errors, messages, open_input, reader_goes_away, large_inputs,
+    for part in (conversions, environments, other_texts, arguments, inputs, outputs, errors, messages, calls, without_room, open_input, reader_goes_away, large_inputs,
                  byte_by_byte, too_little_memory, too_many_arguments):
         part(cases)
     return cases.end()

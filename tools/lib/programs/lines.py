@@ -7,7 +7,7 @@ import threading
 import time
 import tty
 
-from lib.programs.cases import CLOSED, FOLDER, LATE, OTHERS, SOON, Cases, Ran, texts
+from lib.programs.cases import CLOSED, FOLDER, LATE, OTHERS, SOON, Cases, Ran, taken, texts
 
 LOGS_FOLDER = pathlib.Path(__file__).resolve().parents[2] / "data" / "logs"
 USAGE = "usage: ufmt_lines [--longer-than N | --plain | --help | --version] [--] [FILE..]"
@@ -199,9 +199,9 @@ def calls_of_files(cases):
     """Each read takes a chunk of a file, as of standard input, and one more read its end. The outputs of a chunk are one write."""
     file = cases.room / "eight chunks"
     file.write_bytes(b"0123456 9abcdef\n" * (8 * CHUNK // 16))
-    for names, wanted in ((1, (9, 8)), (3, (27, 24))):
-        reads, writes = cases.calls(*[str(file)] * names)
-        cases.judge("reads and writes of %d files" % names, Ran(0, b"%d %d" % (reads, writes), b""), 0, b"%d %d" % wanted)
+    for number in (1, 3):
+        cases.judge_calls("%d files" % number, [str(file)] * number, 9 * number, 8 * number)
+    cases.judge_calls("standard input", [], 9, 8, text=file.read_bytes())
 
 
 def many_files(cases):
@@ -255,6 +255,14 @@ def named_pipe(cases):
     producer.start()
     cases.judge("a pipe with a name, and a slow writer", cases.run("pipe", seconds=LATE), 0, LONG_PRETTY)
     producer.join(LATE)
+    process = cases.start(["pipe"])
+    with open(pipe, "wb", buffering=0) as writer:
+        writer.write(LONG)
+        first = taken(process.stdout, len(LONG_PRETTY), LATE)
+        writer.write(b"the end")
+    output, said = process.communicate(timeout=LATE)
+    cases.judge("a pipe with a name, before its writer is gone", Ran(0, first, b""), 0, LONG_PRETTY)
+    cases.judge("a pipe with a name, and its end", Ran(process.returncode, output, said), 0, b"the end")
 
 
 def byte_by_byte(cases):
@@ -316,6 +324,10 @@ def outputs(cases):
     pipe = cases.unread_pipe()
     cases.judge("standard output has no reader", cases.run(text=PLAIN, sink=pipe), PIPE_STATUS)
     os.close(pipe)
+    reader, writer = cases.full_pipe()
+    cases.judge("standard output has no room and doesn't wait", cases.run(text=PLAIN, sink=writer, seconds=LATE), 4, b"", cannot_write(IS_BUSY))
+    os.close(reader)
+    os.close(writer)
     leader, follower = pty.openpty()
     os.close(leader)
     cases.judge("standard output is a terminal that went away", cases.run(text=PLAIN, sink=follower), 4, b"", cannot_write(IS_GONE))
@@ -379,6 +391,8 @@ def many_lines(cases):
     plain, pretty = LONG * 100_000, LONG_PRETTY * 100_000
     cases.judge("100,000 lines in 6 MiB", cases.run(text=plain, limit=6 * 1024), 0, pretty)
     cases.judge("--plain: 100,000 groups in 6 MiB", cases.run("--plain", text=pretty, limit=6 * 1024), 0, plain)
+    (cases.room / "many").write_bytes(plain)
+    cases.judge("a file of 100,000 lines in 6 MiB", cases.run("many", limit=6 * 1024), 0, pretty)
     opening = b"open Block {\n" * 1_000_000
     cases.judge("--plain: 1,000,000 lines that end with a bracket in 6 MiB", cases.run("--plain", text=opening, limit=6 * 1024), 0, opening)
 
