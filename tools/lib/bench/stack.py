@@ -15,17 +15,20 @@ WITHOUT_MEMORY = (
     ("parse a number", "parse_number"), ("parse a struct, plain", "parse_struct"),
     ("parse a struct, pretty", "parse_struct_pretty", "parse_two", "parse_three"),
 )
-# The first three are bounded in the gate as calls from C (tools/try-c), and take long to compile.
-ON_TEXTS = (
-    ("scan a text: is_text", "is_text"), ("convert_into, to pretty", "convert_into_pretty"), ("convert_into, to plain", "convert_into_plain"),
+WITH_MEMORY = (
     ("first_difference", "first_difference"), ("compare_pretty", "compare_pretty"),
     ("print a struct to a String", "struct_to_string"), ("print a map to a String", "map_to_string"),
     ("parse a list of numbers", "parse_list"), ("parse a map", "parse_map"), ("parse a Tree", "parse_tree"),
     ("parse a Node", "parse_node"), ("print a Tree", "tree_to_string"), ("drop a Tree", "drop_tree"),
+)
+# The first three are bounded in the gate as calls from C (tools/try-c), and take long to compile.
+ON_TEXTS = (
+    ("scan a text: is_text", "is_text"), ("convert_into, to pretty", "convert_into_pretty"), ("convert_into, to plain", "convert_into_plain"),
     ("read_plain", "read_plain"), ("read_field", "read_field"), ("print a Doc", "doc_to_string"), ("drop a Doc", "drop_doc"),
 )
 # A program, the library that it is over, and its calls.
-PROGRAMS = (("stack_values", "ufmt_parse", WITHOUT_MEMORY), ("stack_texts", "ufmt_parse_examples", ON_TEXTS))
+PROGRAMS = (("stack_values", "ufmt_parse", WITHOUT_MEMORY), ("stack_memory", "ufmt_parse_examples", WITH_MEMORY),
+            ("stack_texts", "ufmt_parse_examples", ON_TEXTS))
 
 
 class Row:
@@ -50,11 +53,11 @@ def rows(top, room, programs):
 
 
 def table(top, room, is_check):
-    """A line for each call. A check builds only the calls that print or parse without memory, and tells which are past their
-    bounds. Its result is the status."""
+    """A line for each call. A check builds only the calls that print or parse, and tells which are past their bounds. Its result is
+    the status."""
     print("%-32s %8s %14s" % ("bytes of stack", "at most", "a level more"))
     past = []
-    for row in rows(top, room, PROGRAMS[:1] if is_check else PROGRAMS):
+    for row in rows(top, room, PROGRAMS[:2] if is_check else PROGRAMS):
         print("%-32s %8d %14s" % (row.told, row.size, row.level or "-"), flush=True)
         size, level = CALLS[row.name]
         if row.size > size or row.level > level:

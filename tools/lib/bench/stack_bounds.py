@@ -9,12 +9,13 @@ or a call that is inlined into one that recurses, is past it.
 # By its name in tools/lib/bench/stack.py: at most, and a level more.
 CALLS = {
     "number": (64, 0), "long_number": (208, 0), "text": (144, 0), "struct": (176, 0), "struct_pretty": (176, 80),
+    "float": (2000, 0), "float_display": (3040, 0), "single_display": (3040, 0), "float_fixed": (5440, 0), "decimal": (304, 0),
     "kinds_pretty": (288, 0), "struct_cut": (240, 0), "line": (240, 0), "column": (192, 0),
     "dump": (432, 0), "parse_number": (48, 0), "parse_struct": (80, 0), "parse_struct_pretty": (128, 80),
     "is_text": (640, 0), "convert_into_pretty": (720, 0), "convert_into_plain": (704, 0),
-    "first_difference": (480, 0), "compare_pretty": (864, 0), "struct_to_string": (272, 0), "map_to_string": (352, 0),
+    "first_difference": (480, 0), "compare_pretty": (864, 0), "struct_to_string": (352, 0), "map_to_string": (352, 0),
     "parse_list": (176, 0), "parse_map": (1088, 208), "parse_tree": (1264, 896), "parse_node": (432, 256),
-    "tree_to_string": (320, 176), "drop_tree": (160, 112), "read_plain": (6464, 256), "read_field": (6800, 256),
+    "tree_to_string": (416, 176), "drop_tree": (160, 112), "read_plain": (6464, 256), "read_field": (6800, 256),
     "doc_to_string": (304, 208), "drop_doc": (336, 256),
 }
 # By its name: at most, and a level more. Those of ufmt_model_probe were measured by runs.

@@ -1,8 +1,7 @@
 """What ufmt.h declares, and how its structs are laid out: what callers are compiled against.
 
-tools/data/c/interface.txt has it: a line for each call as the library exports it, for each macro as it is written, for each constant with
-its value, and for each struct and each of its members with its place and its size, as gcc has them. A line that changes or goes breaks a
-caller.
+tools/data/c/interface.txt has it: the lines of the header without its comments, and for each constant its value, for each struct and each of
+its members its place and its size, as gcc has them. A line that changes or goes may break a caller.
 """
 import pathlib
 import re
@@ -32,12 +31,10 @@ def laid_out(header, structs, constants):
 
 def of(header):
     text = re.sub(r"/\*.*?\*/", "", header.read_text(), flags=re.S)
-    calls = re.findall(r"^\w+ ufmt_\w+\(.*\);$", text, re.M)
-    # The include guard has no text of its own.
-    macros = [line.rstrip() for line in re.findall(r"^#define \w+\S* .+$", text, re.M)]
+    lines = [line.rstrip() for line in text.splitlines() if line.strip()]
     constants = re.findall(r"^#define (UFMT_\w+) +\S*\d", text, re.M)
     structs = [(name, re.findall(r"(\w+);", members)) for members, name in re.findall(r"typedef struct \w+ \{(.*?)\} (\w+);", text, re.S)]
-    return "".join(line + "\n" for line in calls + macros) + laid_out(header, structs, constants)
+    return "".join(line + "\n" for line in lines) + laid_out(header, structs, constants)
 
 
 def stored(folder):

@@ -3,6 +3,7 @@
 Each build takes minutes, and the gate makes them by other tools. What is tried here is what tools/build asks of them, where it puts
 what they leave, what it says, and what is left where one fails.
 """
+import ast
 import contextlib
 import importlib.machinery
 import importlib.util
@@ -156,6 +157,18 @@ def go_wrong(trial):
         trial.faults.append("tools/build leaves files in a full folder")
 
 
+def be_of_python(trial):
+    """What users run is Python 3.9."""
+    tools = [BUILD.with_name(name) for name in ("build", "check", "test")]
+    for path in [*tools, *(folder.TOP / "tools" / "lib").rglob("*.py")]:
+        text = path.read_text()
+        if path not in tools or text.startswith("#!/usr/bin/env python3"):
+            try:
+                ast.parse(text, feature_version=(3, 9))
+            except SyntaxError as error:
+                trial.faults.append("%s isn't Python 3.9: %s" % (path.name, error))
+
+
 def say_page(trial):
     """The page of the tool, and the usage."""
     for words in ([], ["a", "b"], ["--proven", "a"], ["a", "--proved", "--proved"]):
@@ -171,3 +184,4 @@ def tried(trial, programs, library):
     prove_each(trial)
     go_wrong(trial)
     say_page(trial)
+    be_of_python(trial)

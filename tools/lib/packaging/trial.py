@@ -36,6 +36,8 @@ LINKED = ("bin/ufmt_conv", "share/doc/ufmt/FILES")
 STRANGER, LONG_AGO = 54321, 1_000_000_000
 # No file may have more than a block, as on a disk that is full.
 WITHOUT_ROOM = """trap '' XFSZ; ulimit -f 1; exec "$@" """
+# The first version has these files, too.
+GONE = ("bin/ufmt_gone", "share/man/man1/ufmt_gone.1", "share/doc/ufmt/a note")
 # Each file below the prefix, and its mode.
 FILES = {
     "bin/ufmt_conv": 0o755, "bin/ufmt_lines": 0o755,
@@ -143,6 +145,9 @@ class Trial:
             missing = "tools/install: %s/%s isn't there: run `tools/build %s`\n" % (part, file, part)
             self.expect("without " + file, self.install(part, self.room / "nothing"), 1, b"", missing.encode())
         self.expect("below a file", self.install(self.built, other / "prefix"), 1)
+        line = "tools/install: %s is both folders\n" % self.built
+        self.expect("into itself", self.install(self.built, self.built), 1, b"", line.encode())
+        self.expect("into itself, by a link", run(["env", "-C", self.built / "bin", INSTALL, "..", self.built]), 1, b"", line.encode())
         nothing = self.room / "nothing"
         missing = "tools/install: %s/share/doc/ufmt/FILES isn't there: nothing of ufmt is installed\n" % nothing
         self.expect("with nothing installed", self.install("--uninstall", nothing), 1, b"", missing.encode())
@@ -201,6 +206,10 @@ class Trial:
         program.mkdir()
         self.expect("--uninstall of a folder", self.install("--uninstall", self.prefix), 1)
         program.rmdir()
+        # What is removed is what is listed, as by a later version of the tool.
+        more, listed = self.prefix / "bin" / "ufmt_more", self.prefix / "share" / "doc" / "ufmt" / "FILES"
+        more.write_text("of another version")
+        listed.write_text("bin/ufmt_more\n" + listed.read_text())
         self.expect("--uninstall", self.install("--uninstall", self.prefix), 0)
         left = [path for path in self.prefix.rglob("*") if not path.is_dir()]
         if left != [own]:
@@ -216,8 +225,13 @@ class Trial:
         for path in sorted(second.rglob("*")):
             if path.is_file() and not path.is_symlink():
                 path.write_bytes(path.read_bytes() + b"\n")
-        to = self.room / "upgraded"
-        self.expect("tools/install", self.install(self.built, to), 0)
+        to, first = self.room / "upgraded", self.room / "first"
+        shutil.copytree(self.built, first, symlinks=True)
+        for file in GONE:
+            (first / file).write_text("of the first version")
+        self.expect("tools/install, of a first version", self.install(first, to), 0)
+        if not all((to / file).exists() for file in GONE):
+            self.faults.append("a file of the first version isn't installed")
         files = [file for file in FILES if FILES[file]]
         opened = {file: (open(to / file, "rb"), (to / file).read_bytes()) for file in files}
         self.expect("tools/install, of a second version", self.install(second, to), 0)
@@ -264,7 +278,7 @@ class Trial:
         if not shutil.which("git"):
             print("no git: what BUILD says of a commit isn't tried")
             return
-        tree, given = self.room / "tree", folder.TOP
+        tree, beside, given = self.room / "tree", self.room / "beside", folder.TOP
         tree.mkdir()
         git = ["git", "-C", tree, "-c", "user.name=trial", "-c", "user.email=trial@localhost"]
         folder.TOP = tree
@@ -280,10 +294,15 @@ class Trial:
             (tree / "file").write_text("first")
             (tree / "another").write_text("first")
             told.append(folder.commit())
+            # Another tree of the same repository has its own commit, and a copy in a tree has none.
+            self.expect("git worktree", run([*git, "worktree", "add", "--quiet", "--detach", beside]), 0)
+            (tree / "copy").mkdir()
+            for folder.TOP in (beside, tree / "copy"):
+                told.append(folder.commit())
         finally:
             folder.TOP = given
-        if told != ["unknown", head, head + " with changes", head + " with changes"]:
-            self.faults.append("of no commit, of %s, of a change and of a new file BUILD has %s" % (head, told))
+        if told != ["unknown", head, head + " with changes", head + " with changes", head, "unknown"]:
+            self.faults.append("of no commit, of %s, of a change, of a new file, beside and in the tree BUILD has %s" % (head, told))
 
     def told_of_build(self):
         """BUILD says the commit, and whether files were changed."""
