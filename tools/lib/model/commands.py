@@ -21,8 +21,8 @@ READ_INDENTATION, SPLIT_INDENTATION = 1, 17
 # What a read of few bytes takes more, for each command: half as many steps again as were measured. It goes over these bytes, and not over a
 # chunk or what was read before.
 READ_BYTES, READS = 10, 2000
-READ_STEPS = {"ufmt_conv pretty": 50, "ufmt_lines": 580, "ufmt_lines --plain": 320, "ufmt_lines, a long line": 580, "ufmt_lines --plain, a long line": 580,
-              "ufmt_lines --plain, a long group": 580}
+READ_STEPS = {"ufmt_conv pretty": 50, "ufmt_lines": 580, "ufmt_lines --plain": 320, "ufmt_lines, a long line": 250, "ufmt_lines --plain, a long line": 250,
+              "ufmt_lines --plain, a long group": 240}
 # What is before the text of a line, as in a log.
 STAMP = "12:00: "
 
