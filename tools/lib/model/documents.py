@@ -298,6 +298,12 @@ def listed_leaves(leaves):
     yield Block("list", "", [(None, leaf) for leaf in leaves])
 
 
+def late_block():
+    """A block after more leaves than a number of two bytes counts."""
+    leaves = [(None, "x")] * 70_000
+    return Block("list", "", [*leaves, (None, Block("struct", "S", [("a", "1")])), (None, Block("list", "", [(None, "y")]))])
+
+
 def first_texts(seed):
     """Texts that come first: each cell of the table of coverage, and each shape at each limit."""
     maker, debug_maker = Maker(seed), DebugMaker(seed)
@@ -320,6 +326,7 @@ def first_texts(seed):
         yield quoted(character, "'").encode()
     for character in KINDS_OF_CHARACTERS:
         yield quoted(character * 100_000).encode()
+    yield from in_both_modes([late_block()])
     for length in LENGTHS:
         yield b"x" * length
         yield b" " * length
