@@ -282,8 +282,9 @@ def variant(kind, count, comma=False):
 
 
 def enum_test(name, members, inner, outer):
-    """An enum with these variants, each of which is parsed. Further texts are no variant's."""
-    made = [variant(*member) for member in members]
+    """An enum with these variants, each of which is parsed. Further texts are no variant's. `inner` also says whether the fields of each
+    variant end in a comma."""
+    made = [variant(*member, inner) for member in members]
     yield "\n#[derive(Drop)]\nenum %s { %s }\n" % (name, ", ".join(declared for declared, _, _ in made))
     listed_variants = listed([written for _, written, _ in made], inner)
     call = "parse_variants!((), &mut parser, %s { %s }%s)" % (name, listed_variants, "," if outer else "")
