@@ -16,7 +16,7 @@ CALLS = {
     "first_difference": (480, 0), "compare_pretty": (864, 0), "struct_to_string": (352, 0), "map_to_string": (352, 0),
     "parse_list": (176, 0), "parse_map": (1088, 208), "parse_tree": (1264, 896), "parse_node": (432, 256),
     "tree_to_string": (416, 176), "drop_tree": (160, 112), "read_plain": (6464, 256), "read_field": (6800, 256),
-    "doc_to_string": (304, 208), "drop_doc": (336, 256),
+    "doc_to_string": (400, 208), "drop_doc": (368, 288),
 }
 # By its name: at most, and a level more. Those of ufmt_model_probe were measured by runs.
 PROGRAMS = {"ufmt_conv": (12864, 0), "ufmt_lines": (29400, 0), "ufmt_model_probe": (16384, 1200)}
