@@ -1,4 +1,4 @@
-"""The most bytes of stack that may be taken: by a call of `tools/bench stack`, and by a level more of it; by a built program; and by
+"""The most bytes of stack that may be taken, and of code: by a call of `tools/bench stack`, and by a level more of it; by a built program; and by
 a call of the library for C.
 
 Each bound is what was found, and an eighth more, or four registers where that is more, up to a whole 16 bytes: a proved build
@@ -20,6 +20,9 @@ CALLS = {
 }
 # By its name: at most, and a level more. Those of ufmt_model_probe were measured by runs.
 PROGRAMS = {"ufmt_conv": (12864, 0), "ufmt_lines": (29400, 0), "ufmt_model_probe": (16384, 1200)}
+# Of each program of the pages, how many bytes of machine code our functions have at most: what was found, and a twentieth more. A call
+# that is compiled into each of its callers is past that.
+CODE = {"ufmt_parse_program": 12581, "ufmt_print_program": 13627}
 # By its name after `ufmt_`. None of these recurses. Of the library that tools/try-c builds, where no call is put into another.
 FROM_C = {
     "binary": 320, "convert": 1456, "difference": 672, "dump": 720, "field": 1424, "first_difference": 608, "float": 1440,

@@ -393,6 +393,12 @@ def many_lines(cases):
     cases.judge("--plain: 100,000 groups in 6 MiB", cases.run("--plain", text=pretty, limit=6 * 1024), 0, plain)
     (cases.room / "many").write_bytes(plain)
     cases.judge("a file of 100,000 lines in 6 MiB", cases.run("many", limit=6 * 1024), 0, pretty)
+    # The outputs for one read are some 30 MiB.
+    depth = 250
+    deep = b"[" * depth + b"x" + b"]" * depth + b"\n"
+    opened = b"".join(b"    " * at + b"[\n" for at in range(depth)) + b"    " * depth + b"x,\n"
+    closed = b"".join(b"    " * at + b"],\n" for at in range(depth - 1, 0, -1)) + b"]\n"
+    cases.judge("one read, and 30 MiB of outputs, in 6 MiB", cases.run(text=deep * 130, limit=6 * 1024), 0, (opened + closed) * 130)
     opening = b"open Block {\n" * 1_000_000
     cases.judge("--plain: 1,000,000 lines that end with a bracket in 6 MiB", cases.run("--plain", text=opening, limit=6 * 1024), 0, opening)
 
