@@ -395,8 +395,8 @@ def many_lines(cases):
     cases.judge("a file of 100,000 lines in 6 MiB", cases.run("many", limit=6 * 1024), 0, pretty)
     # The outputs for one read are some 30 MiB.
     depth = 250
-    deep = b"[" * depth + b"x" + b"]" * depth + b"\n"
-    opened = b"".join(b"    " * at + b"[\n" for at in range(depth)) + b"    " * depth + b"x,\n"
+    deep = b"[" * depth + b"x, y" + b"]" * depth + b"\n"
+    opened = b"".join(b"    " * at + b"[\n" for at in range(depth)) + b"    " * depth + b"x,\n" + b"    " * depth + b"y,\n"
     closed = b"".join(b"    " * at + b"],\n" for at in range(depth - 1, 0, -1)) + b"]\n"
     cases.judge("one read, and 30 MiB of outputs, in 6 MiB", cases.run(text=deep * 130, limit=6 * 1024), 0, (opened + closed) * 130)
     opening = b"open Block {\n" * 1_000_000
