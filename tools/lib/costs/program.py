@@ -39,7 +39,7 @@ def lines():
     for one in types.types():
         texts = dict.fromkeys(text for size in SIZES for text in one.texts(size))
         for number, text in enumerate(texts):
-            data = text.encode()
+            data = text.encode("utf-8", "surrogateescape")
             yield "%s, text %d" % (one.type, number), b"parse %d %s\n%s" % (len(data), one.type.encode(), data)
 
 

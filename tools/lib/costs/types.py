@@ -23,16 +23,17 @@ def plainly(*texts):
 
 
 def quoted(size):
-    """A text, one with escapes, and both without their ends."""
-    return ['"%s"' % ("a" * size), '"%s"' % ('\\n\\"' * size), '"%s' % ("a" * size), '"%s\\q"' % ("\\n" * size)]
+    """A text, one with escapes, and both without their ends; then texts past ASCII, and such with a byte at the end that isn't UTF-8."""
+    texts = ['"%s"' % ("a" * size), '"%s"' % ('\\n\\"' * size), '"%s' % ("a" * size), '"%s\\q"' % ("\\n" * size)]
+    return texts + ['"%s%s%s"' % (escape, "é" * size, end) for escape in ("", "\\n") for end in ("", "\udcff")]
 
 
-def wide(begin, item, end):
-    """A list or set of so many items; one without its end, and one with a wrong item at its end."""
+def wide(begin, item, end, pretty_item=None):
+    """A list or set of so many items; one without its end, and one with a wrong item at its end; and the pretty text."""
     def texts(size):
-        items = [item(number) for number in range(size)]
+        items, pretty_items = ([made(number) for number in range(size)] for made in (item, pretty_item or item))
         whole = begin + ", ".join(items)
-        return [whole + end, whole, whole + ", ?" + end, begin + "\n" + "".join("    %s,\n" % it for it in items) + end]
+        return [whole + end, whole, whole + ", ?" + end, begin + "\n" + "".join("    %s,\n" % it for it in pretty_items) + end]
     return texts
 
 
@@ -40,11 +41,11 @@ def listed(item):
     return wide("[", item, "]")
 
 
-def sorted_keys(item):
+def sorted_keys(item, pretty_item=None):
     """The same in order, with the last key before the others, with it twice, and in the other order."""
     def texts(size):
         others = ([*range(1, size), 0], [*range(size), size - 1], range(size - 1, -1, -1))
-        return wide("{", item, "}")(size) + ["{%s}" % ", ".join(map(item, numbers)) for numbers in others]
+        return wide("{", item, "}", pretty_item)(size) + ["{%s}" % ", ".join(map(item, numbers)) for numbers in others]
     return texts
 
 
@@ -58,6 +59,10 @@ def long_number(value):
 
 def entry(value):
     return '"%06d": Some(7)' % value
+
+
+def pretty_entry(value):
+    return '"%06d": Some(\n        7,\n    )' % value
 
 
 def array(size, item):
@@ -150,7 +155,7 @@ def holders():
 def keyed():
     yield Parsed("BTreeSet<T, A>", "BTreeSet<u16>", sorted_keys(lambda value: "%d" % value))
     yield Parsed("BTreeSet<T, A>", "BTreeSet<String>", sorted_keys(lambda value: '"%06d"' % value))
-    yield Parsed("BTreeMap<K, V, A>", "BTreeMap<String, Option<u8>>", sorted_keys(entry))
+    yield Parsed("BTreeMap<K, V, A>", "BTreeMap<String, Option<u8>>", sorted_keys(entry, pretty_entry))
     yield Parsed("BTreeMap<K, V, A>", "BTreeMap<u32, Vec<u8>>", sorted_keys(lambda value: "%d: [1, 2]" % value))
 
 
