@@ -1,14 +1,15 @@
 """Tables of what was measured, in tools/data/measured, and bounds by them.
 
 A row has a name, and after a tab its counts in order, of which each has a label where it is compared. A count of steps may be
-MOST times as much as what was measured: compilers differ, and a call that does its work twice is past it. Other counts are the
-same each time, and may be no more.
+FACTOR times as much as what was measured: compilers differ, and a call that does half its work again is past it. Other counts are the
+same each time, and may be no more. `x measure` says which rows are old, and writes them again.
 """
-import pathlib
+from lib import findings
+from lib.top import TOP
 
-DATA = pathlib.Path(__file__).resolve().parent.parent / "data" / "measured"
+DATA = TOP / "tools" / "data" / "measured"
 STEPS = "steps"
-MOST = 1.5
+FACTOR = 1.4
 # A bound of steps is to be between so many times what is measured.
 BAND = (1.3, 2)
 # Fewer steps than these have one bound.
@@ -17,7 +18,7 @@ FEW = 40
 
 def bound(label, measured):
     """The bound of a count. The label of steps ends with that word."""
-    return int(MOST * max(measured, FEW)) if label.endswith(STEPS) else measured
+    return int(FACTOR * max(measured, FEW)) if label.endswith(STEPS) else measured
 
 
 class Table:
@@ -25,9 +26,14 @@ class Table:
 
     def __init__(self, name):
         self.path = DATA / (name + ".txt")
+        self.told = self.path.relative_to(TOP)
         lines = self.path.read_text().splitlines() if self.path.exists() else []
         rows = (line.rpartition("\t") for line in lines if not line.startswith("#"))
         self.rows = {name: [int(count) for count in counts.split()] for name, _, counts in rows}
+
+    def of(self, kind):
+        """The rows whose names begin with the kind and a colon, by the rest of the name."""
+        return {name[len(kind) + 2 :]: counts for name, counts in self.rows.items() if name.startswith(kind + ": ")}
 
     def compared(self, name, found):
         """Each label with its count and what was measured. None if this row isn't there, or has other counts."""
@@ -41,21 +47,21 @@ class Table:
         for name, counts in found.items():
             rows = self.compared(name, counts)
             if rows is None:
-                yield "%s isn't measured in %s: tools/measure-bounds --write" % (name, self.path.name)
+                yield "%s:1: %s: counted, and not in the table: `x measure --write`" % (self.told, name)
                 continue
             for label, count, known in rows:
                 if count > bound(label, known):
-                    yield "%s: %s: %d, and not at most %d: %d was measured" % (name, label, count, bound(label, known), known)
+                    yield findings.most("%s, of which %d was measured" % (name, known), bound(label, known), count, label)
         for name in self.rows if is_whole else ():
             if name not in found:
-                yield "%s is measured in %s, and wasn't counted" % (name, self.path.name)
+                yield "%s:1: %s: in the table, and not counted" % (self.told, name)
 
     def left(self, found):
         """A line for each bound that isn't in the band, for what is measured now."""
         for name, counts in found.items():
             for label, count, known in self.compared(name, counts) or [("the row", 0, None)]:
                 if known is None or (is_out(count, bound(label, known)) if label.endswith(STEPS) else count != known):
-                    yield "%s: %s: %d now, and %s in the table" % (name, label, count, known)
+                    yield findings.case("%s, %s" % (name, label), "%s by the table" % known, count)
 
     def write(self, found, told):
         """Writes the table again. `told` says what its counts are."""
@@ -63,6 +69,15 @@ class Table:
         rows += ["%s\t%s\n" % (name, " ".join(str(count) for _, count in counts)) for name, counts in sorted(found.items())]
         self.path.parent.mkdir(exist_ok=True)
         self.path.write_text("".join(rows))
+
+
+def measured_again(name, found, told, is_written, faults=()):
+    """Writes a table again, or names each row whose bound left the band. Returns the status."""
+    table = Table(name)
+    if is_written:
+        table.write(found, told)
+    left = [] if is_written else table.left(found)
+    return findings.ended([*faults, *left], "%s: %d calls counted" % (name, len(found)))
 
 
 def is_out(count, most):

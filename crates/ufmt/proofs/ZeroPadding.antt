@@ -1,30 +1,11 @@
--- Digits in base ten are the decimal text, and zeros go after its sign.
-use Rattle.std.proofs.Common.{◌≡◌, ℕ, ◌+◌, ◌<◌, ℤ, pos, negsuc, nat_abs, Bool, true, false, List, [], ◌∷◌, ◌++◌, map, length, refl, ap, ap₂, arith, true≢false, ◌-◌, replicate, length-append}
+-- Zeros go after the sign of a decimal text.
+use Rattle.std.proofs.Common.{◌≡◌, ℕ, ◌+◌, ℤ, pos, negsuc, nat_abs, Bool, true, false, ◌++◌, length, refl, ap, arith, true≢false, ◌-◌, replicate, length-append}
 use borrow.Author.Tests.{ltb-true}
 use Rattle.std.specs.Int.{is_negative}
-use Rattle.std.specs.List.{All}
-use Rattle.std.proofs.lemmas.Bool.Decides.{nat_tests}
-use Rattle.std.proofs.lemmas.List.Elements.{All-head, All-tail}
 use Rattle.std.proofs.lemmas.List.{length-replicate}
 use Rattle.ufmt_core.specs.Bytes.{zero_digit}
-use Rattle.ufmt_core.specs.Decimal.{decimal, decimal_byte, numeral, sign_of}
-use Rattle.ufmt_core.proofs.Numerals.{numeral-denotes}
-use Rattle.ufmt.specs.Radix.{digit_byte, digits_in}
+use Rattle.ufmt_core.specs.Decimal.{decimal, sign_of}
 use Rattle.ufmt.specs.Zeros.{IsZeroPadded, minus_if, zero_padded}
-
-decimal_digit : (digit : ℕ) → digit < 10 → digit_byte false digit ≡ decimal_byte digit
-decimal_digit digit low = grind (arith, nat_tests)
-
-decimal_digits : (digits : List ℕ) → All (λ digit. digit < 10) digits → map (digit_byte false) digits ≡ map decimal_byte digits
-decimal_digits [] below = refl
-decimal_digits (digit ∷ digits) below =
-    ap₂ (λ byte bytes. byte ∷ bytes) (decimal_digit digit (All-head (λ d. d < 10) digit digits below))
-    (decimal_digits digits (All-tail (λ d. d < 10) digit digits below))
-
--- the digits in base ten are the decimal text
-pub digits_in_ten : (n : ℕ) → digits_in 10 false n ≡ decimal (pos n)
-unfolding digits_in decimal
-digits_in_ten n = decimal_digits (numeral 10 n) (numeral-denotes 10 n (omega arith)).below_base
 
 -- a decimal text is the sign and the text of the magnitude
 pub decimal_signed : (z : ℤ) → decimal z ≡ sign_of z ++ decimal (pos (nat_abs z))

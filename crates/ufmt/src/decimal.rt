@@ -9,7 +9,7 @@ ghost use Rattle.ufmt_fixed.specs.Text.{fixed_digits};
 ghost use Rattle.ufmt.specs.Zeros.{zero_filled};
 
 use crate::display::uDisplay;
-use crate::zeros::{uDisplayZeros, write_zeros};
+use crate::zeros::{uDisplayZeros, write_u64};
 use ufmt_core::{Formatter, uDebug, uWrite};
 
 /// A fixed-point number, `value` over ten to the power of `places`. `Decimal { value: -125, places: 1 }`
@@ -67,12 +67,12 @@ impl Decimal {
         let (whole, part) = self.split();
         let places = usize::from(self.places);
         if places == 0 {
-            return write_zeros(is_negative, whole, &mut [0; 20], f, width);
+            return write_u64(is_negative, whole, f, width);
         }
         let whole_width = width.saturating_sub(places + 1);
-        write_zeros(is_negative, whole, &mut [0; 20], f, whole_width)?;
+        write_u64(is_negative, whole, f, whole_width)?;
         f.write_str(".")?;
-        write_zeros(false, part, &mut [0; 20], f, places)
+        write_u64(false, part, f, places)
     }
 
     fn is_negative(&self) -> bool

@@ -1,5 +1,5 @@
 //! `uDisplayZeros`: decimal texts with zeros between the sign and the digits.
-ghost use Rattle.std.specs.Prelude.{◌≡◌, ◌^◌, ◌<◌, ℕ, List, IsTrue, is_ok, pos};
+ghost use Rattle.std.specs.Prelude.{◌≡◌, ℕ, List, IsTrue, is_ok, pos};
 ghost use Rattle.ufmt_core.specs.Decimal.{decimal};
 ghost use Rattle.ufmt_core.specs.Formatter.{Prints};
 ghost use Rattle.ufmt.specs.Column.{PadsToWidth};
@@ -10,7 +10,7 @@ mod integers;
 mod nonzero;
 
 use crate::hex::HexOptions;
-use crate::radix::digits::{Digits, digits_text};
+use ufmt_core::unsigned::{text_of_u64, text_of_u128};
 use ufmt_core::{Formatter, uWrite};
 
 /// A number that prints itself with zeros before its digits, as Rust's `{:05}` would.
@@ -34,20 +34,41 @@ pub trait uDisplayZeros {
     }
 }
 
-/// Writes a sign if asked, zeros, and the digits of `n`, which are made in `buffer`.
-pub(crate) fn write_zeros<N: Digits, W: uWrite, const SIZE: usize>(
+/// Writes a sign if asked, zeros, and the digits of `n`.
+pub(crate) fn write_u64<W: uWrite>(
     is_negative: bool,
-    n: N,
-    buffer: &mut [u8; SIZE],
+    n: u64,
     f: &mut Formatter<W>,
     width: usize,
 ) -> Result<(), W::Error>
-    requires not_empty { 0 < SIZE }
-    requires room { N.value n < 10 ^ SIZE }
     ensures { Prints W.seen f.old
-        (zero_filled width (minus_if is_negative) (decimal (pos (N.value n)))) (is_ok result) f.new }
+        (zero_filled width (minus_if is_negative) (decimal (pos n))) (is_ok result) f.new }
 {
-    let digits = digits_text::<N, 10, SIZE>(n, false, buffer);
+    write_zeros(is_negative, text_of_u64(n, &mut [0; 20]), f, width)
+}
+
+/// Writes a sign if asked, zeros, and the digits of `n`.
+pub(crate) fn write_u128<W: uWrite>(
+    is_negative: bool,
+    n: u128,
+    f: &mut Formatter<W>,
+    width: usize,
+) -> Result<(), W::Error>
+    ensures { Prints W.seen f.old
+        (zero_filled width (minus_if is_negative) (decimal (pos n))) (is_ok result) f.new }
+{
+    write_zeros(is_negative, text_of_u128(n, &mut [0; 39]), f, width)
+}
+
+fn write_zeros<W: uWrite>(
+    is_negative: bool,
+    digits: &str,
+    f: &mut Formatter<W>,
+    width: usize,
+) -> Result<(), W::Error>
+    ensures { Prints W.seen f.old
+        (zero_filled width (minus_if is_negative) digits.now) (is_ok result) f.new }
+{
     let zeros = HexOptions {
         upper_case: false,
         pad_char: b'0',

@@ -77,8 +77,12 @@ bool ufmt_is_text(uint32_t text_class, uint32_t mode, const char *input, size_t 
 ptrdiff_t ufmt_convert(char *buffer, size_t size, uint32_t text_class, uint32_t to, const char *input, size_t length, size_t *detail);
 
 /* Finds a field in a line of a log, which may be any bytes: of the values in the line, from the left on, the first that is a
- * struct with this field, where the field is a leaf. A value is a plain text of this class with entries, with anything before
- * and after it; nothing inside one is looked at. If a struct has several fields with this name, the first counts.
+ * struct with this field, where the field is a leaf. If a struct has several fields with this name, the first counts.
+ * A value is a plain text of this class with entries. Anything may follow it, and nothing inside it is looked at. The name of a
+ * struct or a tuple begins after the last space, control, quote, bracket or comma. So `&Foo { id: 3 }` isn't a value of UFMT_TOKEN,
+ * which has no name `&Foo`, and a struct right after a byte that isn't UTF-8 is a value of neither class.
+ * Texts in quotes are searched too, unless they are in a value: in `user="X { id: 666 }" req=Req { id: 3 }` the field `id` is 666,
+ * and so it is in a line that was cut inside such a text. Whoever controls a text in the line controls the result.
  * Returns how many bytes the leaf's text has, and `*detail` becomes where it begins: it is at
  * `line + *detail`, a text in quotes with its quotes. Returns UFMT_NO_TEXT if and only if there is no such field; `*detail`
  * stays. Returns UFMT_BAD_OPTION if there is no such class, and else UFMT_NOT_UTF8 if the name isn't UTF-8. The

@@ -3,7 +3,7 @@ use Rattle.std.proofs.Common.{◌≡◌, ℕ, zero, suc, ◌+◌, ◌-◌, ◌/�
 use Rattle.std.proofs.Math.Nat.{mod-eq_of_lt, pow-zero, pow-succ', div-one, one-le-pow, div-div-eq-div-mul}
 use Rattle.std.proofs.Math.Arith.{mod-mul}
 use Rattle.std.proofs.Math.Seq.{drop-length}
-use Rattle.std.proofs.lemmas.List.{drop-set, drop-drop}
+use Rattle.std.proofs.lemmas.List.{drop-set, drop-set-lt, drop-drop, set_comm}
 use Rattle.std.proofs.lemmas.Nat.{le-div}
 use Rattle.std.specs.Int.{from_bool}
 use Rattle.std.proofs.Math.Dec.{ltb}
@@ -31,6 +31,9 @@ decimal_two n high low = text-step decimal-in_base n high ∙ rw (text-digit dec
 pub decimal_nonempty : (n : ℕ) → 0 < length (decimal (pos n))
 decimal_nonempty = text-nonempty decimal-in_base
 
+pub length_one : (n : ℕ) → n < 10 → length (decimal (pos n)) ≡ 1
+length_one n low = ap length (text-digit decimal-in_base n low)
+
 pub length_two : (n : ℕ) → 10 ≤ n → n < 100 → length (decimal (pos n)) ≡ 2
 length_two n high low = ap length (decimal_two n high low) ∙ length-last_digits 2 n
 
@@ -41,9 +44,17 @@ drop-pair buffer at next tens ones after room =
     let end : next + 1 ≡ at + 2 = omega arith in
     rw (drop-set (set buffer next ones) at tens (omega (arith, length-set buffer next ones)), ← after, drop-set buffer next ones (omega arith), end) refl
 
--- a text that isn't empty and ends with the buffer begins within it
-pub begins_within : (start : ℕ) (text : List ℕ) {size : ℕ} → 0 < length text → start + length text ≡ size → start % size ≡ start
-begins_within start text some ends = mod-eq_of_lt (omega (arith, some, ends))
+-- an index in a buffer, counted from its end: the remainder by the buffer's size, or more, changes nothing
+pub index_from_end : (start count size : ℕ) → start < count → count ≤ size → count - ((count - 1 - start) % size + 1) ≡ start
+index_from_end start count size within fits =
+    let low : count - 1 - start < size = omega (arith, within, fits) in
+    omega (arith, mod-eq_of_lt low, within)
+
+-- the digits that are left end where the written ones begin
+pub digits_left : (text whole : List ℕ) (end : ℕ) (buffer : List ℕ) → text ++ drop end buffer ≡ whole → end ≤ length buffer
+    → end + length whole ≡ length text + length buffer
+digits_left text whole end buffer joined within =
+    omega (arith, ap length joined, length-append text (drop end buffer), length-drop end buffer, within)
 
 -- two digits were written before `end`: from the second on if the first is a zero, they are the number's text
 pub record IsFirst (n start end : ℕ) (old new : List ℕ) : Type 0 where
@@ -68,6 +79,39 @@ first_written n end false old new is_high within room placed =
       starts = omega (arith, length_two n high within);
       written = rw (none, decimal_two n high within) (rw whole at placed);
     }
+
+-- the tens are written at the first digit's index, and then the ones before `end`: over the tens if they are the only digit
+pub first_placed : (n start end tens ones : ℕ) (low : Bool) (buffer : List ℕ) → ltb n 10 ≡ low → n < 100 → start + length (decimal (pos n)) ≡ end
+    → end ≤ length buffer → tens ≡ decimal_byte (n / 10) → ones ≡ decimal_byte (n % 10)
+    → drop start (set (set buffer start tens) (end - 1) ones) ≡ decimal (pos n) ++ drop end buffer
+first_placed n start end tens ones true buffer is_low within ends room is_tens is_ones =
+    let low = ltb-true n 10 is_low in
+    let one = text-digit decimal-in_base n low in
+    let next : start + 1 ≡ end = omega (arith, ends, ap length one) in
+    let at : end - 1 ≡ start = omega (arith, next) in
+    let only : ones ≡ decimal_byte n = is_ones ∙ ap decimal_byte {x = n % 10} {y = n} (omega (arith, low)) in
+    rw (
+      at,
+      drop-set (set buffer start tens) start ones (omega (arith, next, room, length-set buffer start tens)),
+      drop-set-lt (start + 1) buffer start tens (omega arith),
+      next,
+      one,
+      only,
+    ) refl
+first_placed n start end tens ones false buffer is_high within ends room is_tens is_ones =
+    let high = ltb-false n 10 is_high in
+    let two = decimal_two n high within ∙ last_digits-two n within in
+    let whole : start + 2 ≡ end = omega (arith, ends, length_two n high within) in
+    let at : end - 1 ≡ start + 1 = omega (arith, whole) in
+    rw (
+      at,
+      set_comm buffer start (start + 1) tens ones (λ same. omega arith),
+      drop-pair buffer start (start + 1) tens ones refl (omega (arith, whole, room)),
+      whole,
+      two,
+      is_tens,
+      is_ones,
+    ) refl
 
 positive_power : (count : ℕ) → 0 < 10 ^ count
 positive_power count = one-le-pow count 10 (omega arith)
@@ -129,15 +173,15 @@ last_digits-halves half n start buffer mid new second first =
     rw (first, second, end, last_digits-split half half n)
     (sym (append_assoc (last_digits half (n / 10 ^ half)) (last_digits half (n % 10 ^ half)) (drop (start + (half + half)) buffer)))
 
--- the invariant of a loop that writes `count` last digits a turn: there is room for those that are left, and a byte before them
+-- the invariant of a loop that writes `count` last digits a turn: there is room for those that are left
 pub record IsCutFrom (count n left start : ℕ) (buffer : List ℕ) : Type 0 where
-  pub fits : length (decimal (pos n)) < length buffer
+  pub fits : length (decimal (pos n)) ≤ length buffer
   pub written : IsWrittenFrom (λ m. decimal (pos m)) n left start buffer
-  pub left_fits : length (decimal (pos left)) < start
+  pub left_fits : length (decimal (pos left)) ≤ start
   pub room : 10 ^ count ≤ left → count < start
 
 -- there is room because of the lengths of the texts
-cut_from : (count n left start : ℕ) (buffer : List ℕ) → length (decimal (pos n)) < length buffer
+cut_from : (count n left start : ℕ) (buffer : List ℕ) → length (decimal (pos n)) ≤ length buffer
     → IsWrittenFrom (λ m. decimal (pos m)) n left start buffer → IsCutFrom count n left start buffer
 cut_from count n left start buffer fits written =
     let digits = ap length written.joined in
@@ -152,7 +196,7 @@ cut_from count n left start buffer fits written =
     }
 
 -- the invariant holds before the first turn
-pub IsCutFrom-none : (count n : ℕ) (buffer : List ℕ) → length (decimal (pos n)) < length buffer → IsCutFrom count n n (length buffer) buffer
+pub IsCutFrom-none : (count n : ℕ) (buffer : List ℕ) → length (decimal (pos n)) ≤ length buffer → IsCutFrom count n n (length buffer) buffer
 IsCutFrom-none count n buffer fits =
     cut_from count n n (length buffer) buffer fits record { within = omega arith; joined = rw (drop-length buffer, append-nil) refl }
 

@@ -1,13 +1,12 @@
 //! Decimal texts of signed numbers.
-ghost use Rattle.std.specs.Prelude.{◌≡◌, ◌+◌, ◌-◌, ◌^◌, ◌<◌, ◌≤◌, ℤ, pos, nat_abs, length, drop};
+ghost use Rattle.std.specs.Prelude.{◌≡◌, ◌+◌, ◌-◌, ◌^◌, ◌<◌, ◌≤◌, ◌++◌, ℤ, pos, nat_abs, length, drop};
 ghost use Rattle.std.specs.Int.{is_negative};
 ghost use Rattle.ufmt_core.specs.Document.{leaf};
 ghost use Rattle.ufmt_core.specs.Decimal.{decimal};
 
-use crate::ascii::text_from;
 use crate::formatter::Formatter;
 use crate::uDebug;
-use crate::unsigned::Magnitude;
+use crate::unsigned::{Magnitude, end_of, write_pair};
 use crate::write::uWrite;
 
 /// A signed number of some width.
@@ -66,16 +65,15 @@ impl Signed for i128 {
     }
 }
 
-/// Returns the decimal text of `z`, made at the end of `buffer`. N is best a power of two, as for an unsigned
-/// number.
+/// Returns the decimal text of `z`, made at the end of `buffer`.
 #[inline(always)]
-pub(crate) fn decimal_text<S: Signed, const N: usize>(z: S, buffer: &mut [u8; N]) -> &str
-    requires sign_and_digit { 1 < N }
+fn decimal_text<S: Signed, const N: usize>(z: S, buffer: &mut [u8; N]) -> &str
+    requires few { (1 < N) × (N < 64) }
     requires room { nat_abs (S.value z) < 10 ^ (N - 1) }
     ensures { result.now ≡ decimal (S.value z) }
 {
     let start = write_decimal(z, buffer);
-    text_from(buffer, start % N)
+    end_of(buffer, start)
 }
 
 // Writes the decimal text of `z` at the end of `buffer`, and returns the index of its first byte. There must be
@@ -86,9 +84,24 @@ fn write_decimal<S: Signed>(z: S, buffer: &mut [u8]) -> usize
     ensures start { result + length (decimal (S.value z)) ≡ length buffer.old }
     ensures written { drop result buffer.new ≡ decimal (S.value z) }
 {
-    let digits = z.magnitude().write_digits(buffer);
+    let (first, end) = z.magnitude().write_turns(buffer);
+    let digits = write_first_after_sign(first, buffer, end);
     buffer[digits - 1] = b'-';
     digits - usize::from(z.is_negative())
+}
+
+// Writes a number of one digit or two before `end`, and returns the index of the first. There is a byte before it,
+// where a zero is written before one digit: later the sign is there.
+#[inline(always)]
+fn write_first_after_sign(n: u32, buffer: &mut [u8], end: usize) -> usize
+    requires two_digits { n < 100 }
+    requires room { 2 ≤ end }
+    requires within { end ≤ length buffer.old }
+    ensures start { result + length (decimal (pos n)) ≡ end }
+    ensures written { drop result buffer.new ≡ decimal (pos n) ++ drop end buffer.old }
+{
+    write_pair(n, buffer, end - 2);
+    end - 2 + usize::from(n < 10)
 }
 
 impl uDebug for i8 {
@@ -96,7 +109,7 @@ impl uDebug for i8 {
 
     #[inline(always)]
     fn fmt<W: uWrite>(&self, f: &mut Formatter<W>) -> Result<(), W::Error> {
-        f.write_str(decimal_text(i32::from(*self), &mut [0; 16]))
+        f.write_str(decimal_text(i32::from(*self), &mut [0; 4]))
     }
 }
 
@@ -105,7 +118,7 @@ impl uDebug for i16 {
 
     #[inline(always)]
     fn fmt<W: uWrite>(&self, f: &mut Formatter<W>) -> Result<(), W::Error> {
-        f.write_str(decimal_text(i32::from(*self), &mut [0; 16]))
+        f.write_str(decimal_text(i32::from(*self), &mut [0; 6]))
     }
 }
 
@@ -114,7 +127,7 @@ impl uDebug for i32 {
 
     #[inline(always)]
     fn fmt<W: uWrite>(&self, f: &mut Formatter<W>) -> Result<(), W::Error> {
-        f.write_str(decimal_text(*self, &mut [0; 16]))
+        f.write_str(decimal_text(*self, &mut [0; 11]))
     }
 }
 
@@ -123,7 +136,7 @@ impl uDebug for i64 {
 
     #[inline(always)]
     fn fmt<W: uWrite>(&self, f: &mut Formatter<W>) -> Result<(), W::Error> {
-        f.write_str(decimal_text(*self, &mut [0; 32]))
+        f.write_str(decimal_text(*self, &mut [0; 20]))
     }
 }
 
@@ -131,7 +144,7 @@ impl uDebug for i128 {
     ghost document = { λ z. leaf (decimal z) };
 
     fn fmt<W: uWrite>(&self, f: &mut Formatter<W>) -> Result<(), W::Error> {
-        f.write_str(decimal_text(*self, &mut [0; 64]))
+        f.write_str(decimal_text(*self, &mut [0; 40]))
     }
 }
 
@@ -140,6 +153,6 @@ impl uDebug for isize {
 
     #[inline(always)]
     fn fmt<W: uWrite>(&self, f: &mut Formatter<W>) -> Result<(), W::Error> {
-        f.write_str(decimal_text(*self as i64, &mut [0; 32]))
+        f.write_str(decimal_text(*self as i64, &mut [0; 20]))
     }
 }

@@ -1,5 +1,5 @@
 //! Decimal texts of unsigned numbers.
-ghost use Rattle.std.specs.Prelude.{◌≡◌, ◌+◌, ◌-◌, ◌++◌, ◌/◌, ◌%◌, ◌^◌, ◌<◌, ◌≤◌, ℕ, pos, length, drop};
+ghost use Rattle.std.specs.Prelude.{◌≡◌, ◌+◌, ◌-◌, ◌++◌, ◌/◌, ◌%◌, ◌^◌, ◌<◌, ◌≤◌, ℕ, pos, length, drop, IsAscii};
 ghost use Rattle.ufmt_core.specs.Document.{leaf};
 ghost use Rattle.ufmt_core.specs.Decimal.{decimal, decimal_byte, last_digits, EachNumberIsDenoted, OneTextDenotes, OneNumberIsDenoted};
 
@@ -45,26 +45,27 @@ pub fn digit_pair(i: u8) -> (u8, u8)
 pub(crate) trait Magnitude: Copy {
     ghost value: { Self → ℕ };
 
-    /// Writes the decimal text at the end of `buffer`, and returns the index of its first digit. The text
-    /// must leave a byte before it, which may be written too.
-    fn write_digits(self, buffer: &mut [u8]) -> usize
-        requires { length (decimal (pos (value self))) < length buffer.old }
-        ensures start { result + length (decimal (pos (value self))) ≡ length buffer.old }
-        ensures written { drop result buffer.new ≡ decimal (pos (value self)) };
+    /// Writes the decimal text at the end of `buffer`, without its first digit or two. Returns the number that
+    /// these denote, and the index after them.
+    fn write_turns(self, buffer: &mut [u8]) -> (u32, usize)
+        requires { length (decimal (pos (value self))) ≤ length buffer.old }
+        ensures first { result.0 < 100 }
+        ensures within { result.1 ≤ length buffer.old }
+        ensures written { decimal (pos result.0) ++ drop result.1 buffer.new ≡ decimal (pos (value self)) };
 }
 
 impl Magnitude for u32 {
     ghost value = { λ n. n };
 
     #[inline(always)]
-    fn write_digits(self, buffer: &mut [u8]) -> usize {
+    fn write_turns(self, buffer: &mut [u8]) -> (u32, usize) {
         let mut start = buffer.len();
         let mut left = self;
         while left >= 100 {
             start -= 2;
             left = write_turn(left, buffer, start);
         }
-        write_first(left, buffer, start)
+        (left, start)
     }
 }
 
@@ -72,7 +73,7 @@ impl Magnitude for u64 {
     ghost value = { λ n. n };
 
     #[inline(always)]
-    fn write_digits(self, buffer: &mut [u8]) -> usize {
+    fn write_turns(self, buffer: &mut [u8]) -> (u32, usize) {
         let mut start = buffer.len();
         let mut left = self;
         while left >= EIGHT_DIGITS {
@@ -81,14 +82,14 @@ impl Magnitude for u64 {
             write_eight((left - EIGHT_DIGITS * rest) as u32, buffer, start);
             left = rest;
         }
-        (left as u32).write_digits(&mut buffer[..start])
+        (left as u32).write_turns(&mut buffer[..start])
     }
 }
 
 impl Magnitude for u128 {
     ghost value = { λ n. n };
 
-    fn write_digits(self, buffer: &mut [u8]) -> usize {
+    fn write_turns(self, buffer: &mut [u8]) -> (u32, usize) {
         let mut start = buffer.len();
         let mut left = self;
         while left > u64::MAX as u128 {
@@ -96,7 +97,7 @@ impl Magnitude for u128 {
             write_sixteen((left % SIXTEEN_DIGITS) as u64, buffer, start);
             left /= SIXTEEN_DIGITS;
         }
-        (left as u64).write_digits(&mut buffer[..start])
+        (left as u64).write_turns(&mut buffer[..start])
     }
 }
 
@@ -141,8 +142,9 @@ fn write_turn(n: u32, buffer: &mut [u8], start: usize) -> u32
     left
 }
 
+// Writes two digits, a zero first before a number of one.
 #[inline(always)]
-fn write_pair(pair: u32, buffer: &mut [u8], start: usize)
+pub(crate) fn write_pair(pair: u32, buffer: &mut [u8], start: usize)
     requires two_digits { pair < 100 }
     requires room { start + 2 ≤ length buffer.old }
     ensures { drop start buffer.new ≡ last_digits 2 pair ++ drop (start + 2) buffer.old }
@@ -152,30 +154,74 @@ fn write_pair(pair: u32, buffer: &mut [u8], start: usize)
     buffer[start + 1] = ones;
 }
 
-// Writes a number of one digit or two before `end`, and returns the index of the first. Before one digit a
-// zero is written too: a jump would take more.
+/// Returns the decimal text of `n`, made at the end of `buffer`.
+#[inline(always)]
+fn decimal_text<M: Magnitude, const N: usize>(n: M, buffer: &mut [u8; N]) -> &str
+    requires few { (0 < N) × (N < 64) }
+    requires room { M.value n < 10 ^ N }
+    ensures { result.now ≡ decimal (pos (M.value n)) }
+{
+    let (first, end) = n.write_turns(buffer);
+    let start = write_first(first, buffer, end);
+    end_of(buffer, start)
+}
+
+// Writes a number of one digit or two before `end`, and returns the index of the first. A digit that is alone is
+// written over the zero before it: a jump would take more.
 #[inline(always)]
 fn write_first(n: u32, buffer: &mut [u8], end: usize) -> usize
     requires two_digits { n < 100 }
-    requires room { 2 ≤ end }
+    requires room { length (decimal (pos n)) ≤ end }
     requires within { end ≤ length buffer.old }
     ensures start { result + length (decimal (pos n)) ≡ end }
     ensures written { drop result buffer.new ≡ decimal (pos n) ++ drop end buffer.old }
 {
-    write_pair(n, buffer, end - 2);
-    end - 2 + usize::from(n < 10)
+    let start = first_index(n, end);
+    let (tens, ones) = digit_pair(n as u8);
+    buffer[start] = tens;
+    buffer[end - 1] = ones;
+    start
 }
 
-/// Returns the decimal text of `n`, made at the end of `buffer`. If N is a power of two, LLVM sees that the
-/// text is no longer, and leaves out what copies longer ones.
+// The index of the first digit of a number of one digit or two before `end`.
+#[tactic(auto, using(crate::proofs::LastDigits::length_one, crate::proofs::LastDigits::length_two))]
 #[inline(always)]
-pub(crate) fn decimal_text<M: Magnitude, const N: usize>(n: M, buffer: &mut [u8; N]) -> &str
-    requires not_empty { 1 < N }
-    requires room { M.value n < 10 ^ (N - 1) }
-    ensures { result.now ≡ decimal (pos (M.value n)) }
+fn first_index(n: u32, end: usize) -> usize
+    requires two_digits { n < 100 }
+    requires room { length (decimal (pos n)) ≤ end }
+    ensures start { result + length (decimal (pos n)) ≡ end }
+    ensures before { result < end }
 {
-    let start = n.write_digits(buffer);
-    text_from(buffer, start % N)
+    if n < 10 { end - 1 } else { end - 2 }
+}
+
+/// Returns the end of `buffer`, from `start` on, as a text. LLVM doesn't see that the text is no longer than the buffer,
+/// and would keep the code that copies longer texts. The remainder by a power of two tells it.
+#[inline(always)]
+pub(crate) fn end_of<const N: usize>(buffer: &[u8; N], start: usize) -> &str
+    requires few { N < 64 }
+    requires within { start < N }
+    requires ascii { IsAscii (drop start buffer.now) }
+    ensures { result.now ≡ drop start buffer.now }
+{
+    let size = N.next_power_of_two();
+    let count = (N - 1 - start) % size + 1;
+    text_from(buffer, N - count)
+}
+
+/// Returns the decimal text of `n`, made in `buffer`.
+#[inline(always)]
+pub fn text_of_u64(n: u64, buffer: &mut [u8; 20]) -> &str
+    ensures { result.now ≡ decimal (pos n) }
+{
+    decimal_text(n, buffer)
+}
+
+/// Returns the decimal text of `n`, made in `buffer`.
+pub fn text_of_u128(n: u128, buffer: &mut [u8; 39]) -> &str
+    ensures { result.now ≡ decimal (pos n) }
+{
+    decimal_text(n, buffer)
 }
 
 impl uDebug for u8 {
@@ -183,7 +229,7 @@ impl uDebug for u8 {
 
     #[inline(always)]
     fn fmt<W: uWrite>(&self, f: &mut Formatter<W>) -> Result<(), W::Error> {
-        f.write_str(decimal_text(u32::from(*self), &mut [0; 16]))
+        f.write_str(decimal_text(u32::from(*self), &mut [0; 3]))
     }
 }
 
@@ -192,7 +238,7 @@ impl uDebug for u16 {
 
     #[inline(always)]
     fn fmt<W: uWrite>(&self, f: &mut Formatter<W>) -> Result<(), W::Error> {
-        f.write_str(decimal_text(u32::from(*self), &mut [0; 16]))
+        f.write_str(decimal_text(u32::from(*self), &mut [0; 5]))
     }
 }
 
@@ -201,7 +247,7 @@ impl uDebug for u32 {
 
     #[inline(always)]
     fn fmt<W: uWrite>(&self, f: &mut Formatter<W>) -> Result<(), W::Error> {
-        f.write_str(decimal_text(*self, &mut [0; 16]))
+        f.write_str(decimal_text(*self, &mut [0; 10]))
     }
 }
 
@@ -210,7 +256,7 @@ impl uDebug for u64 {
 
     #[inline(always)]
     fn fmt<W: uWrite>(&self, f: &mut Formatter<W>) -> Result<(), W::Error> {
-        f.write_str(decimal_text(*self, &mut [0; 32]))
+        f.write_str(text_of_u64(*self, &mut [0; 20]))
     }
 }
 
@@ -218,7 +264,7 @@ impl uDebug for u128 {
     ghost document = { λ n. leaf (decimal (pos n)) };
 
     fn fmt<W: uWrite>(&self, f: &mut Formatter<W>) -> Result<(), W::Error> {
-        f.write_str(decimal_text(*self, &mut [0; 64]))
+        f.write_str(text_of_u128(*self, &mut [0; 39]))
     }
 }
 
@@ -227,6 +273,6 @@ impl uDebug for usize {
 
     #[inline(always)]
     fn fmt<W: uWrite>(&self, f: &mut Formatter<W>) -> Result<(), W::Error> {
-        f.write_str(decimal_text(*self as u64, &mut [0; 32]))
+        f.write_str(text_of_u64(*self as u64, &mut [0; 20]))
     }
 }

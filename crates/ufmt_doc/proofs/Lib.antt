@@ -1,10 +1,12 @@
-pub mod ClosedBlocks
 pub mod FieldRows
+pub mod FieldSizes
 pub mod FieldTexts
 pub mod GrowingDocuments
-pub mod LastPairs
+pub mod LastEntries
+pub mod NamedStructs
 pub mod NormalForms
 pub mod OpenBlocks
+pub mod PairValues
 pub mod ReadForms
 pub mod StructNames
 pub mod Trees

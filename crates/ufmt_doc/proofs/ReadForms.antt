@@ -36,14 +36,8 @@ module _ (class : Class) where
   read_again view mode (Err e) input d one is read = tt
 
   -- a text that was converted is that of a document in normal form
-  converted_form : (s : Setting) (to : Document → List ℕ) (input text : List ℕ) → IsConverted class (layout s) to input text
+  pub converted_form : (s : Setting) (to : Document → List ℕ) (input text : List ℕ) → IsConverted class (layout s) to input text
       → (d : Document) × IsNormalForm class (layout s) input d
   converted_form s to input text is =
       let some = is.some in
       (normal some.0, (IsDocument-normal class some.0 some.1, normal-normal some.0, layout-normal s some.0 ∙ some.2))
-
-  -- so it is, whatever is made of the text
-  pub converted_has_form : (s : Setting) (to : Document → List ℕ) (input text : List ℕ) → IsConverted class (layout s) to input text
-      → {A E : Type 0} (outcome : Result A E) → IfOk outcome (λ _. (d : Document) × IsNormalForm class (layout s) input d)
-  converted_has_form s to input text is (Ok again) = converted_form s to input text is
-  converted_has_form s to input text is (Err e) = tt

@@ -30,3 +30,6 @@ module _ {N : Type 0} (shown : N → List ℕ × Bool) where
 
   pub tree_document-TupleOf : (name fields : _) → tree_document shown (TupleOf name fields) ≡ tuple_of (string_bytes name) (documents (map (tree_document shown) fields.items))
   tree_document-TupleOf name fields = ap (tree_document shown) (sym (rolls-TupleOf name fields)) ∙ fold-roll-Tree N Document (document_step shown) _
+
+-- the document of each variant
+pub ruleset trees = (tree_document-Leaf, tree_document-Listed, tree_document-SetOf, tree_document-MapOf, tree_document-StructOf, tree_document-TupleOf)

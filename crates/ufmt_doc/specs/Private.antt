@@ -5,6 +5,7 @@ use Rattle.ufmt.specs.Quoted.{escaped_bytes}
 use Rattle.ufmt_grammar.specs.declared.class.Class.{Class}
 use Rattle.ufmt.specs.Token.{IsBuilt, IsName, MayEndInDots}
 pub mod Growing
+pub mod OpenBlock
 
 -- built from names and leaves of the class, with blocks with entries nested at most n deep. `is_token` and `is_debug` test it with the depth that is left
 abbrev pub IsBuiltWithin : Class → ℕ → Document → Type 0

@@ -4,7 +4,7 @@ ghost use Rattle.ufmt.specs.Document.{Document};
 ghost use Rattle.ufmt.specs.Layout.{layout, setting};
 ghost use Rattle.ufmt.specs.Token.{IsDocument, normal};
 ghost use Rattle.ufmt_doc.specs.Doc.{debug_document, tree_document};
-ghost use Rattle.ufmt_scan.specs.Texts.{IsNormalForm, NoDocumentPrints};
+ghost use Rattle.ufmt_scan.specs.Texts.{IsConverted, IsNormalForm, NoDocumentPrints, other_mode};
 
 use crate::doc::{DebugDoc, StructName, Tree};
 use crate::reader::read_text;
@@ -15,41 +15,49 @@ use ufmt::{plain_text, pretty_text};
 use ufmt_scan::convert::{convert, other_mode};
 use ufmt_scan::error::ReadError;
 
-/// Reads a text of a document of the class, and prints the document in the same mode. This gives the same
-/// text. Fails with `NotText` if no document of the class has the text, and otherwise only with
-/// `OutOfMemory`.
+/// Reads a text of a document of the class, and prints the document in the same mode. Returns the document
+/// and its text, which is the input. Fails with `NotText` if no document of the class has the text, and
+/// otherwise only with `OutOfMemory`.
 pub fn text_again(
     alloc: Global,
     class: Class,
     mode: Mode,
     input: &[u8],
-) -> Result<String, ReadError>
-    ensures ok { IfOk result (λ text. string_bytes text ≡ input.now) }
-    ensures found { IfOk result (λ text.
-        (d : Document) × IsNormalForm class (layout (setting mode 0)) input.now d) }
+) -> Result<(DebugDoc, String), ReadError>
+    ensures ok { IfOk result (λ x. string_bytes x.1 ≡ input.now) }
+    ensures found { IfOk result (λ x.
+        IsNormalForm class (layout (setting mode 0)) input.now (debug_document x.0)) }
+    ensures printed { IfOk result (λ x.
+        string_bytes x.1 ≡ layout (setting mode 0) (debug_document x.0)) }
     ensures not_text { IsErrOf result ReadError.NotText
         → NoDocumentPrints class (layout (setting mode 0)) input.now }
 {
     let doc: DebugDoc = read_text(alloc, class, mode, input)?;
-    Ok(printed(alloc, mode, &doc)?)
+    let text = printed(alloc, mode, &doc)?;
+    Ok((doc, text))
 }
 
-/// Converts a text of a document of the class to the other mode and back. This gives the same text. Fails
-/// as `text_again` does.
+/// Converts a text of a document of the class to the other mode and back. Returns the other text, and the
+/// text that it is converted to, which is the input. Fails as `text_again` does.
 pub fn text_by_way_of_the_other(
     alloc: Global,
     class: Class,
     mode: Mode,
     input: &[u8],
-) -> Result<String, ReadError>
-    ensures ok { IfOk result (λ text. string_bytes text ≡ input.now) }
-    ensures found { IfOk result (λ text.
+) -> Result<(String, String), ReadError>
+    ensures ok { IfOk result (λ x. string_bytes x.1 ≡ input.now) }
+    ensures found { IfOk result (λ x.
         (d : Document) × IsNormalForm class (layout (setting mode 0)) input.now d) }
+    ensures other { IfOk result (λ x. IsConverted class (layout (setting mode 0))
+        (layout (setting (other_mode mode) 0)) input.now (string_bytes x.0)) }
+    ensures back { IfOk result (λ x. IsConverted class (layout (setting (other_mode mode) 0))
+        (layout (setting mode 0)) (string_bytes x.0) (string_bytes x.1)) }
     ensures not_text { IsErrOf result ReadError.NotText
         → NoDocumentPrints class (layout (setting mode 0)) input.now }
 {
     let other = convert(alloc, class, other_mode(mode), input)?;
-    convert(alloc, class, mode, other.as_bytes())
+    let again = convert(alloc, class, mode, other.as_bytes())?;
+    Ok((other, again))
 }
 
 /// Prints a document, and reads the text. This gives the normal form of a document of the class. Fails

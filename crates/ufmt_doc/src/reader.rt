@@ -1,15 +1,19 @@
 //! Reading a token document or a debug document from its text.
-ghost use Rattle.std.specs.Prelude.{IfOk, IsErrOf};
+ghost use Rattle.std.specs.Prelude.{IfOk, IsErrOf, IsTrue};
+ghost use Rattle.ufmt.specs.Token.{MayEndInDots};
 ghost use Rattle.ufmt.specs.Layout.{layout, plain_text, pretty_text, setting};
 ghost use Rattle.ufmt_doc.specs.Doc.{debug_document, doc_document, tree_document};
 ghost use Rattle.ufmt_grammar.specs.declared.class.Class.TheVariants.{Debug, Token};
 ghost use Rattle.ufmt_scan.specs.Texts.{IsNormalForm, NoDocumentPrints};
 
 mod document_sink;
+mod open_block;
 mod open_blocks;
+mod read_name;
 
-use crate::doc::{DebugDoc, Doc, StructName, Tree};
+use crate::doc::{DebugDoc, Doc, Tree};
 use document_sink::DocumentSink;
+use read_name::ReadName;
 use std::alloc::Global;
 use ufmt::class::Class;
 use ufmt::layout::Mode;
@@ -46,14 +50,15 @@ pub fn read_debug(alloc: Global, mode: Mode, text: &[u8]) -> Result<DebugDoc, Re
     read_text(alloc, Class::Debug, mode, text)
 }
 
-/// The document of the class in normal form that has the whole text. Debug documents are read with names
-/// that can say that a struct ends in dots: with others, such a text fails with `OutOfMemory`.
-pub(crate) fn read_text<N: StructName>(
+/// The document of the class in normal form that has the whole text. Names can say that a struct ends in
+/// dots if structs of the class may.
+pub(crate) fn read_text<N: ReadName>(
     alloc: Global,
     class: Class,
     mode: Mode,
     input: &[u8],
 ) -> Result<Tree<N>, ReadError>
+    requires { MayEndInDots class → IsTrue N.says_dots }
     ensures ok { IfOk result (λ doc. IsNormalForm class (layout (setting mode 0)) input.now
         (tree_document N.shown doc)) }
     ensures not_text { IsErrOf result ReadError.NotText

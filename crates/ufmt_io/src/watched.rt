@@ -1,10 +1,13 @@
 //! A reader or writer that notes whether it failed, and why.
-ghost use Rattle.std.specs.Prelude.{◌≡◌, ◌<◌, false, length, IfOk, IfSome, IsTrue, OnErr, OnOk, Some};
+ghost use Rattle.std.specs.Prelude.{◌≡◌, ◌<◌, [], false, length, IfOk, IfSome, IsTrue, Ok, OnErr, OnOk, Some};
 ghost use Rattle.std.specs.Option.{option_or};
 ghost use Rattle.std.specs.Io.{ReadsAtMost, WritesAtMost};
 ghost use Rattle.std.specs.Io.KnownBytes.{Keeps, ReadConsumes, WriteAppends};
-ghost use Rattle.ufmt_io.specs.Watched.{device_of, first_failure, has_failed, has_given_up};
+ghost use Rattle.ufmt_io.specs.Watched.{calls_of, device_of, first_failure, has_failed, has_given_up};
+ghost use Rattle.ufmt_io.specs.Watched.{Calls, FailsToFlush, FailsToRead, FailsToWrite, KeepsKind};
 
+use crate::call::Call;
+use crate::noted::Noted;
 use std::io;
 use std::io::{ErrorKind, Read, Write};
 
@@ -15,7 +18,7 @@ pub struct Failed;
 /// A reader or writer, the error of its first failure, and whether its caller gave up.
 #[derive(Drop)]
 pub struct Watched<D> {
-    inner: D,
+    inner: Noted<D>,
     failure: Option<io::Error>,
     gave_up: bool,
 }
@@ -24,11 +27,12 @@ impl<D> Watched<D> {
     /// Watches a device. It has not failed yet.
     pub fn new(device: D) -> Self
         ensures device { device_of result ≡ device }
+        ensures uncalled { calls_of result ≡ [] }
         ensures works { has_failed result ≡ false }
         ensures goes_on { has_given_up result ≡ false }
     {
         Watched {
-            inner: device,
+            inner: Noted::new(device),
             failure: None,
             gave_up: false,
         }
@@ -38,7 +42,7 @@ impl<D> Watched<D> {
     pub fn device(&self) -> &D
         ensures { result.now ≡ device_of self.now }
     {
-        &self.inner
+        &self.inner.device
     }
 
     /// Returns whether a call has failed.
@@ -65,9 +69,11 @@ impl<D> Watched<D> {
     /// Notes a failure, without a call of the device. If it is the first, its kind is `Other`.
     pub fn give_up(&mut self)
         ensures device { device_of self.new ≡ device_of self.old }
+        ensures uncalled { calls_of self.new ≡ calls_of self.old }
         ensures noted { IsTrue (has_failed self.new) }
         ensures given_up { IsTrue (has_given_up self.new) }
         ensures first { IfSome (first_failure self.old) (λ error. first_failure self.new ≡ Some error) }
+        ensures kind { KeepsKind self.old self.new ErrorKind.Other }
     {
         self.gave_up = true;
         self.note(io::Error::from(ErrorKind::Other));
@@ -76,6 +82,7 @@ impl<D> Watched<D> {
     // Keeps the error, if it is the first.
     fn note(&mut self, error: io::Error)
         ensures device { device_of self.new ≡ device_of self.old }
+        ensures uncalled { calls_of self.new ≡ calls_of self.old }
         ensures goes_on { has_given_up self.new ≡ has_given_up self.old }
         ensures first { first_failure self.new ≡ option_or (first_failure self.old) (Some error) }
     {
@@ -84,6 +91,7 @@ impl<D> Watched<D> {
 
     fn fail(&mut self, error: io::Error) -> Failed
         ensures device { device_of self.new ≡ device_of self.old }
+        ensures uncalled { calls_of self.new ≡ calls_of self.old }
         ensures goes_on { has_given_up self.new ≡ has_given_up self.old }
         ensures first { first_failure self.new ≡ option_or (first_failure self.old) (Some error) }
     {
@@ -102,6 +110,9 @@ impl<D: Read> Watched<D> {
         ensures err { OnErr result (IsTrue (has_failed self.new)) }
         ensures goes_on { has_given_up self.new ≡ has_given_up self.old }
         ensures first { IfSome (first_failure self.old) (λ error. first_failure self.new ≡ Some error) }
+        ensures called { IfOk result (λ count. Calls self.old self.new (Call.Read (Ok count))) }
+        ensures kept { OnOk result (first_failure self.new ≡ first_failure self.old) }
+        ensures failed { OnErr result (FailsToRead self.old self.new) }
     {
         match self.inner.read(buffer) {
             Ok(count) => Ok(count),
@@ -122,6 +133,9 @@ impl<D: Write> Watched<D> {
         ensures err { OnErr result (IsTrue (has_failed self.new)) }
         ensures goes_on { has_given_up self.new ≡ has_given_up self.old }
         ensures first { IfSome (first_failure self.old) (λ error. first_failure self.new ≡ Some error) }
+        ensures called { IfOk result (λ count. Calls self.old self.new (Call.Write (Ok count))) }
+        ensures kept { OnOk result (first_failure self.new ≡ first_failure self.old) }
+        ensures failed { OnErr result (FailsToWrite self.old self.new bytes.now) }
     {
         match self.inner.write(bytes) {
             Ok(count) if count > 0 || bytes.is_empty() => Ok(count),
@@ -137,6 +151,9 @@ impl<D: Write> Watched<D> {
         ensures err { OnErr result (IsTrue (has_failed self.new)) }
         ensures goes_on { has_given_up self.new ≡ has_given_up self.old }
         ensures first { IfSome (first_failure self.old) (λ error. first_failure self.new ≡ Some error) }
+        ensures called { OnOk result (Calls self.old self.new (Call.Flush (Ok tt))) }
+        ensures kept { OnOk result (first_failure self.new ≡ first_failure self.old) }
+        ensures failed { OnErr result (FailsToFlush self.old self.new) }
     {
         match self.inner.flush() {
             Ok(()) => Ok(()),

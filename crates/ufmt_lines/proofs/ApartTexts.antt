@@ -6,7 +6,7 @@ use Rattle.ufmt.specs.Document.{Document}
 use Rattle.ufmt.specs.Bytes.{opening_brace, space}
 use Rattle.ufmt.specs.Leaves.{begins_with, is_name_byte, is_opening}
 use Rattle.ufmt_lines.proofs.ConvertedSteps.{convert, given_text, no_bracket, no_value, value_step}
-use Rattle.ufmt_lines.proofs.FirstBrackets.{FirstBracket, Without, first_bracket, without_append}
+use Rattle.ufmt_values.proofs.FirstBrackets.{FirstBracket, Without, first_bracket, without_append}
 use Rattle.ufmt_lines.proofs.ValueStarts.{Apart, could_be_later, from_bracket, start_after, start_is, start_later}
 use Rattle.ufmt_lines.specs.Values.{convert_from, if_pretty, stays, value_text}
 use Rattle.ufmt_values.specs.Values.{is_in_struct, value_from, value_start}

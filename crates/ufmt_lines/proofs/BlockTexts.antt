@@ -2,7 +2,7 @@
 use Rattle.std.proofs.Common.{◌≡◌, inr, ◌∙◌, refl, ap, sym, subst, ℕ, ◌≤◌, true, false, List, [], ◌∷◌, ◌++◌, codes, append_assoc, append-nil, is_some, arith}
 use Rattle.ufmt.specs.Bytes.{closing_brace, closing_bracket, closing_parenthesis, line_feed, opening_brace, opening_bracket, opening_parenthesis, space}
 use Rattle.ufmt.specs.Document.{Document, leaf, joined, list_of, set_of, map_of, struct_of, non_exhaustive_of, tuple_of, pretty_part, Documents, no_documents, first_document, Pairs, no_pairs, first_pair, Fields, no_fields, first_field}
-use Rattle.ufmt.specs.Layout.{frame, setting, inside, indentation, lead, ending, trail, next, block_tail, layout, tuple_kind, line_start, if_any, brace_space, lone_comma, texts, pair_texts, field_texts}
+use Rattle.ufmt.specs.Layout.{frame, setting, inside, indentation, lead, ending, trail, next, block_tail, layout, line_start, if_any, brace_space, lone_comma, texts, pair_texts, field_texts}
 use Rattle.ufmt.specs.Leaves.{IsDebugWord, begins_with, is_ender, is_opening}
 use Rattle.ufmt.specs.Token.{IsBuilt}
 use Rattle.ufmt_core.specs.declared.layout.Count.{Count}
@@ -21,13 +21,12 @@ use Rattle.ufmt_grammar.proofs.TextsBegin.{document_begins}
 use Rattle.ufmt_grammar.specs.Reading.{last_dots}
 use Rattle.ufmt_grammar.specs.declared.class.Class.TheVariants.{Debug}
 use Rattle.ufmt_lines.proofs.FieldsAhead.{document_field, field_there}
-use Rattle.ufmt_lines.proofs.FirstBrackets.{Without}
-use Rattle.ufmt_lines.proofs.Heads.{BeginsSolid, document_solid, name_solid, name_without_enders, name_without_openings, named_without_enders, named_without_openings, solid_append, solid_in_line}
+use Rattle.ufmt_values.proofs.FirstBrackets.{Without}
+use Rattle.ufmt_lines.proofs.Heads.{BeginsSolid, document_solid, name_solid, solid_append, solid_in_line}
+use Rattle.ufmt_values.proofs.NameBrackets.{name_without_enders, name_without_openings, named_without_enders, named_without_openings}
 use Rattle.ufmt_lines.proofs.SteepTexts.{BeginsLine, begins_dotted, begins_tail, InLine, IsSteep, Steep, document_steep, documents_steep, fields_steep, in_line, name_steep, pairs_steep, steep_dotted, steep_keyed, steep_tail, steep_trail, trail_in_line}
 use Rattle.ufmt_lines.proofs.ValueStarts.{Apart}
-use Rattle.ufmt_scan.specs.Fronts.{begins_with_field, has_entries, opened_after, opened_by}
-use Rattle.ufmt_scan.specs.Scan.{TextEvent, events_of, events_of_entries, events_of_fields, events_of_pairs, tail_events}
-use Rattle.ufmt_scan.specs.declared.scan.event.Event.TheVariants.{Close, Colon, Dots, Empty, FieldName, Leaf, Next, OnlyDots, Open}
+use Rattle.ufmt_scan.specs.Fronts.{begins_with_field}
 
 -- ---- how blocks end
 
@@ -127,7 +126,7 @@ keyed_assoc : (a b c u : List ℕ) → ((a ++ (codes ": " ++ b)) ++ c) ++ u ≡ 
 keyed_assoc a b c u = simp append_assoc
 
 -- no space is at the front of such a text
-solid_no_space : {a : List ℕ} → BeginsSolid a → (u : List ℕ) → begins_with space (a ++ u) ≡ false
+pub solid_no_space : {a : List ℕ} → BeginsSolid a → (u : List ℕ) → begins_with space (a ++ u) ≡ false
 solid_no_space h u = ap (λ t. begins_with space (t ++ u)) h.is ∙ h.solid.no_space
 
 first_depth : 1 ≤ 1
@@ -322,58 +321,3 @@ block_texts (tuple_of name no_documents) h block = absurd block
 block_texts (tuple_of [] (first_document d ds)) h block = tuple_texts d ds h
 block_texts (tuple_of (c ∷ name) (first_document d ds)) h block = named_texts c name d ds h
 block_texts (pretty_part d) h block = absurd block
-
--- a document with entries is such a block
-pub entries_block : (d : Document) → has_entries d ≡ true → IsBlock d
-entries_block (leaf text) h = absurd (cc)
-entries_block (joined ds) h = absurd (cc)
-entries_block (list_of no_documents) h = absurd (cc)
-entries_block (list_of (first_document d ds)) h = tt
-entries_block (set_of no_documents) h = absurd (cc)
-entries_block (set_of (first_document d ds)) h = tt
-entries_block (map_of no_pairs) h = absurd (cc)
-entries_block (map_of (first_pair key value ps)) h = tt
-entries_block (struct_of name no_fields) h = absurd (cc)
-entries_block (struct_of name (first_field field value fs)) h = tt
-entries_block (non_exhaustive_of name no_fields) h = absurd (cc)
-entries_block (non_exhaustive_of name (first_field field value fs)) h = tt
-entries_block (tuple_of name no_documents) h = absurd (cc)
-entries_block (tuple_of name (first_document d ds)) h = tt
-entries_block (pretty_part d) h = absurd (cc)
-
-opened_by_any : (e : TextEvent) → opened_by true e ≡ true
-opened_by_any (Leaf text) = refl
-opened_by_any (Empty kind) = refl
-opened_by_any (OnlyDots name) = refl
-opened_by_any (Open kind name) = refl
-opened_by_any (FieldName name) = refl
-opened_by_any Colon = refl
-opened_by_any Next = refl
-opened_by_any (Close kind count) = refl
-opened_by_any Dots = refl
-
--- a block that has opened stays so
-opened_before : (es : List TextEvent) → opened_after true es ≡ true
-opened_before [] = refl
-opened_before (e ∷ es) = ap (λ b. opened_after b es) (opened_by_any e) ∙ opened_before es
-
-opened_first : (kind : Kind) (name : List ℕ) (es : List TextEvent) → opened_after false (Open kind name ∷ es) ≡ true
-opened_first kind name es = opened_before es
-
--- and each such block has entries
-pub block_entries : (d : Document) → IsBlock d → has_entries d ≡ true
-block_entries (leaf text) h = absurd h
-block_entries (joined ds) h = absurd h
-block_entries (list_of no_documents) h = absurd h
-block_entries (list_of (first_document d ds)) h = opened_first Brackets [] (events_of d ++ tail_events Brackets One false (events_of_entries ds))
-block_entries (set_of no_documents) h = absurd h
-block_entries (set_of (first_document d ds)) h = opened_first Braces [] (events_of d ++ tail_events Braces One false (events_of_entries ds))
-block_entries (map_of no_pairs) h = absurd h
-block_entries (map_of (first_pair key value ps)) h = opened_first Braces [] ((events_of key ++ (Colon ∷ events_of value)) ++ tail_events Braces One false (events_of_pairs ps))
-block_entries (struct_of name no_fields) h = absurd h
-block_entries (struct_of name (first_field field value fs)) h = opened_first Struct name ((FieldName field ∷ events_of value) ++ tail_events Struct One false (events_of_fields fs))
-block_entries (non_exhaustive_of name no_fields) h = absurd h
-block_entries (non_exhaustive_of name (first_field field value fs)) h = opened_first Struct name ((FieldName field ∷ events_of value) ++ tail_events Struct One true (events_of_fields fs))
-block_entries (tuple_of name no_documents) h = absurd h
-block_entries (tuple_of name (first_document d ds)) h = opened_first (tuple_kind name) name (events_of d ++ tail_events (tuple_kind name) One false (events_of_entries ds))
-block_entries (pretty_part d) h = absurd h

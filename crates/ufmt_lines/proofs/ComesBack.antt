@@ -12,11 +12,12 @@ use Rattle.ufmt_grammar.proofs.ReadingComplete.{block_read, pretty_no_address}
 use Rattle.ufmt_grammar.proofs.ReadingSound.{Found, read_sound}
 use Rattle.ufmt_grammar.specs.declared.class.Class.TheVariants.{Debug}
 use Rattle.ufmt_lines.proofs.ApartTexts.{converted_apart}
-use Rattle.ufmt_lines.proofs.BlockTexts.{BlockTexts, block_texts, entries_block}
+use Rattle.ufmt_lines.proofs.BlockTexts.{BlockTexts, block_texts}
+use Rattle.ufmt_values.proofs.Blocks.{entries_block}
 use Rattle.ufmt_lines.proofs.ConvertedSteps.{convert, no_bracket, no_value, value_step, value_whole}
-use Rattle.ufmt_lines.proofs.FirstBrackets.{FirstBracket, Without, first_bracket, one_first, without_append, without_drop}
+use Rattle.ufmt_values.proofs.FirstBrackets.{FirstBracket, Without, first_bracket, one_first, without_append, without_drop}
 use Rattle.ufmt_values.proofs.FoundValues.{front_value, value_entries, value_read}
-use Rattle.ufmt_lines.proofs.Heads.{opening_no_name, opening_no_space}
+use Rattle.ufmt_values.proofs.NameBrackets.{opening_no_name, opening_no_space}
 use Rattle.ufmt_lines.proofs.PrettyInside.{first_line, same_struct, was_there}
 use Rattle.ufmt_lines.proofs.StillTexts.{Still, block_of, cut_assoc, still_at, still_rest, still_same}
 use Rattle.ufmt_lines.proofs.ValueStarts.{Apart, could_be_is, from_bracket, start_after, start_same}

@@ -9,7 +9,7 @@ use Rattle.ufmt_grammar.proofs.ReadingSound.{Found, read_sound}
 use Rattle.ufmt_grammar.proofs.ReadingTurns.{read_takes}
 use Rattle.ufmt_grammar.specs.declared.class.Class.TheVariants.{Debug}
 use Rattle.ufmt_lines.proofs.Conversions.{bracket_stays, rest_stays, value_ends}
-use Rattle.ufmt_lines.proofs.FirstBrackets.{FirstBracket, Without, before_first, before_none, first_bracket}
+use Rattle.ufmt_values.proofs.FirstBrackets.{FirstBracket, Without, before_first, before_none, first_bracket}
 use Rattle.ufmt_values.proofs.FoundValues.{value_read}
 use Rattle.ufmt_lines.proofs.Rests.{rest_converted}
 use Rattle.ufmt_lines.proofs.ValueStarts.{from_bracket, start_after, start_is, start_within}

@@ -13,9 +13,10 @@ use Rattle.ufmt_grammar.proofs.NoStarts.{name_begins, name_step}
 use Rattle.ufmt_grammar.proofs.Parsing.{same_parts, strip_found}
 use Rattle.ufmt_grammar.specs.Reading.{after_front, after_leaf, choose, front_of, if_name, is_name, is_whole, leaf_from, read_name, strip}
 use Rattle.ufmt_grammar.specs.declared.class.Class.TheVariants.{Debug}
-use Rattle.ufmt_lines.proofs.FirstBrackets.{Without, front_before, passes_not, without_append}
+use Rattle.ufmt_values.proofs.FirstBrackets.{Without, front_before, passes_not, without_append}
 use Rattle.ufmt_lines.proofs.FoundValues.{some_from}
-use Rattle.ufmt_lines.proofs.Heads.{leaf_or_head, name_without_openings}
+use Rattle.ufmt_lines.proofs.Heads.{leaf_or_head}
+use Rattle.ufmt_values.proofs.NameBrackets.{name_without_openings}
 use Rattle.ufmt_values.specs.Values.{is_in_struct}
 use Rattle.ufmt_scan.specs.Fronts.{begins_with_field}
 

@@ -1,13 +1,8 @@
--- How long the first line is, by what a search for its end found.
-use Rattle.std.proofs.Common.{◌≡◌, ◌∙◌, refl, ap, ℕ, suc, cond, List, [], ◌∷◌, Option}
+-- How long the first line is, in the words of a search.
+use Rattle.std.proofs.Common.{◌≡◌, refl, ap, ℕ, cond, List, arith}
+use Rattle.std.proofs.lemmas.List.Recursion.{is_position_or_len}
+use Rattle.std.specs.List.{position_or_len}
 use Rattle.ufmt_lines.specs.Private.LineLen.{is_line_feed, line_len}
-use Rattle.memchr.specs.Find.{IsFirstByte}
-use Rattle.ufmt_values.proofs.FirstBytes.{before, before_found, found_at}
 
-pub line_feeds_before : (text : List ℕ) → line_len text ≡ before is_line_feed text
-line_feeds_before [] = refl
-line_feeds_before (c ∷ t) = ap (λ n. cond (is_line_feed c) 0 (suc n)) (line_feeds_before t)
-
--- what was found, or the end, is where they come
-pub line_feed_found : (text : List ℕ) (r : Option ℕ) → IsFirstByte is_line_feed text r → line_len text ≡ found_at text r
-line_feed_found text r found = line_feeds_before text ∙ before_found is_line_feed text r found
+pub line_feeds_before : (text : List ℕ) → line_len text ≡ position_or_len is_line_feed text
+line_feeds_before = is_position_or_len line_len is_line_feed refl (λ c t. ap (cond (is_line_feed c) 0) (omega arith))

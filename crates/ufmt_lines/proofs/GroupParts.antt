@@ -8,7 +8,7 @@ use Rattle.std.proofs.lemmas.List.Elements.{All-head, All-tail}
 use Rattle.std.specs.Prelude.{nat_le, nat_lt}
 use Rattle.ufmt.specs.Bytes.{line_feed, opening_brace, space}
 use Rattle.ufmt.specs.Leaves.{begins_with, is_ender, is_name_byte, is_opening}
-use Rattle.ufmt_lines.proofs.Heads.{name_no_ender, opening_no_ender}
+use Rattle.ufmt_values.proofs.NameBrackets.{name_no_ender, opening_no_ender}
 use Rattle.ufmt_lines.proofs.LineEnds.{front_in_line, front_indented, opens_long, rest_ended, word_within}
 use Rattle.ufmt_lines.proofs.PlainCuts.{BeginsAnew, Parts, Turns}
 use Rattle.ufmt_lines.proofs.PrettyInside.{last_of, last_same, two_fronts}

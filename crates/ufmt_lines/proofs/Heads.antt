@@ -1,21 +1,21 @@
 -- How the texts of documents begin: with a leaf, or with a bracket or a name and a bracket, in each mode alike.
-use Rattle.std.proofs.Common.{◌≡◌, ◌≢◌, ◌⊎◌, inl, inr, ◌∙◌, refl, ap, sym, subst, ℕ, ◌==◌, ◌||◌, Bool, true, false, List, [], ◌∷◌, ◌++◌, Some, codes, append_assoc, append-nil, get_or, eqb-true, arith}
+use Rattle.std.proofs.Common.{◌≡◌, ◌≢◌, ◌⊎◌, inl, inr, ◌∙◌, refl, ap, sym, subst, ℕ, ◌==◌, Bool, true, false, List, [], ◌∷◌, ◌++◌, Some, codes, append_assoc, append-nil, get_or, eqb-true, arith}
 use Rattle.ufmt.specs.Bytes.{line_feed, opening_brace, opening_bracket, opening_parenthesis, space}
 use Rattle.ufmt.specs.Document.{Document, leaf, joined, list_of, set_of, map_of, struct_of, non_exhaustive_of, tuple_of, pretty_part, no_documents, first_document, no_fields, first_field}
 use Rattle.ufmt.specs.Layout.{frame, inside, new_line, brace_space, trail, block_tail, layout, texts, pair_texts, field_texts}
-use Rattle.ufmt.specs.Leaves.{IsDebugLeaf, IsDebugWord, has_name_bytes, is_ender, is_name_byte, is_opening, Place, beginning, place_after}
+use Rattle.ufmt.specs.Leaves.{IsDebugLeaf, is_ender, is_opening, Place, beginning, place_after}
 use Rattle.ufmt.specs.Token.{IsName, IsBuilt}
 use Rattle.ufmt_core.specs.declared.layout.Count.TheVariants.{Zero, One}
 use Rattle.ufmt_core.specs.declared.layout.Kind.TheVariants.{Brackets, Braces, Struct, Tuple, Unnamed}
 use Rattle.ufmt_core.specs.declared.layout.Setting.{Setting}
 use Rattle.ufmt_grammar.proofs.ClassLeaves.{name_some}
 use Rattle.ufmt_grammar.proofs.ClassLines.{IsBuilt-HasNoLineFeed}
-use Rattle.ufmt_grammar.proofs.DebugLeaves.{both, leaf_no_ender}
+use Rattle.ufmt_grammar.proofs.DebugLeaves.{leaf_no_ender}
 use Rattle.ufmt_grammar.proofs.DottedStructs.{rest_text, dotted_layout}
-use Rattle.ufmt_grammar.proofs.ReadingWords.{each_ender}
 use Rattle.ufmt_grammar.specs.Reading.{last_dots}
 use Rattle.ufmt_grammar.specs.declared.class.Class.TheVariants.{Debug}
-use Rattle.ufmt_lines.proofs.FirstBrackets.{Without, without_append}
+use Rattle.ufmt_values.proofs.FirstBrackets.{Without}
+use Rattle.ufmt_values.proofs.NameBrackets.{name_without_openings, named_without_openings}
 use Rattle.ufmt_lines.proofs.SteepTexts.{InLine}
 
 -- ---- first bytes
@@ -82,62 +82,6 @@ document_solid i (tuple_of [] (first_document d ds)) h = record { first = openin
 document_solid i (tuple_of (c ∷ name) (first_document d ds)) h = solid_append (name_solid (c ∷ name) h.0) _
 document_solid i (non_exhaustive_of name fs) h = solid_append (name_solid name h.1) _
 document_solid i (pretty_part d) h = absurd h
-
--- ---- bytes of names
-
--- a property of each opening bracket
-each_opening : (P : ℕ → Type 0) → P opening_parenthesis → P opening_bracket → P opening_brace → (c : ℕ) → is_opening c ≡ true → P c
-each_opening P parenthesis bracket brace c h = go (c == opening_parenthesis) (c == opening_bracket) (c == opening_brace) refl refl refl h
-  where
-    go : (p q r : Bool) → (c == opening_parenthesis) ≡ p → (c == opening_bracket) ≡ q → (c == opening_brace) ≡ r → p || q || r ≡ true → P c
-    go true q r e f g k = subst P (sym (eqb-true c opening_parenthesis e)) parenthesis
-    go false true r e f g k = subst P (sym (eqb-true c opening_bracket f)) bracket
-    go false false true e f g k = subst P (sym (eqb-true c opening_brace g)) brace
-    go false false false e f g k = absurd (cc)
-
--- an opening bracket is no name's byte, and no space
-pub opening_no_name : (c : ℕ) → is_opening c ≡ true → is_name_byte c ≡ false
-opening_no_name c h = each_opening (λ b. is_name_byte b ≡ false) refl refl refl c h
-
-pub opening_no_space : (c : ℕ) → is_opening c ≡ true → (c == space) ≡ false
-opening_no_space c h = each_opening (λ b. (b == space) ≡ false) refl refl refl c h
-
--- and no ender
-pub opening_no_ender : (c : ℕ) → is_opening c ≡ true → is_ender c ≡ false
-opening_no_ender c h = each_opening (λ b. is_ender b ≡ false) refl refl refl c h
-
--- no name has an opening bracket
-pub name_no_opening : (c : ℕ) → is_name_byte c ≡ true → is_opening c ≡ false
-name_no_opening c h = go (is_opening c) refl
-  where
-    go : (b : Bool) → is_opening c ≡ b → is_opening c ≡ false
-    go false e = e
-    go true e = let none = opening_no_name c e in absurd (cc (none, h))
-
--- and none has an ender
-pub name_no_ender : (c : ℕ) → is_name_byte c ≡ true → is_ender c ≡ false
-name_no_ender c h = go (is_ender c) refl
-  where
-    go : (b : Bool) → is_ender c ≡ b → is_ender c ≡ false
-    go false e = e
-    go true e = let none = each_ender (λ b. is_name_byte b ≡ false) refl refl refl refl c e in absurd (cc (none, h))
-
-name_bytes_without : (test : ℕ → Bool) → ((c : ℕ) → is_name_byte c ≡ true → test c ≡ false) → (w : List ℕ) → has_name_bytes w ≡ true → Without test w
-name_bytes_without test none [] h = tt
-name_bytes_without test none (c ∷ w) h = let parts = both (is_name_byte c) (has_name_bytes w) h in (none c parts.0, name_bytes_without test none w parts.1)
-
-pub name_without_openings : (w : List ℕ) → IsDebugWord w → Without is_opening w
-name_without_openings w h = name_bytes_without is_opening name_no_opening w h.bytes
-
-pub name_without_enders : (w : List ℕ) → IsDebugWord w → Without is_ender w
-name_without_enders w h = name_bytes_without is_ender name_no_ender w h.bytes
-
--- nor has a name and a space
-pub named_without_openings : (w : List ℕ) → IsDebugWord w → Without is_opening (w ++ space ∷ [])
-named_without_openings w h = without_append is_opening w (space ∷ []) (name_without_openings w h) (refl, tt)
-
-pub named_without_enders : (w : List ℕ) → IsDebugWord w → Without is_ender (w ++ space ∷ [])
-named_without_enders w h = without_append is_ender w (space ∷ []) (name_without_enders w h) (refl, tt)
 
 -- ---- leaves and heads
 

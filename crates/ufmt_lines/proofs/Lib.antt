@@ -14,7 +14,6 @@ pub mod Conversions
 pub mod WorkedGroups
 pub mod Rests
 pub mod SteepTexts
-pub mod FirstBrackets
 pub mod ValueStarts
 pub mod Heads
 pub mod FieldsAhead
@@ -35,3 +34,6 @@ pub mod Words
 pub mod Unclosed
 pub mod LinesTogether
 pub mod OpenBlocks
+pub mod LeafCounts
+pub mod LongLists
+pub mod LongValues

@@ -9,7 +9,7 @@ use Rattle.ufmt.specs.Leaves.{begins_with, is_opening}
 use Rattle.ufmt_core.specs.declared.layout.Mode.TheVariants.{Plain, Pretty}
 use Rattle.ufmt_lines.proofs.ApartTexts.{converted_apart}
 use Rattle.ufmt_lines.proofs.ConvertedSteps.{convert, enough, found_there, no_bracket, no_value, value_shorter, value_step}
-use Rattle.ufmt_lines.proofs.FirstBrackets.{FirstBracket, Without, first_bracket, without_after, without_append, without_drop}
+use Rattle.ufmt_values.proofs.FirstBrackets.{FirstBracket, Without, first_bracket, without_after, without_append, without_drop}
 use Rattle.ufmt_lines.proofs.ReadLines.{field_in_line, no_value_in_line, value_in_line}
 use Rattle.ufmt_lines.proofs.ValueStarts.{Apart, could_be_is, from_bracket, start_after, start_within}
 use Rattle.ufmt_lines.specs.OutputLaws.{pretty_with}

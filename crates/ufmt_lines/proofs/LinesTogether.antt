@@ -1,10 +1,9 @@
 -- Lines that are converted together: the output for some lines, each a group, and for those that follow.
-use Rattle.std.proofs.Common.{◌≡◌, ◌≢◌, inl, inr, ◌∙◌, refl, ap, sym, subst, ℕ, zero, suc, ◌+◌, ◌-◌, ◌<◌, ◌≤◌, ◌==◌, Bool, true, false, cond, List, [], ◌∷◌, ◌++◌, append_assoc, append-nil, Some, None, drop, take, length, length-drop, eqb-true, arith}
+use Rattle.std.proofs.Common.{◌≡◌, ◌≢◌, inl, inr, ◌∙◌, refl, ap, sym, subst, ℕ, zero, suc, ◌+◌, ◌-◌, ◌<◌, ◌≤◌, ◌==◌, not, Bool, true, false, cond, List, [], ◌∷◌, ◌++◌, append_assoc, append-nil, drop, get_or, slice_index, take, length, length-drop, eqb-true, arith}
 use Rattle.std.proofs.lemmas.Bool.{eqb-false}
-use Rattle.std.proofs.lemmas.List.{append_cancel_right, drop_all, length-take-le, take-append-drop}
-use Rattle.std.proofs.lemmas.List.Elements.{All-cons, All-head, All-nil, All-tail}
-use Rattle.std.specs.List.{onto_first}
-use Rattle.memchr.specs.Find.{IsLastByte, Nowhere, Passes, is_byte}
+use Rattle.std.proofs.lemmas.List.{append_cancel_right, drop_all, length-take-le, take-append-drop, take_more}
+use Rattle.std.proofs.lemmas.List.Elements.{All-head, All-tail, All-weaker}
+use Rattle.std.specs.List.{All, onto_first, suffix_len}
 use Rattle.ufmt.specs.Bytes.{line_feed}
 use Rattle.ufmt_core.specs.declared.layout.Mode.TheVariants.{Pretty}
 use Rattle.ufmt_lines.specs.declared.run.conversion.Conversion.{Conversion}
@@ -20,6 +19,7 @@ use Rattle.ufmt_lines.proofs.Groups.{pretty_groups}
 use Rattle.ufmt_lines.proofs.Rests.{rest_converted}
 use Rattle.ufmt_lines.proofs.Unclosed.{rest_converted as unclosed_stays}
 use Rattle.ufmt_values.specs.Unclosed.{HasNoMore}
+use Rattle.ufmt_values.proofs.Searches.{last_end, last_is_of_set, rest_has_none}
 use Rattle.ufmt_lines.proofs.WholeOutputs.{outputs_are_the_output}
 
 -- ---- whole lines
@@ -70,33 +70,29 @@ no_length (c ∷ text) none = let long = eqb-true (length (c ∷ text)) 0 none i
 
 -- ---- the last line feed
 
-nowhere_in_line : (t : List ℕ) → Nowhere (Passes (is_byte line_feed) t) 0 (length t) → IsInLine t
-nowhere_in_line [] none = All-nil (λ b. b ≢ line_feed)
-nowhere_in_line (c ∷ t) none = All-cons (λ b. b ≢ line_feed) c t (go (c == line_feed) refl) (nowhere_in_line t (λ j low high. none (suc j) (omega arith) (omega (arith, high))))
-  where
-    go : (x : Bool) → (c == line_feed) ≡ x → c ≢ line_feed
-    go true is = absurd (none 0 (omega arith) (omega arith) is)
-    go false is = eqb-false c line_feed is
+-- bytes that aren't line feeds are in one line
+in_line : (t : List ℕ) → All (λ b. (b == line_feed) ≡ false) t → IsInLine t
+in_line t none = All-weaker (λ b. (b == line_feed) ≡ false) (λ b. b ≢ line_feed) (λ b is. eqb-false b line_feed is) t none
 
-after_last : (t : List ℕ) (k : ℕ) → Nowhere (Passes (is_byte line_feed) t) k (length t) → IsInLine (drop k t)
-after_last t zero none = nowhere_in_line t none
-after_last [] (suc k) none = All-nil (λ b. b ≢ line_feed)
-after_last (c ∷ t) (suc k) none = after_last t k (λ j low high. none (suc j) (omega (arith, low)) (omega (arith, high)))
-
-up_to_last : (t : List ℕ) (k : ℕ) → k < length t → Passes (is_byte line_feed) t k → take (suc k) t ≡ take k t ++ line_feed ∷ []
-up_to_last [] k high is = absurd (omega (arith, high))
-up_to_last (c ∷ t) zero high is = ap (λ b. b ∷ []) (eqb-true c line_feed is)
-up_to_last (c ∷ t) (suc k) high is = ap (λ u. c ∷ u) (up_to_last t k (omega (arith, high)) is)
+-- the bytes up to the last line feed end a line
+up_to_last : (t : List ℕ) (end : ℕ) → end ≤ length t → (0 < end → (slice_index t (end - 1) == line_feed) ≡ true) → EndsLine (take end t)
+up_to_last t zero within last = inl refl
+up_to_last t (suc k) within last =
+    let next : k + 1 ≡ suc k = omega arith in
+    let before : suc k - 1 ≡ k = omega arith in
+    let byte = eqb-true (get_or t k 0) line_feed (ap (λ i. slice_index t i == line_feed) (sym before) ∙ last (omega arith)) in
+    inr (take k t, ap (λ n. take n t) (sym next) ∙ take_more t k 0 (omega (arith, within)) ∙ ap (λ c. take k t ++ c ∷ []) byte)
 
 -- a text is cut after its last line feed
-pub cut_at_last : (t : List ℕ) (k : ℕ) → IsLastByte (is_byte line_feed) t (Some k) → (t ≡ take (k + 1) t ++ drop (k + 1) t) × EndsLine (take (k + 1) t) × IsInLine (drop (k + 1) t)
-cut_at_last t k found =
-    let next : k + 1 ≡ suc k = omega arith in
-    (sym (take-append-drop (k + 1) t), inr (take k t, ap (λ n. take n t) next ∙ up_to_last t k found.0.high found.1), after_last t (k + 1) found.0.after)
-
--- or has none
-pub no_last : (t : List ℕ) → IsLastByte (is_byte line_feed) t None → IsInLine t
-no_last t found = nowhere_in_line t found
+pub cut_at_last : (t : List ℕ) (end : ℕ) → end ≡ length t - suffix_len (λ b. not (b == line_feed)) t
+    → (t ≡ take end t ++ drop end t) × EndsLine (take end t) × IsInLine (drop end t)
+cut_at_last t end is =
+    let least = last_end (λ b. b == line_feed) t in
+    rw is (
+      sym (take-append-drop least t),
+      up_to_last t least (omega arith) (last_is_of_set (λ b. b == line_feed) t),
+      in_line (drop least t) (rest_has_none (λ b. b == line_feed) t),
+    )
 
 -- ---- lines are groups
 

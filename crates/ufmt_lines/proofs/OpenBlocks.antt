@@ -24,9 +24,9 @@ use Rattle.ufmt_grammar.proofs.ReadingSound.{read_sound}
 use Rattle.ufmt_grammar.proofs.ReadingWords.{each_ender}
 use Rattle.ufmt_grammar.proofs.TextsBegin.{document_begins}
 use Rattle.ufmt_grammar.specs.declared.class.Class.TheVariants.{Debug}
-use Rattle.ufmt_lines.proofs.BlockTexts.{block_entries, entries_block}
-use Rattle.ufmt_lines.proofs.FirstBrackets.{Without, before_first}
-use Rattle.ufmt_lines.proofs.Heads.{name_no_opening, name_without_openings, named_without_openings}
+use Rattle.ufmt_values.proofs.Blocks.{block_entries, entries_block}
+use Rattle.ufmt_values.proofs.FirstBrackets.{Without, before_first}
+use Rattle.ufmt_values.proofs.NameBrackets.{name_no_opening, name_without_openings, named_without_openings}
 use Rattle.ufmt_lines.specs.Private.OpenBlocks.{AreBarren, AreEntries, Entries, IsReached, begins_block, begins_fields, first_entry, has_entry, is_separated}
 use Rattle.ufmt_scan.specs.Fronts.{IsFront, read_front}
 use Rattle.ufmt_scan.specs.declared.text.FrontText.{FrontText}

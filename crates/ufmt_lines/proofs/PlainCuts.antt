@@ -11,10 +11,11 @@ use Rattle.ufmt_grammar.proofs.ReadingSound.{Found, read_sound}
 use Rattle.ufmt_grammar.specs.Reading.{choose, strip}
 use Rattle.ufmt_grammar.specs.declared.class.Class.TheVariants.{Debug}
 use Rattle.ufmt_lines.proofs.ApartTexts.{converted_after}
-use Rattle.ufmt_lines.proofs.BlockTexts.{BlockTexts, block_texts, entries_block}
+use Rattle.ufmt_lines.proofs.BlockTexts.{BlockTexts, block_texts}
+use Rattle.ufmt_values.proofs.Blocks.{entries_block}
 use Rattle.ufmt_lines.proofs.ComesBack.{pretty_read}
 use Rattle.ufmt_lines.proofs.ConvertedSteps.{convert, enough, no_bracket, no_value, value_shorter, value_step, value_whole}
-use Rattle.ufmt_lines.proofs.FirstBrackets.{FirstBracket, Without, first_bracket, one_first, without_drop}
+use Rattle.ufmt_values.proofs.FirstBrackets.{FirstBracket, Without, first_bracket, one_first, without_drop}
 use Rattle.ufmt_values.proofs.FoundValues.{value_entries, value_read}
 use Rattle.ufmt_lines.proofs.PrettyInside.{first_line, last_same, line_steep, two_fronts}
 use Rattle.ufmt_lines.proofs.ReadLines.{field_in_line}

@@ -17,7 +17,7 @@ use Rattle.ufmt_grammar.proofs.ClassLines.{IsBuilt-HasNoLineFeed}
 use Rattle.ufmt_grammar.proofs.DottedStructs.{rest_text, rest_text-false, dotted_layout}
 use Rattle.ufmt_grammar.specs.Reading.{last_dots}
 use Rattle.ufmt_grammar.specs.declared.class.Class.TheVariants.{Debug}
-use Rattle.ufmt_lines.proofs.FirstBrackets.{Without, without_append}
+use Rattle.ufmt_values.proofs.FirstBrackets.{Without, without_append}
 use Rattle.ufmt_lines.proofs.SteepTexts.{name_in_line}
 use Rattle.ufmt_lines.specs.Private.LineLen.{is_line_feed}
 

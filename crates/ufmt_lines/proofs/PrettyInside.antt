@@ -9,8 +9,8 @@ use Rattle.ufmt_core.specs.declared.layout.Mode.TheVariants.{Plain, Pretty}
 use Rattle.ufmt_lines.proofs.BlockTexts.{BlockTexts}
 use Rattle.ufmt_lines.proofs.ConvertedSteps.{convert, no_bracket, no_value, value_step, value_whole}
 use Rattle.ufmt_lines.proofs.FieldsAhead.{struct_by_front}
-use Rattle.ufmt_lines.proofs.FirstBrackets.{FirstBracket, Without, first_bracket, front_before, one_first, with_more, without_append}
-use Rattle.ufmt_lines.proofs.Heads.{opening_no_ender}
+use Rattle.ufmt_values.proofs.FirstBrackets.{FirstBracket, Without, first_bracket, front_before, one_first, with_more, without_append}
+use Rattle.ufmt_values.proofs.NameBrackets.{opening_no_ender}
 use Rattle.ufmt_lines.proofs.SteepTexts.{Steep, steep_after, steep_feed, steep_indentation}
 use Rattle.ufmt_lines.proofs.StillTexts.{block_of}
 use Rattle.ufmt_lines.proofs.ValueStarts.{from_bracket, start_after}

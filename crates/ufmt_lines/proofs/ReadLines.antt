@@ -14,9 +14,9 @@ use Rattle.ufmt_grammar.proofs.ReadingComplete.{NoAddressIn, block_read}
 use Rattle.ufmt_grammar.proofs.ReadingSound.{Found, read_sound}
 use Rattle.ufmt_grammar.specs.Reading.{Parse, after_leaf, is_whole, leaf_from, read, read_with}
 use Rattle.ufmt_grammar.specs.declared.class.Class.TheVariants.{Debug}
-use Rattle.ufmt_lines.proofs.BlockTexts.{entries_block}
+use Rattle.ufmt_values.proofs.Blocks.{entries_block}
 use Rattle.ufmt_lines.proofs.FieldsAhead.{field_found, field_there, same_answer}
-use Rattle.ufmt_lines.proofs.FirstBrackets.{front_before, without_append}
+use Rattle.ufmt_values.proofs.FirstBrackets.{front_before, without_append}
 use Rattle.ufmt_values.proofs.FoundValues.{front_value, value_entries, value_read}
 use Rattle.ufmt_lines.proofs.PlainLines.{name_line, plain_line}
 use Rattle.ufmt_lines.specs.Private.LineLen.{is_line_feed}

@@ -9,9 +9,10 @@ use Rattle.ufmt_core.specs.declared.layout.Mode.TheVariants.{Plain, Pretty}
 use Rattle.ufmt_grammar.proofs.ReadingSound.{read_sound}
 use Rattle.ufmt_grammar.specs.declared.class.Class.TheVariants.{Debug}
 use Rattle.ufmt_lines.proofs.ApartTexts.{converted_apart}
-use Rattle.ufmt_lines.proofs.BlockTexts.{BlockTexts, block_texts, entries_block}
+use Rattle.ufmt_lines.proofs.BlockTexts.{BlockTexts, block_texts}
+use Rattle.ufmt_values.proofs.Blocks.{entries_block}
 use Rattle.ufmt_lines.proofs.ConvertedSteps.{convert, no_bracket, no_value, value_step, value_whole}
-use Rattle.ufmt_lines.proofs.FirstBrackets.{FirstBracket, Without, first_bracket, without_append}
+use Rattle.ufmt_values.proofs.FirstBrackets.{FirstBracket, Without, first_bracket, without_append}
 use Rattle.ufmt_values.proofs.FoundValues.{value_entries, value_read}
 use Rattle.ufmt_lines.proofs.ValueStarts.{Apart, from_bracket, start_after}
 use Rattle.ufmt_lines.specs.OutputLaws.{plain_with}

@@ -11,7 +11,7 @@ use Rattle.ufmt_lines.proofs.ComesBack.{plain_texts_come_back}
 use Rattle.ufmt_lines.proofs.ConvertedSteps.{no_bracket}
 use Rattle.ufmt_lines.proofs.CutLines.{front_is_first, rest_is_open}
 use Rattle.ufmt_lines.proofs.Cuts.{outputs_any, outputs_cut, outputs_one}
-use Rattle.ufmt_lines.proofs.FirstBrackets.{Without}
+use Rattle.ufmt_values.proofs.FirstBrackets.{Without}
 use Rattle.ufmt_lines.proofs.GroupParts.{line_parts, word_parts}
 use Rattle.ufmt_lines.proofs.Groups.{groups_only, line_continues, line_ends, nothing_open, pieces_in}
 use Rattle.ufmt_lines.proofs.LineEnds.{rest_ended, word_within}

@@ -3,6 +3,7 @@ pub mod Output
 pub mod Arguments
 pub mod Fault
 pub mod Groups
+pub mod LongValues
 pub mod Private
 pub mod Texts
 pub mod Values

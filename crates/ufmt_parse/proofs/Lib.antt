@@ -9,6 +9,7 @@ pub mod NumberKeys
 pub mod OneWay
 pub mod OptionTexts
 pub mod Places
+mod SameErrors
 pub mod SortedKeys
 pub mod Truths
 pub use Rattle.ufmt_parser.proofs.Clauses

@@ -12,7 +12,7 @@ use Rattle.ufmt_grammar.proofs.OneWay.{plain_reads_one_way, pretty_reads_one_way
 use Rattle.ufmt_parser.specs.declared.parser.Fault.{Fault}
 use Rattle.ufmt_parser.specs.declared.parser.Fault.TheVariants.{NotText, OutOfMemory}
 use Rattle.ufmt_parser.specs.Taking.{Fits, Takes, setting_in}
-use Rattle.ufmt_parse_entries.proofs.ListedValues.{ListFits}
+use Rattle.ufmt_parser.proofs.ListedValues.{ListFits}
 
 -- in so many blocks, one text is that of one normal form
 pub one_way : (mode : Mode) (blocks : ℕ) (d e : Document) (u v : List ℕ) → Fits blocks d → Fits blocks e → MayFollow Debug u → MayFollow Debug v

@@ -15,9 +15,9 @@ use Rattle.ufmt_parser.specs.declared.parser.Fault.{Fault}
 use Rattle.ufmt_parser.specs.declared.parser.Fault.TheVariants.{NotText}
 use Rattle.ufmt_parser.specs.Blocks.{IsEntry, entry_documents}
 use Rattle.ufmt_parser.specs.Taking.{Fits, Takes, setting_in}
-use Rattle.ufmt_parse_entries.proofs.AscendingKeys.{ascend_too}
-use Rattle.ufmt_parse_entries.proofs.ListedPairs.{MapFits}
-use Rattle.ufmt_parse_entries.proofs.ListedValues.{SetFits}
+use Rattle.ufmt_parser.proofs.AscendingKeys.{ascend_too}
+use Rattle.ufmt_parser.proofs.ListedPairs.{MapFits}
+use Rattle.ufmt_parser.proofs.ListedValues.{SetFits}
 use Rattle.ufmt_parse.proofs.OneWay.{none_refused, unwanted_refused, wanted_taken}
 
 module _ {T : Type 0} (document : T → Document) where

@@ -26,10 +26,7 @@ impl<A: Copy> uParse<A> for Decimal {
 
     fn parse_from<M: ParseMode>(_alloc: A, parser: &mut Parser<'_, M>) -> Result<Decimal, Fault> {
         match split_fixed(parser.rest()) {
-            None => {
-                parser.needs(Need::Number);
-                Err(Fault::NotText)
-            }
+            None => Err(parser.refuse(Need::Number)),
             Some(((value, places), after)) => {
                 parser.skip_to(after);
                 Ok(Decimal { value, places })

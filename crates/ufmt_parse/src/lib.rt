@@ -40,13 +40,12 @@ pub use placed::PlacedError;
 pub use round_trips::{round_trip, round_trip_in};
 pub use std_impls::boxes::Boxed;
 pub use std_impls::vectors::Each;
-pub use ufmt_parse_fields::parse_unit;
-pub use ufmt_parse_structs::{
+pub use ufmt_parser::by_count::structs::{
     parse_struct_1, parse_struct_2, parse_struct_3, parse_struct_4, parse_struct_5, parse_struct_6,
     parse_struct_7, parse_struct_8, parse_struct_9, parse_struct_10, parse_struct_11,
     parse_struct_12,
 };
-pub use ufmt_parse_tuples::{
+pub use ufmt_parser::by_count::tuples::{
     parse_tuple_1, parse_tuple_2, parse_tuple_3, parse_tuple_4, parse_tuple_5, parse_tuple_6,
     parse_tuple_7, parse_tuple_8, parse_tuple_9, parse_tuple_10, parse_tuple_11, parse_tuple_12,
 };
@@ -54,5 +53,6 @@ pub use ufmt_parser::mode::{ParseMode, PlainText, PrettyText};
 pub use ufmt_parser::need::Need;
 pub use ufmt_parser::parser::{Fault, Parser};
 pub use ufmt_parser::parses_by::ParsesBy;
+pub use ufmt_parser::units::parse_unit;
 pub use uparse::{ByType, uParse};
 pub use whole_text::{parse, parse_pretty};

@@ -56,8 +56,7 @@ macro_rules! parse_variants {
 #[macro_export]
 macro_rules! parse_variant {
     ([$alloc:ident, $parser:ident, $name:ident]) => {{
-        $parser.needs($crate::Need::Name);
-        std::result::Result::Err($crate::Fault::NotText)
+        std::result::Result::Err($parser.refuse($crate::Need::Name))
     }};
     ([$alloc:ident, $parser:ident, $name:ident] $variant:ident { $($field:ident),+ $(,)? } $(, $($rest:tt)*)?) => {
         if $parser.is_named(stringify!($variant)) {

@@ -172,9 +172,6 @@ pub fn parse_float<F: Float, M: ParseMode>(parser: &mut Parser<'_, M>) -> Result
             parser.skip_to(taken.1);
             Ok(taken.0)
         }
-        None => {
-            parser.needs(Need::Number);
-            Err(Fault::NotText)
-        }
+        None => Err(parser.refuse(Need::Number)),
     }
 }

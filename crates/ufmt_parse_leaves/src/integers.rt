@@ -284,14 +284,10 @@ pub fn parse_integer<N: Magnitude, T: Integer<N>, M: ParseMode>(
     match split_magnitude::<N>(digits, is_long) {
         None => {
             T::prove_fits();
-            parser.needs(Need::Number);
-            Err(Fault::NotText)
+            Err(parser.refuse(Need::Number))
         }
         Some(front) => match T::from_magnitude(negative, front.0) {
-            None => {
-                parser.needs(Need::Number);
-                Err(Fault::NotText)
-            }
+            None => Err(parser.refuse(Need::Number)),
             Some(value) => {
                 parser.skip_to(front.1);
                 Ok(value)

@@ -157,8 +157,7 @@ pub fn parse_text<A: Allocator + Copy, M: ParseMode>(
     ensures shrinks { length (rest parser.new) ≤ length (rest parser.old) }
 {
     let Some(inside) = strip_byte(b'"', parser.rest()) else {
-        parser.needs(Need::Text);
-        return Err(Fault::NotText);
+        return Err(parser.refuse(Need::Text));
     };
     let Ok((text, end)) = read_ascii(alloc, inside) else {
         return Err(Fault::OutOfMemory);
@@ -170,19 +169,13 @@ pub fn parse_text<A: Allocator + Copy, M: ParseMode>(
     let mut bytes = text.into_bytes();
     match read_bytes(&mut bytes, end) {
         Err(_) => Err(Fault::OutOfMemory),
-        Ok(None) => {
-            parser.needs(Need::Text);
-            Err(Fault::NotText)
-        }
+        Ok(None) => Err(parser.refuse(Need::Text)),
         Ok(Some(after)) => match String::from_utf8(bytes) {
             Ok(text) => {
                 parser.skip_to(after);
                 Ok(text)
             }
-            Err(_) => {
-                parser.needs(Need::Text);
-                Err(Fault::NotText)
-            }
+            Err(_) => Err(parser.refuse(Need::Text)),
         },
     }
 }

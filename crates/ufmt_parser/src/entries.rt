@@ -74,11 +74,10 @@ impl<'a, A: Copy, M: ParseMode, T: uDebug, P: ParsesBy<A, M, T>> EntryParser<A, 
 
     #[inline(always)]
     fn parse_entry(&self, alloc: A, parser: &mut Parser<'_, M>) -> Result<T, Fault> {
-        if !parser.eats(self.0) {
-            parser.needs(Need::Name);
-            return Err(Fault::NotText);
+        if !parser.eat(self.0) {
+            return Err(parser.refuse(Need::Name));
         }
-        if !parser.eats(COLON) {
+        if !parser.eat(COLON) {
             return Err(Fault::NotText);
         }
         self.1.parse_by(alloc, parser)
@@ -105,7 +104,7 @@ impl<
     #[inline(always)]
     fn parse_entry(&self, alloc: A, parser: &mut Parser<'_, M>) -> Result<(T, U), Fault> {
         let key = tri!(self.0.parse_by(alloc, parser));
-        if !parser.eats(COLON) {
+        if !parser.eat(COLON) {
             return Err(Fault::NotText);
         }
         let value = tri!(self.1.parse_by(alloc, parser));

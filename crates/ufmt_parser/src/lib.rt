@@ -1,10 +1,10 @@
 #![tactic(auto)]
 
-//! What is left of a text, and what is taken from its front, piece by piece. A user names `ufmt_parse` only, which
-//! re-exports what a user needs of this.
+//! What is left of a text, and what is taken from its front: pieces, fields and entries. A user names `ufmt_parse` only,
+//! which re-exports what a user needs of this.
 
 // The value of an `Ok`. An `Err` is returned at once, as by `?`, but without the call that converts the error, of which the
-// check knows too little. Each crate has its own: to a proof the places in another crate's macro have no names.
+// check knows too little. `ufmt_parse` has its own: to a proof the places in another crate's macro have no names.
 macro_rules! tri {
     ($outcome:expr) => {
         match $outcome {
@@ -14,9 +14,14 @@ macro_rules! tri {
     };
 }
 
+pub mod ascending;
+pub mod blocks;
+pub mod by_count;
 pub mod entries;
+pub mod fields;
 pub mod mode;
 pub mod need;
 pub mod parser;
 pub mod parses_by;
 mod strip;
+pub mod units;

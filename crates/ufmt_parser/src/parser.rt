@@ -57,7 +57,7 @@ impl<'t, M: ParseMode> Parser<'t, M> {
 
     /// Takes a piece from the front, if it is there. Returns whether it was.
     #[inline(always)]
-    pub fn eats(&mut self, piece: &str) -> bool
+    pub fn eat(&mut self, piece: &str) -> bool
         ensures eats { Eats piece.now (rest self.old) result (rest self.new) }
         ensures stays { result ≡ false → rest self.new ≡ rest self.old }
         ensures shrinks { length (rest self.new) ≤ length (rest self.old) }
@@ -91,7 +91,7 @@ impl<'t, M: ParseMode> Parser<'t, M> {
 
     /// Takes what comes before an entry of the innermost block, which has this many entries before it.
     #[inline(always)]
-    pub fn eats_lead(&mut self, kind: Kind, count: Count) -> bool
+    pub fn eat_lead(&mut self, kind: Kind, count: Count) -> bool
         ensures eats { Eats (lead (frame M.mode kind) (setting_in M.mode (open_blocks self.old)) count)
             (rest self.old) result (rest self.new) }
         ensures stays { result ≡ false → rest self.new ≡ rest self.old }
@@ -110,7 +110,7 @@ impl<'t, M: ParseMode> Parser<'t, M> {
 
     /// Takes the end of the innermost block, which has this many entries.
     #[inline(always)]
-    pub fn eats_ending(&mut self, kind: Kind, count: Count) -> bool
+    pub fn eat_ending(&mut self, kind: Kind, count: Count) -> bool
         requires { 0 < open_blocks self.old }
         ensures eats { Eats (ending (frame M.mode kind) (setting_in M.mode (open_blocks self.old - 1)) count)
             (rest self.old) result (rest self.new) }
@@ -129,7 +129,7 @@ impl<'t, M: ParseMode> Parser<'t, M> {
 
     /// Counts one block more. If that is one too many it returns false, and the parser is as it was.
     #[inline(always)]
-    pub fn opens_block(&mut self) -> bool
+    pub fn open_block(&mut self) -> bool
         ensures counts { MatchBool result
             ((open_blocks self.old < 255) × (open_blocks self.new ≡ suc (open_blocks self.old)))
             ((255 ≤ open_blocks self.old) × (open_blocks self.new ≡ open_blocks self.old)) }
@@ -165,15 +165,18 @@ impl<'t, M: ParseMode> Parser<'t, M> {
         self.rest
     }
 
-    /// Says what is missing, before the caller fails with `NotText`. Without this call it is punctuation, so a parser
-    /// that goes on after another one failed says it always.
+    /// Records what is missing, and returns the fault to fail with: `Err(parser.refuse(Need::Number))`. A parser that fails
+    /// with `Fault::NotText` without this call says that punctuation is missing, or what an earlier failure recorded.
+    #[must_use]
     #[inline(always)]
-    pub fn needs(&mut self, missing: Need)
+    pub fn refuse(&mut self, missing: Need) -> Fault
+        ensures fault { result ≡ Fault.NotText }
         ensures needs { need self.new ≡ missing }
         ensures rest { rest self.new ≡ rest self.old }
         ensures blocks { open_blocks self.new ≡ open_blocks self.old }
     {
         self.need = missing;
+        Fault::NotText
     }
 
     /// What is missing where a call failed.
@@ -194,7 +197,7 @@ impl<'t, M: ParseMode> Parser<'t, M> {
 
     /// Takes the end of a block in brackets or braces that has no entries.
     #[inline(always)]
-    pub fn eats_empty_ending(&mut self, kind: Kind) -> bool
+    pub fn eat_empty_ending(&mut self, kind: Kind) -> bool
         ensures eats { Eats (ending (frame M.mode kind) (setting_in M.mode (open_blocks self.old)) Zero)
             (rest self.old) result (rest self.new) }
         ensures stays { result ≡ false → rest self.new ≡ rest self.old }

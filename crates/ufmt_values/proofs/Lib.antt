@@ -1,8 +1,16 @@
+pub mod Blocks
 pub mod FieldSearch
 pub mod FieldTurns
+pub mod FirstBrackets
 pub mod FirstBytes
+pub mod FoundFields
 pub mod FoundValues
+pub mod LastWords
+pub mod LongerNames
+pub mod NameBrackets
 pub mod NameBytes
+pub mod Searches
+pub mod SetLanes
 pub mod StructTexts
 pub mod Unclosed
 pub mod WithoutEntries

@@ -1,8 +1,10 @@
 -- A text without a closing bracket has no value.
-use Rattle.std.proofs.Common.{◌≡◌, inl, ◌∙◌, refl, ap, sym, subst, ℕ, zero, suc, ◌+◌, ◌-◌, ◌≤◌, ◌==◌, ◌&&◌, ◌||◌, nat_le, nat_lt, Bool, true, false, cond, List, [], ◌∷◌, ◌++◌, Option, Some, None, option_and_then, drop, get_or, length, codes, arith}
+use Rattle.std.proofs.Common.{◌≡◌, inl, ◌∙◌, refl, ap, sym, subst, ℕ, zero, suc, ◌+◌, ◌-◌, ◌≤◌, ◌==◌, ◌&&◌, ◌||◌, nat_le, nat_lt, not, Bool, true, false, cond, List, [], ◌∷◌, ◌++◌, Option, Some, None, option_and_then, drop, get_or, length, codes, arith}
 use Rattle.std.proofs.lemmas.Bool.Decides.{nat_tests}
 use Rattle.std.proofs.lemmas.Bool.{true≢false}
 use Rattle.std.proofs.lemmas.List.{drop-drop}
+use Rattle.std.proofs.lemmas.List.Elements.{All-head, All-tail}
+use Rattle.std.specs.List.{All, suffix_len}
 use Rattle.ufmt.specs.Document.{Document, leaf, joined, list_of, set_of, map_of, struct_of, non_exhaustive_of, tuple_of, pretty_part, no_documents, first_document, no_pairs, first_pair, no_fields, first_field}
 use Rattle.ufmt.specs.Leaves.{is_name_byte}
 use Rattle.ufmt.specs.Layout.{block_tail, block_text, count_after, dots_ending, dots_line, ending, frame, framed_all, if_any, inside, layout, lead, line_start, next, setting, trail, tuple_kind, texts, pair_texts, field_texts}
@@ -21,7 +23,7 @@ use Rattle.ufmt_values.specs.Values.{brace_start, if_entries, is_in_struct, is_n
 use Rattle.ufmt_values.proofs.FoundValues.{block_entries, block_read}
 use Rattle.ufmt_scan.specs.Fronts.{has_entries, read_front}
 use Rattle.ufmt_scan.specs.Texts.{other_mode}
-use Rattle.memchr.specs.Find.{IsLastByte, Nowhere, Passes}
+use Rattle.ufmt_values.proofs.Searches.{last_end, rest_has_none}
 
 -- ---- where closing brackets are
 
@@ -51,28 +53,15 @@ rest_unclosed (suc k) (c ∷ t) h = rest_unclosed k t (go (is_closing c) h)
     go true h = absurd (cc)
     go false h = h
 
--- there is none where a search found none
-later : (c : ℕ) (t : List ℕ) (k : ℕ) → Nowhere (Passes is_closing (c ∷ t)) (suc k) (suc (length t)) → Nowhere (Passes is_closing t) k (length t)
-later c t k none = λ j low high. none (suc j) (omega (arith, low)) (omega (arith, high))
+-- there is none in bytes that aren't closing brackets
+none_close : (t : List ℕ) → All (λ c. is_closing c ≡ false) t → IsUnclosed t
+none_close [] none = refl
+none_close (c ∷ t) none =
+    ap (λ x. x || has_closing t) (All-head (λ c. is_closing c ≡ false) c t none) ∙ none_close t (All-tail (λ c. is_closing c ≡ false) c t none)
 
-nowhere_unclosed : (t : List ℕ) → Nowhere (Passes is_closing t) 0 (length t) → IsUnclosed t
-nowhere_unclosed [] none = refl
-nowhere_unclosed (c ∷ t) none = go (is_closing c) refl (nowhere_unclosed t (later c t 0 (λ j low high. none j (omega arith) high)))
-  where
-    go : (x : Bool) → is_closing c ≡ x → IsUnclosed t → x || has_closing t ≡ false
-    go true is rest = absurd (none 0 (omega arith) (omega arith) is)
-    go false is rest = rest
-
-after_last : (t : List ℕ) (k : ℕ) → Nowhere (Passes is_closing t) k (length t) → IsUnclosed (drop k t)
-after_last t zero none = nowhere_unclosed t none
-after_last [] (suc k) none = refl
-after_last (c ∷ t) (suc k) none = after_last t k (later c t k none)
-
-pub none_closes : (t : List ℕ) → IsLastByte is_closing t None → IsUnclosed t
-none_closes t found = nowhere_unclosed t found
-
-pub past_last : (t : List ℕ) (k : ℕ) → IsLastByte is_closing t (Some k) → IsUnclosed (drop (k + 1) t)
-past_last t k found = after_last t (k + 1) found.0.after
+-- nor after the last one
+pub past_last : (t : List ℕ) (end : ℕ) → end ≡ length t - suffix_len (λ c. not (is_closing c)) t → IsUnclosed (drop end t)
+past_last t end is = rw is (none_close (drop (last_end is_closing t) t) (rest_has_none is_closing t))
 
 -- ---- a block with entries has one
 

@@ -22,8 +22,9 @@ pub struct Field<'a> {
 }
 
 /// Returns the text of a field in a line of a log: of the values in the line, from the left on, the first
-/// that is a struct with this field, where the field is a leaf. Nothing inside a value is looked at. A text
-/// in quotes keeps its quotes. Returns `None` if there is none.
+/// that is a struct with this field, where the field is a leaf. Nothing inside a value is looked at, but
+/// texts in quotes outside of values are: whoever controls one controls the result. A leaf in quotes keeps
+/// them. Returns `None` if there is none.
 pub fn field_of<'a>(class: Class, line: &'a [u8], name: &str) -> Option<&'a [u8]>
     ensures { option_map (λ text. text.now) result ≡ field_of class line.now name.now }
 {

@@ -3,6 +3,8 @@
 //! The values of a text, as a line of a log: where each begins, by its first bracket, and what is there.
 
 mod field;
+pub mod laws;
+pub mod search;
 mod values;
 
 pub use field::{Field, field_of, find_field};

@@ -6,7 +6,7 @@ ghost use Rattle.ufmt_values.specs.FoundValues.{IsValue, IsValueAt};
 ghost use Rattle.ufmt_values.specs.Unclosed.{HasNoMore, IsUnclosed, is_closing};
 ghost use Rattle.ufmt_values.specs.Private.WithoutEntries.{closing_of, is_without_entries};
 
-use memchr::{memchr3, memrchr3};
+use crate::search::{Closing, Opening, len_before_first, len_through_last};
 use ufmt::class::Class;
 use ufmt::layout::Mode;
 use ufmt_scan::convert::other_mode;
@@ -29,10 +29,7 @@ pub fn values_end(text: &[u8], end: usize, has_failed: bool) -> usize
 fn closed_len(text: &[u8]) -> usize
     ensures { IsUnclosed (drop result text.now) }
 {
-    match memrchr3(b')', b']', b'}', text) {
-        Some(last) => last + 1,
-        None => 0,
-    }
+    len_through_last::<Closing>(text)
 }
 
 /// Where the first opening bracket is from `at` on, if a value may begin there: none does from `end` on.
@@ -59,10 +56,7 @@ pub fn before_bracket(text: &[u8]) -> usize
     ensures len { result ≡ before_bracket text.now }
     ensures within { result ≤ length text.now }
 {
-    match memchr3(b'(', b'[', b'{', text) {
-        Some(bracket) => bracket,
-        None => text.len(),
-    }
+    len_before_first::<Opening>(text)
 }
 
 /// Where a value with this bracket begins, if one does: at the bracket, or at a name before it that

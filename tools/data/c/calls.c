@@ -1,5 +1,5 @@
 /* Makes the calls that its input asks for, a line each, and prints of each what it returned and left in
- * `detail` and in the buffer. tools/try-c writes the lines and compares what is printed.
+ * `detail` and in the buffer. x try c writes the lines and compares what is printed.
  *
  * A line is a call's name without `ufmt_`, and a word for each argument but `detail`: for a buffer its
  * size, for an input its bytes in hexadecimal digits, for a float its bits as a number, for a struct its members. `null` is a buffer or an

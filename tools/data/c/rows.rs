@@ -1,5 +1,5 @@
 //! Prints what Rust's own formatting makes of values, as rows of tools/data/c/rows.tsv: a call, its
-//! arguments, and what it is to write. `tools/try-c --write` runs it. In a text each byte but a letter, a
+//! arguments, and what it is to write. `x try c --write` runs it. In a text each byte but a letter, a
 //! digit and some marks is a `%` and two hexadecimal digits.
 
 fn escaped(text: &str) -> String {

@@ -2,7 +2,7 @@
 use std::hint::black_box;
 use std::io::{self, BufWriter, Cursor, Read, Write};
 
-// What `tools/bench floats` counts: each float so many times, into a buffer.
+// What `x bench floats` counts: each float so many times, into a buffer.
 fn count(input: &str, turns: u64) -> u64 {
     let mut length = 0;
     for line in input.lines() {
@@ -37,7 +37,7 @@ impl Write for Digest {
     }
 }
 
-// What `tools/try-floats --every-f32` compares: the digest of the lines of all these floats.
+// What `x try floats --every-f32` compares: the digest of the lines of all these floats.
 fn digest(from: u64, to: u64) -> u64 {
     let mut digest = Digest(0xcbf2_9ce4_8422_2325);
     for bits in from..to {

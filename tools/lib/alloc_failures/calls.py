@@ -1,4 +1,4 @@
-"""Refuses each allocation of ufmt_memory_probe, which makes each call of the library.
+"""Refuses each allocation of probe_memory, which makes each call of the library.
 
 Its input says how many allocations it makes before the calls. In each run the allocation of one fixed number is refused. With fewer
 before the calls, that is a later one of the calls. After the calls the program makes one more allocation. When that is refused, each
@@ -13,7 +13,9 @@ First there is a run with ample memory. It makes as many allocations as its line
 import re
 from concurrent.futures import ThreadPoolExecutor
 
+from lib import needs
 from lib.alloc_failures import tried
+from lib.top import TOP
 
 # The allocation that is refused in each run. The calls make fewer.
 REFUSED = 600
@@ -82,16 +84,16 @@ class Calls:
         """Judges how a run ended, whatever it printed."""
         wrong = tried.end_fault(ended, [0])
         if wrong or ended.error:
-            self.faults.append("ufmt_memory_probe, allocation %d of the calls refused: %s" % (number, wrong or ended.error[:80]))
+            self.faults.append("probe_memory, allocation %d of the calls refused: %s" % (number, wrong or ended.error[:80]))
 
     def judge_ample(self, ended):
         """Judges the run with ample memory and no allocation before the calls."""
         wrong = tried.end_fault(ended, [0])
         said = [self.said(index) or 1 for index in range(len(self.ample))]
         if wrong or ended.output.decode(errors="replace").splitlines() != self.ample:
-            self.faults.append("ufmt_memory_probe with ample memory: %s" % (wrong or "another output than the file stdout has"))
+            self.faults.append("probe_memory with ample memory: %s" % (wrong or "another output than the file stdout has"))
         elif tried.asked(ended.counts) != sum(said):
-            self.faults.append("ufmt_memory_probe makes %d allocations, and its lines say %d" % (tried.asked(ended.counts), sum(said)))
+            self.faults.append("probe_memory makes %d allocations, and its lines say %d" % (tried.asked(ended.counts), sum(said)))
 
     def judge_run(self, output):
         """Judges what a run printed: only the refused call's line differs from those with ample memory."""
@@ -132,7 +134,7 @@ class Calls:
             elif ended.output != b"refused before the calls\n":
                 self.faults.append("the last allocation before the calls is not the one that was refused: %s" % ended.output[:80])
             if len(self.faults) >= MOST_FAULTS:
-                self.faults.append("the runs of ufmt_memory_probe after number %d are not judged" % number)
+                self.faults.append("the runs of probe_memory after number %d are not judged" % number)
                 return
             if self.last == len(self.ample) - 1:
                 self.refusals -= 1
@@ -146,8 +148,8 @@ class Calls:
 def tried_calls(counter):
     """Runs the program once for each number, that of the refused allocation of the calls. The run of number 0 refuses the last one
     before them."""
-    program = tried.program("ufmt_memory_probe")
-    calls = Calls((tried.TOP / "crates" / "ufmt_memory_probe" / "stdout").read_text())
+    program = needs.built("probe_memory")
+    calls = Calls((TOP / "crates" / "probe_memory" / "stdout").read_text())
 
     def run(number, refused=REFUSED):
         return counter.run_refused([program], b"%d\n" % (REFUSED - number), "calls-%d" % number, refused, tried.SECONDS)

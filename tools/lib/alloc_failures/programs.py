@@ -1,11 +1,12 @@
 """Refuses each allocation of ufmt_conv and of ufmt_lines on several inputs, until three numbers in a row refuse nothing.
 
-Inputs of four and five empty lines show the allocations of line_lengths, which no other crate can call: its vector grows once
-more for the fifth number, and all other allocations are the same.
+Some inputs show the allocations of line_lengths, which no other crate can call: its vector is made with the first number, of a line with
+or without a line feed, and grows for the fifth and the ninth.
 """
 from concurrent.futures import ThreadPoolExecutor
 from typing import NamedTuple, Tuple
 
+from lib import needs
 from lib.alloc_failures import tried
 from lib.programs import lines
 
@@ -32,11 +33,12 @@ class Case(NamedTuple):
 
 def of_conv(plain, pretty):
     """Four allocations are for the arguments of the command line, one is for the input, and some are for the output, which grows to 8
-    bytes, 16, 32 and so on. For lengths a vector grows to 4 numbers and then to 8. An input that is no text fails after a leaf."""
+    bytes, 16, 32 and so on. For lengths a vector grows to 4 numbers, to 8 and to 16. An input that is no text fails after a leaf."""
     no_text = {"pretty": b"ufmt_conv: not a plain text\n", "plain": b"ufmt_conv: not a pretty text\n"}
     text = b"ab\n\nxyz"
     rows = [("pretty", plain, pretty, 6), ("plain", pretty, plain, 6), ("lengths", plain, b"[60]\n", 7), ("lengths", text, b"[2, 0, 3]\n", 8),
-            ("lengths", b"\n" * 4, b"[0, 0, 0, 0]\n", 8), ("lengths", b"\n" * 5, b"[0, 0, 0, 0, 0]\n", 9)]
+            ("lengths", b"\n" * 4, b"[0, 0, 0, 0]\n", 8), ("lengths", b"\n" * 5, b"[0, 0, 0, 0, 0]\n", 9), ("lengths", b"", b"[]\n", 6), ("lengths", b"xyz", b"[3]\n", 7),
+            ("lengths", b"a\n\n\n\nxyz", b"[1, 0, 0, 0, 3]\n", 9), ("lengths", b"\n" * 9, b"[0, 0, 0, 0, 0, 0, 0, 0, 0]\n", 11)]
     return ([Case((command,), text, 0, output, b"", count) for command, text, output, count in rows]
             + [Case((command,), text, 1, b"", no_text[command], 6) for command in no_text])
 
@@ -93,14 +95,14 @@ class Program:
         """Judges a run with ample memory. It makes as many allocations as its row says, so none of the C library's is counted."""
         wrong, made = tried.end_fault(ended, [case.status]), case.allocations + ASKED_AGAIN
         if wrong or tried.asked(ended.counts) != made:
-            self.fault(case, "with ample memory: %s" % (wrong or "%d allocations are counted, and not %d" % (tried.asked(ended.counts), made)))
+            self.fault(case, "with ample memory: %s" % (wrong or "wanted %d allocations, got %d" % (made, tried.asked(ended.counts))))
 
     def judge_counts(self):
         if self.quiet < QUIET:
             self.faults.append("%s still met a refusal at allocation %d" % (self.name, self.next - 1))
         for case, wanted in zip(self.cases, self.wanted):
             if wanted != case.allocations:
-                self.fault(case, "%d allocations, and not %d" % (wanted, case.allocations))
+                self.fault(case, "wanted %d allocations, got %d" % (case.allocations, wanted))
 
     def said(self):
         return "%s met none at its last %d, %d to %d" % (self.name, self.quiet, self.next - self.quiet, self.next - 1)
@@ -108,7 +110,7 @@ class Program:
 
 def tried_program(counter, name, cases):
     """Runs the program on all cases with one number after another refused, and last with ample memory."""
-    path = tried.program(name)
+    path = needs.built(name)
     program = Program(name, cases)
     with ThreadPoolExecutor(tried.SIDE_BY_SIDE) as pool:
 

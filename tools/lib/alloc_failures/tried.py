@@ -7,19 +7,10 @@ from contextlib import contextmanager
 
 from lib.model.counter import Counter
 
-TOP = pathlib.Path(__file__).resolve().parents[3]
 # A run that takes longer is a fault.
 SECONDS = 60
 # How many runs there are at a time.
 SIDE_BY_SIDE = os.cpu_count() or 1
-
-
-def program(name):
-    """The built program of this name."""
-    path = TOP / "crates" / name / "out" / name
-    if not os.access(path, os.X_OK):
-        sys.exit("tools/try-alloc-failures: %s isn't there: `rt ci` builds it, and so does `rt run` in its crate" % path)
-    return path
 
 
 @contextmanager
@@ -28,7 +19,7 @@ def counter():
     with tempfile.TemporaryDirectory(prefix="try-alloc-failures-") as room:
         made = Counter(pathlib.Path(room))
         if made.library is None:
-            sys.exit("tools/try-alloc-failures: a C compiler is needed")
+            sys.exit("x try memory: a C compiler is needed")
         yield made
 
 

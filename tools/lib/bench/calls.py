@@ -19,7 +19,7 @@ CALLS = (("text", "text", "0"), ("i32 of 0", "number", "0"), ("i32 of least", "n
 def run(words):
     ran = subprocess.run([str(word) for word in words], stdout=subprocess.PIPE, stderr=subprocess.STDOUT, text=True)
     if ran.returncode:
-        sys.exit("tools/bench: %s\n%s" % (" ".join(map(str, words))[:200], ran.stdout[-2000:]))
+        sys.exit("x bench: %s\n%s" % (" ".join(map(str, words))[:200], ran.stdout[-2000:]))
     return ran.stdout
 
 

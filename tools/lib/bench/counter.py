@@ -10,5 +10,5 @@ def counted(words, text=b""):
     ran = subprocess.run(valgrind + [str(word) for word in words], input=text, stdout=subprocess.PIPE, stderr=subprocess.PIPE)
     found = re.search(rb"I\s+refs:\s+([\d,]+)", ran.stderr)
     if ran.returncode or not found:
-        sys.exit("tools/bench: valgrind can't count: " + ran.stderr.decode(errors="replace")[-500:])
+        sys.exit("x bench: valgrind can't count: " + ran.stderr.decode(errors="replace")[-500:])
     return int(found.group(1).replace(b",", b"")), ran.stdout.strip()

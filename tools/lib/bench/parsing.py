@@ -24,7 +24,7 @@ def cost(kind, text_format, parsing, reading, result):
         text = values.FORMATS[text_format](value).encode()
         total, said = counted(parsing, text)
         if said != result:
-            sys.exit("tools/bench: %s isn't parsed of %s" % (kind, text_format))
+            sys.exit("x bench: %s isn't parsed of %s" % (kind, text_format))
         costs.append(total - counted(reading, text)[0])
         lengths.append(len(text))
         counts.append(count)
@@ -36,7 +36,7 @@ def one(words, result):
     """Instructions for one call on one struct."""
     (few, _), (many, said) = (counted([*words, count]) for count in (1000, 3000))
     if said != result:
-        sys.exit("tools/bench: the struct isn't parsed")
+        sys.exit("x bench: the struct isn't parsed")
     return (many - few) / 2000
 
 

@@ -41,6 +41,6 @@ def table(top, room):
         text = made[name]
         cost, said = counted([program, call], text)
         if said == b"0":
-            sys.exit("tools/bench: %s refuses the text of %s" % (call, name))
+            sys.exit("x bench: %s refuses the text of %s" % (call, name))
         print("%-22s %-18s %8.1f" % (call, name, (cost - counted([program, base], text)[0]) / len(text)), flush=True)
     return 0

@@ -1,9 +1,9 @@
-"""The files of the crates of parsing with one call or impl for each number of fields, and their answers."""
+"""The files of ufmt_parser and ufmt_parse with one call or impl for each number of fields, and their answers."""
 from lib.by_count.words import MOST, NUMBERS, TYPES, WRITTEN, counted, in_a_row, letters, parts_in_a_row, tuple_of, wrapped
 
 # The types of the parsers of fields.
 PARSERS = "PQRSTUVWXYZN"
-# The calls are in two files, with these numbers of fields.
+# The calls of a kind of block are in two files, with these numbers of fields.
 HALVES = {"few": range(1, 7), "many": range(7, MOST + 1)}
 
 
@@ -109,9 +109,9 @@ class Block:
             "    ensures shrinks { length (rest parser.new) ≤ length (rest parser.old) }",
         ])
 
-    def crate(self):
-        """The crate of the calls."""
-        return f"ufmt_parse_{self.name}s"
+    def module(self):
+        """The module of the calls, in the folder of all that is written by the number of fields."""
+        return f"{self.name}s"
 
     def called(self, count):
         """The name of the call."""
@@ -179,7 +179,7 @@ pub fn {self.called(count)}<Alloc: Copy, M: ParseMode, {types}, {by}>({", ".join
         alike = " ".join(["other others"] + values + ["named same"] + [f"is_{letter}" for letter in fields])
         row = "(" + ", ".join(values) + ")" if count > 1 else "(record { 0 = a_value })"
         are = chain_of([f"is_{letter}" for letter in fields])
-        where = f"Rattle.{self.crate()}.proofs.{half_of(count)}.{self.called(count)}.Goals"
+        where = f"Rattle.ufmt_parser.proofs.by_count.{self.module()}.{half_of(count)}.{self.called(count)}.Goals"
         return f"-- {WRITTEN}\n" + (self.of_one if count == 1 else self.of_many)(count, where, binders, alike, row, are)
 
     def renamed(self, count):
@@ -207,7 +207,7 @@ parse_struct-requires-clause-named g c = names_are ({names}) {chain_of([f"c.utf8
         struct = self.name == "struct"
         uses = "use Rattle.std.proofs.Common.{[], ◌∷◌}\n" if struct else ""
         words = "use Rattle.ufmt_parser.proofs.Words.{names_are}\n" if struct else ""
-        return f"""{uses}use Rattle.ufmt_parse_fields.proofs.Alike.{{no_{name}_alike}}
+        return f"""{uses}use Rattle.ufmt_parser.proofs.Alike.{{no_{name}_alike}}
 use Rattle.ufmt_parser.proofs.Naming.{{no_{name}, {name}_leaves}}
 {words}use {where} as goal
 {self.named(count)}
@@ -238,7 +238,7 @@ returns-clause-values g c = IfOk-weaker {result} _ _ (λ v are. ({", ".join(part
 """
         name, renamed = self.name, self.renamed(count)
         return f"""{uses}use Rattle.std.proofs.lemmas.Result.{{IfErr-weaker, IfOk-weaker}}
-use Rattle.ufmt_parse_fields.proofs.Alike.{{no_{name}_alike}}
+use Rattle.ufmt_parser.proofs.Alike.{{no_{name}_alike}}
 use Rattle.ufmt_parser.proofs.Naming.{{no_{name}, {name}_leaves}}
 {words}use {where} as goal
 {asked}{values}
@@ -271,11 +271,11 @@ returns-clause-shrinks g c = {ensures}.shrinks
 ghost use Rattle.std.specs.Prelude.{{◌≤◌, ◌<◌, length, [], ◌∷◌, ◌≡◌, List, ℕ, suc, true, IfOk, IfErr}};
 {self.ghost_uses()}
 
+use crate::fields::parse_{self.name};
+use crate::mode::ParseMode;
+use crate::parser::{{Fault, Parser}};
+use crate::parses_by::ParsesBy;
 use ufmt_core::uDebug;
-use ufmt_parse_fields::fields::parse_{self.name};
-use ufmt_parser::mode::ParseMode;
-use ufmt_parser::parser::{{Fault, Parser}};
-use ufmt_parser::parses_by::ParsesBy;
 {calls}"""
 
 
@@ -316,7 +316,7 @@ def parsers_answers(count):
     takes = "viewed" + (f" {{A = {types}}}" if count > 1 else "") + f" (λ v. ({view}))"
     return f"""-- {WRITTEN}
 use Rattle.ufmt_parser.proofs.Views.{{viewed}}
-use Rattle.ufmt_parse_fields.proofs.tuples_of_parsers.{parsers_name(count)}.parse_rest.Goals as goal
+use Rattle.ufmt_parser.proofs.by_count.field_parsers.{parsers_name(count)}.parse_rest.Goals as goal
 
 pub returns-in-Err-clause-takes : goal.returns-in-Err-clause-takes
 returns-in-Err-clause-takes g c = {takes} c.in-Err.ensures.takes
@@ -334,17 +334,17 @@ def parsers_name(count):
     return f"Tuple{count}{'Ref' * count}FieldParsersTuple{count}"
 
 
-def tuples_of_parsers():
+def field_parsers():
     """The file with an impl for each number of parsers."""
     return f"""//! Tuples of one to {MOST} parsers, each of a field. {WRITTEN}
 ghost use Rattle.std.specs.Prelude.{{[], ◌∷◌, ⊤}};
 
 use crate::fields::{{FieldParsers, parse_first}};
+use crate::mode::ParseMode;
+use crate::parser::{{Fault, Parser}};
+use crate::parses_by::ParsesBy;
 use ufmt_core::layout::{{Count, Kind}};
 use ufmt_core::uDebug;
-use ufmt_parser::mode::ParseMode;
-use ufmt_parser::parser::{{Fault, Parser}};
-use ufmt_parser::parses_by::ParsesBy;
 """ + "".join(parsers_impl(count) for count in range(1, MOST + 1))
 
 
@@ -401,7 +401,7 @@ def tuple_impls():
     impls = "".join(tuple_impl(count) for count in range(1, MOST + 1))
     return f"""//! Tuples of one to {MOST}. {WRITTEN}
 use crate::uparse::{{ByType, uParse}};
-use ufmt_parse_fields::fields::parse_tuple;
+use ufmt_parser::fields::parse_tuple;
 use ufmt_parser::mode::ParseMode;
 use ufmt_parser::parser::{{Fault, Parser}};
 {impls}"""
@@ -434,19 +434,19 @@ TUPLES = Block("tuple", "tuple_of", "documents", "tuple")
 
 def files():
     """Each file by its path in the repository, with what makes its text."""
-    values, fields = "crates/ufmt_parse", "crates/ufmt_parse_fields"
+    values, parser = "crates/ufmt_parse", "crates/ufmt_parser"
     found = {
         f"{values}/src/core_impls/tuples.rt": tuple_impls,
         f"{values}/src/laws/of_tuples.rt": tuple_law,
-        f"{fields}/src/tuples_of_parsers.rt": tuples_of_parsers,
+        f"{parser}/src/by_count/field_parsers.rt": field_parsers,
     }
     for count in range(1, MOST + 1):
-        found[f"{fields}/proofs/tuples_of_parsers/{parsers_name(count)}/parse_rest/Answers.antt"] = lambda count=count: parsers_answers(count)
+        found[f"{parser}/proofs/by_count/field_parsers/{parsers_name(count)}/parse_rest/Answers.antt"] = lambda count=count: parsers_answers(count)
         found[f"{values}/proofs/core_impls/tuples/Tuple{count}uParse/parse_from/Answers.antt"] = lambda count=count: tuple_answers(count)
     for block in (STRUCTS, TUPLES):
         for half, counts in HALVES.items():
-            found[f"crates/{block.crate()}/src/{half}.rt"] = lambda block=block, counts=counts: block.file(counts)
+            found[f"{parser}/src/by_count/{block.module()}/{half}.rt"] = lambda block=block, counts=counts: block.file(counts)
         for count in range(1, MOST + 1):
-            answers = f"crates/{block.crate()}/proofs/{half_of(count)}/{block.called(count)}/Answers.antt"
+            answers = f"{parser}/proofs/by_count/{block.module()}/{half_of(count)}/{block.called(count)}/Answers.antt"
             found[answers] = lambda block=block, count=count: block.answers(count)
     return found

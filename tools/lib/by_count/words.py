@@ -3,7 +3,7 @@
 MOST = 12
 TYPES = "ABCDEFGHIJKL"
 NUMBERS = "none one two three four five six seven eight nine ten eleven twelve".split()
-WRITTEN = "tools/write-by-count writes this file: change it there."
+WRITTEN = "`x generate` writes this file: change tools/lib/by_count."
 
 
 def letters(count):

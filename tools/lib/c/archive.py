@@ -1,11 +1,9 @@
 """Builds libufmt_c.a with nothing proved, by the sources of ufmt_c as a program that makes each call."""
 import re
 import subprocess
-import pathlib
 
-TOP = pathlib.Path(__file__).resolve().parent.parent.parent.parent
-
-from lib.bench import build  # noqa: E402
+from lib.bench import build
+from lib.top import TOP
 
 # No function is put into another by its source's wish: that would take a minute more.
 FLAGS = "-march=x86-64 -ffunction-sections -fdata-sections --no-default-config -no-canonical-prefixes -fintegrated-cc1 -c -x ir -fPIC -O1".split()

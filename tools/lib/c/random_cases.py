@@ -2,8 +2,8 @@
 import random
 import re
 
-from lib.c import cases
-from lib.c.cases import BAD_OPTION, NO_TEXT, NOT_UTF8, SIZE_MAX, Case, style
+from lib.c import cases, huge, leaves
+from lib.c.cases import BAD_OPTION, NOT_UTF8, SIZE_MAX, Case, style
 from lib.model import floats
 from lib.model.characters import any_character
 from lib.model.documents import DebugMaker, Maker
@@ -109,7 +109,7 @@ class RandomCases:
         if self.random.randrange(3) == 0:
             at = self.random.randint(0, len(data))
             data = data[:at] + self.random.choice((b"", b"\\", b'"', b"\\u{", b"\x00", self.random.randbytes(1))) + data[at + self.random.randrange(2):]
-        return [cases.unquoted(call, data) for call in cases.QUOTED]
+        return [leaves.unquoted(call, data) for call in leaves.QUOTED]
 
     def numbered(self, text):
         """A text in quotation marks with some characters written by their numbers."""
@@ -126,14 +126,14 @@ class RandomCases:
         if self.is_wrong():
             size, pad = self.random.choice(((24, self.random.randint(128, 255)), (self.size_but(24), 32)))
             return [Case(call, (number, (size, width, pad, upper, prefix)), result=BAD_OPTION)]
-        return [cases.number_case(call, number, width, self.random.randrange(128), upper, prefix)]
+        return [huge.number_case(call, number, width, self.random.randrange(128), upper, prefix)]
 
     def dump(self):
         data = self.data(LONGEST)
         options = (self.whole_number(SIZE_MAX), self.whole_number(SIZE_MAX), self.random.getrandbits(32), self.random.randrange(2), self.random.randrange(2))
         if self.is_wrong():
             return [Case("dump", (data, (self.size_but(32), *options)), result=BAD_OPTION)]
-        return [cases.dump_case(data, *options)]
+        return [huge.dump_case(data, *options)]
 
     def column(self):
         data, width, align = self.data(LONGEST), self.whole_number(SIZE_MAX), self.random.randrange(3)
@@ -142,7 +142,7 @@ class RandomCases:
             return [Case("in_column", (data, members), result=BAD_OPTION)]
         fill = self.random.choice((" ", "\0", any_character(self.random)))
         try:
-            return [cases.column_case(data.decode(), width, fill, align)]
+            return [huge.column_case(data.decode(), width, fill, align)]
         except UnicodeDecodeError:
             return [Case("in_column", (data, style("column", width, ord(fill), align)), result=NOT_UTF8, detail=cases.valid_up_to(data))]
 
@@ -169,12 +169,12 @@ class RandomCases:
         text = floats.debug(bits, 64).encode()
         read = text + self.random.choice((b"", b"", b",", b"0", b".", self.random.randbytes(1)))
         decimals = self.random.choice((self.random.randrange(30), self.whole_number(SIZE_MAX)))
-        return Case("float", (bits,), text=text), cases.float_read(read), cases.fixed_case(bits, decimals)
+        return Case("float", (bits,), text=text), leaves.float_read(read), huge.fixed_case(bits, decimals)
 
     def number_read(self):
         sign, digits = self.random.choice((b"", b"", b"-", b"+")), b"%d" % self.whole_number(SIZE_MAX)
         data = sign + digits + self.random.choice((b"", b"", b" ", b",", b"0", self.random.randbytes(1)))
-        return [cases.number_read(call, data if self.random.randrange(4) else self.data(24)) for call in cases.NUMBERS]
+        return [leaves.number_read(call, data if self.random.randrange(4) else self.data(24)) for call in leaves.NUMBERS]
 
 
 def first_difference(given, stored):

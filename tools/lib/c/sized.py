@@ -3,6 +3,7 @@
 The buffer has room for the whole text, or for half of it, or none."""
 from lib.c import cases
 from lib.c.cases import DEBUG, TOKEN, style
+from lib.model import floats
 from lib.model.model import Block, plain, pretty, quoted
 
 SIZES = (80, 160)
@@ -75,7 +76,7 @@ def numbers(size):
         yield "%d" % number, cases.Case("signed", (number,), text=b"")
         yield "%d" % number, cases.Case("parse_signed", (b"%d" % number,), number=number)
     for bits in (FLOAT, LARGE, SMALL):
-        text = cases.floats.debug(bits, 64).encode()
+        text = floats.debug(bits, 64).encode()
         yield "%x" % bits, cases.Case("float", (bits,), text=b"")
         yield "%x" % bits, cases.Case("parse_float", (text,), number=bits)
         yield "%x and a rest" % bits, cases.Case("parse_float", (text + b"," + b"1" * size,), result=0)

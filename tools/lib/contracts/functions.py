@@ -1,7 +1,7 @@
 """The functions of a source file with their clauses, and which of them other crates can call."""
 import re
 
-from lib.memory_errors.source import end_of, find, joined, name_at, tokens_of
+from lib.contracts.source import end_of, find, joined, name_at, tokens_of
 
 CLAUSES = ("ensures", "requires")
 # What may be before an item. `extern "C"` has a text.

@@ -1,12 +1,14 @@
 """Builds the program of tools/data/costs with nothing proved, runs it, and counts what each of its calls takes."""
-import pathlib
 import re
+import shutil
 
 from lib.bench import build
 from lib.costs import types
+from lib.top import TOP
 
-TOP = pathlib.Path(__file__).resolve().parents[3]
-LIBRARIES = ("ufmt_parse_examples", "ufmt_print_probe", "ufmt_parse", "ufmt_snapshot", "ufmt_doc", "ufmt_scan", "ufmt")
+LIBRARIES = ("example_parse", "ufmt_parse", "ufmt_snapshot", "ufmt_doc", "ufmt_scan", "ufmt")
+# What makes a call between marks and notes it. The probe has it, too.
+COUNTED = TOP / "crates" / "probe_model" / "src" / "costs.rt"
 # Each call is printed at the first size and at twice that, and texts are so long.
 SIZES = (100, 200)
 LABELS = ("steps", "allocations", "bytes", "growths", "held", "most", "left")
@@ -27,6 +29,7 @@ def built(room):
     folder = room / "crates" / "costs" / "src"
     folder.mkdir(parents=True)
     (folder / "main.rt").write_text(source())
+    shutil.copy(COUNTED, folder / "costs.rt")
     return build.quick_program(room, "costs", below)
 
 
@@ -79,7 +82,7 @@ def refused(counter, program):
         for (call, is_value), (_, was_value), most, it in zip(made, ample, needed, left):
             found += number <= most
             if is_value != (was_value and number > most) or it.left:
-                faults.append("%s: allocation %d of %d refused: %s, and %d blocks are left" % (call, number, most, "a value" if is_value else "no value", it.left))
+                faults.append("%s, allocation %d of %d refused: wanted no value and no block, got %s and %d blocks" % (call, number, most, "a value" if is_value else "none", it.left))
     return found, faults
 
 

@@ -2,11 +2,12 @@
 
 A text is whole, or has another list, map or text in it that isn't right at its end. So memory that isn't given back is seen on each way out.
 """
-import pathlib
 import re
 from typing import Callable, NamedTuple
 
-TOP = pathlib.Path(__file__).resolve().parents[3]
+from lib import data
+from lib.top import TOP
+
 IMPLEMENTATION = re.compile(r"uParse<\w+>\s+for\s+([^{]+?)\s*\{")
 
 
@@ -98,34 +99,13 @@ def nodes(size):
     return [node, node[:-1]]
 
 
-def integers():
-    for bits in (8, 16, 32, 64, 128):
-        least, most = str(-(2 ** (bits - 1))), str(2**bits - 1)
-        yield Parsed("u%d" % bits, "u%d" % bits, plainly(most, most + "0"))
-        yield Parsed("i%d" % bits, "i%d" % bits, plainly(least, least + "0"))
-        yield Parsed("NonZeroU%d" % bits, "NonZeroU%d" % bits, plainly(most, "0"))
-        yield Parsed("NonZeroI%d" % bits, "NonZeroI%d" % bits, plainly(least, "0"))
-    for name, text in (("usize", str(2**64 - 1)), ("isize", str(-(2**63))), ("NonZeroUsize", str(2**64 - 1)), ("NonZeroIsize", str(-(2**63)))):
-        yield Parsed(name, name, plainly(text, text + "0"))
-
-
 def small_types():
-    yield Parsed("bool", "bool", plainly("false", "falsey"))
-    yield Parsed("char", "char", plainly("'\U0001f980'", "'\\u{1b}'", "'a"))
-    yield Parsed("()", "()", plainly("()", "( )"))
-    yield Parsed("Ordering", "Ordering", plainly("Greater", "Great"))
-    yield Parsed("RangeFull", "RangeFull", plainly("..", "."))
-    yield Parsed("f32", "f32", plainly("1.1754944e-38", "16777216.0", "0.10000000149", "21.5", "21.50"))
-    yield Parsed("f64", "f64", plainly("2.2250738585072014e-308", "9007199254740993.0", "3.141592653589793", "-1234.567", "-1234.5670", "0.30000000000000004"))
-    yield Parsed("Decimal", "Decimal", plainly("-92233720368547758.08", "0.%s1" % ("0" * 200), "1."))
-    yield Parsed("Option<T>", "Option<Option<u8>>", plainly("Some(Some(255))", "None", "Some(None"))
+    """Those of tools/data/costs/types.txt, and two whose texts have a size."""
+    for row in data.parts("costs/types.txt")["small"]:
+        implementation, name, *texts = row.split(" => ")
+        yield Parsed(implementation, name, plainly(*map(data.text_of, texts)))
     yield Parsed("Result<T, E>", "Result<String, char>", lambda size: ["Ok(%s)" % it for it in quoted(size)] + ["Err('a')", "Err(a)"])
-    yield Parsed("Bound<T>", "Bound<u8>", plainly("Included(1)", "Excluded(255)", "Unbounded", "Included(1"))
     yield Parsed("ControlFlow<B, C>", "ControlFlow<u8, String>", lambda size: ["Break(1)"] + ["Continue(%s)" % it for it in quoted(size)])
-    yield Parsed("Reverse<T>", "Reverse<u8>", plainly("Reverse(255)", "Reverse(256)"))
-    yield Parsed("Wrapping<T>", "Wrapping<i8>", plainly("Wrapping(-128)", "-128"))
-    yield Parsed("Saturating<T>", "Saturating<u16>", plainly("65535", "65536"))
-    yield Parsed("CellValue<T>", "CellValue<bool>", plainly("Cell { value: true }", "Cell { value: 1 }"))
 
 
 def holders():
@@ -147,8 +127,8 @@ def holders():
         yield Parsed(holder + "<T, A>", holder + "<i16, Global>", listed(number))
         yield Parsed(holder + "<T, A>", holder + "<String, Global>", listed(lambda value: '"%d"' % value))
     yield Parsed("CowSlice<'a, T, A>", "CowSlice<'static, u8, Global>", listed(number))
-    for size in (0, 1, 3, 16):
-        yield Parsed("[T; N]", "[u16; %d]" % size, array(size or 1, number) if size else plainly("[]", "[1]"))
+    for size in (1, 3, 16):
+        yield Parsed("[T; N]", "[u16; %d]" % size, array(size, number))
     yield Parsed("[T; N]", "[String; 4]", array(4, lambda value: '"%d"' % value))
 
 
@@ -161,7 +141,7 @@ def keyed():
 
 def types():
     """Each type once."""
-    found = [*integers(), *small_types(), *holders(), *keyed()]
+    found = [*small_types(), *holders(), *keyed()]
     found += [Parsed(letters(count), fields_type(count), tuple_of(count)) for count in range(1, 13)]
     return found + [Parsed("Tree", "Tree", trees), Parsed("Node", "Node", nodes)]
 

@@ -2,85 +2,17 @@
 without the comma at the end. The texts are written here, as core::fmt has them.
 
 Where the macros are called, `Result`, `Ok` and their like are names of other things, and what a macro names of the libraries has no
-name of its own."""
+name of its own: tools/data/crates/grammar has the file's head, and each kind of piece with its text."""
+from lib import data
 
 COUNTS = (0, 1, 2, 3, 12, 13, 14, 24, 25)
 MORE_COUNTS = tuple(range(26))
 PARSED = range(13)
 # Numbers of pieces in a line. Lines of more than eight are grouped in fours, and these in pairs.
 LINES = (*range(4, 19), 20, 21, 24, 25, 32, 33)
-
-HEAD = """\
-//! Tests of the forms of macros, which tools/lib/crates/grammar.py writes.
-use super::page::{Page, same_parts, writes};
-use std::option::Option::{None as Nothing, Some as There};
-use std::result::Result as Outcome;
-use std::result::Result::{Err as Wrong, Ok as Right};
-use ufmt::pieces::{Debug as ByDebug, Line};
-use ufmt::{Align, Column, Formatter as Output, Full, HexOptions, fields, pieces, uwrite, uwriteln, variants};
-use ufmt_parse::{Fault as NoValue, Parser as Input, PlainText, parse_fields, parse_variants};
-use ufmt_snapshot::assert_snapshot;
-
-#[derive(Drop)]
-struct Result;
-
-#[derive(Drop)]
-struct Option;
-
-#[derive(Drop)]
-enum Choice {
-    Ok,
-    Err,
-    Some,
-    None,
-}
-
-use Choice::{Err, None, Ok, Some};
-
-#[test]
-fn names_are_shadowed(_rt: HostRuntime) {
-    drop((Ok, Err, Some, None, Result, Option));
-}
-
-const HEX: HexOptions = HexOptions { upper_case: false, pad_char: b'0', pad_length: 6, ox_prefix: true };
-const BITS: HexOptions = HexOptions { upper_case: false, pad_char: b'0', pad_length: 12, ox_prefix: true };
-const RIGHT: Column = Column { width: 18, align: Align::Right, fill: '.' };
-"""
-
-# Each kind of piece with `{0}` in place of a number of three digits: how it is written, and its text. `{1}` is the number
-# in four hexadecimal digits, `{2}` in four octal ones, `{3}` in ten binary ones, and columns have 18 characters. No two
-# kinds print one value alike. `uwrite!` has the first fifteen.
-PIECES = (
-    ('text "t{0}"', "t{0}"),
-    ('display "s{0}"', "s{0}"),
-    ('debug "d{0}"', '"d{0}"'),
-    ("pretty There({0}u16)", "Some(\n    {0},\n)"),
-    ("hex {0}u16 with HEX", "0x{1}"),
-    ("hex {0}u16 with HEX in RIGHT", "............0x{1}"),
-    ('display "s{0}" in RIGHT', "..............s{0}"),
-    ('debug "d{0}" in RIGHT', '............"d{0}"'),
-    ("pretty (There({0}u16)) in RIGHT", "..Some(\n    {0},\n)"),
-    ("bin {0}u16 with BITS", "0b{3}"),
-    ("oct {0}u16 with HEX", "0o{2}"),
-    ("zeros {0}u16 to 6", "000{0}"),
-    ("bin {0}u16 with BITS in RIGHT", "......0b{3}"),
-    ("oct {0}u16 with HEX in RIGHT", "............0o{2}"),
-    ("zeros {0}u16 to 6 in RIGHT", "............000{0}"),
-    ('each display ["s{0}", "7"] between "-"', "s{0}-7"),
-    ('each debug ["d{0}", "7"] between "+"', '"d{0}"+"7"'),
-    ('each pretty [There({0}u16), Nothing] between "_"', "Some(\n    {0},\n)_None"),
-    ('each hex [{0}u16, 9] with HEX between ";"', "0x{1};0x0009"),
-    ('each display ["s{0}", "7"] in RIGHT between "|"', "..............s{0}|.................7"),
-    ('each debug ["d{0}", "7"] in RIGHT between ":"', '............"d{0}":..............."7"'),
-    ('each pretty [There({0}u16), Nothing] in RIGHT between "*"', "..Some(\n    {0},\n)*..............None"),
-    ('each hex [{0}u16, 9] with HEX in RIGHT between "/"', "............0x{1}/............0x0009"),
-    ('each bin [{0}u16, 9] with BITS between "#"', "0b{3}#0b0000001001"),
-    ('each oct [{0}u16, 9] with HEX in RIGHT between "@"', "............0o{2}@............0o0011"),
-    ('each zeros [{0}u16, 9] to 6 between "~"', "000{0}~000009"),
-    ('each zeros [{0}u16, 9] to 6 in RIGHT between "^"', "............000{0}^............000009"),
-    ('each [{0}u16, 5] by ByDebug between "="', "{0}=5"),
-)
-WRITTEN = 15
+FOLDER = "crates/grammar/"
+KINDS = [[data.text_of(word) for word in row.split(" => ")] for part in data.parts(FOLDER + "pieces.txt").values() for row in part]
+WRITTEN = len(data.parts(FOLDER + "pieces.txt")["in each line"])
 
 
 def quoted(text):
@@ -202,14 +134,14 @@ def line(pieces, first):
 def pieces_tests():
     for place, comma in enumerate(("", ",")):
         rows = []
-        for number, pieces in enumerate(lines_of(PIECES), 1):
+        for number, pieces in enumerate(lines_of(KINDS), 1):
             source, text = line(pieces, 100 + 3 * number)
             rows.append(row("pieces!(%s%s).print(out)" % (source, comma), text, number))
         yield test("pieces_%d" % place, rows)
     yield test("no_pieces", [row("pieces!().print(out)", "", 1)])
     rows = []
     for count in LINES:
-        source, text = line([PIECES[place % 2] for place in range(count)], 100 + count)
+        source, text = line([KINDS[place % 2] for place in range(count)], 100 + count)
         rows.append(row("pieces!(%s).print(out)" % source, text, count))
     yield test("numbers_of_pieces", rows)
 
@@ -217,7 +149,7 @@ def pieces_tests():
 def uwrite_tests():
     for name, end in (("uwrite", ""), ("uwriteln", "\n")):
         rows = []
-        for number, pieces in enumerate(lines_of(PIECES[:WRITTEN]), 1):
+        for number, pieces in enumerate(lines_of(KINDS[:WRITTEN]), 1):
             source, text = line(pieces, 100 + 3 * number)
             rows += [row("%s!(out, %s%s)" % (name, source, comma), text + end, number) for comma in ("", ",")]
         yield test("%s_pieces" % name, rows)
@@ -358,7 +290,7 @@ def snapshot_test():
 def source(is_all):
     """The whole file."""
     counts = MORE_COUNTS if is_all else COUNTS
-    parts = [HEAD, "\n#[derive(Drop)]\nstruct Unit;\n"]
+    parts = [(data.DATA / FOLDER / "head.rt.txt").read_text(), "\n#[derive(Drop)]\nstruct Unit;\n"]
     parts += [types(count) for count in sorted({*counts, *PARSED})]
     parts += [fields_test(count) for count in counts]
     parts += [*pieces_tests(), *uwrite_tests()]

@@ -7,7 +7,7 @@ TEST = re.compile(r"((?:// .*\n)*)#\[test\]\nfn (\w+)")
 RESULT = re.compile(r"^test tests::(\w+)::(\w+) \.\.\. (ok|FAILED)\n((?:    .*\n|\n)*)", re.M)
 KILLED = re.compile(r"    src/tests/\w+\.rt:\d+:\d+: the test was killed by signal 6 \(SIGABRT\)\n$")
 REFUSED = re.compile(r"const REFUSED: usize = ([\d_]+);")
-ROOT = "#![tactic(auto)]\n\n//! Tests that tools/try-crates runs.\n#[cfg(test)]\nmod tests;\n"
+ROOT = "#![tactic(auto)]\n\n//! Tests that x try macros runs.\n#[cfg(test)]\nmod tests;\n"
 
 
 def read(folder):

@@ -1,11 +1,10 @@
 """The programs that print floats: over ufmt_float and ufmt_fixed, by rustc, and over the kit's ryu."""
-import pathlib
 import shutil
 import subprocess
 
 from lib.bench import build
+from lib.top import TOP
 
-TOP = pathlib.Path(__file__).resolve().parents[3]
 DATA = TOP / "tools" / "data" / "floats"
 
 

@@ -1,33 +1,33 @@
-"""Bounds of the instructions that ufmt takes to print a float, and one with a number of decimals."""
+"""What ufmt takes to print a float, and one with a number of decimals: tools/data/measured/floats.txt.
+
+Its rows are usual floats; decimals that binary fractions have; the ends of the ranges that crates/ufmt_float/CALLING.md and
+crates/ufmt_fixed/CALLING.md name, and what lies in them.
+"""
+import pathlib
 import shutil
+import tempfile
 
+from lib import measures, needs
 from lib.bench import floats
+from lib.floats import programs
 
-# What a call takes today, with the loop around it: `{:?}` of a float, and after a colon `fixed x to N`.
-TAKEN = {
-    "21.5": 418, "0.1": 486, "1.0": 360, "3.141592653589793": 576, "1e-7": 541, "1e23": 654, "1e-20": 1053, "1e300": 2290,
-    "5e-324": 3075, "21.5:2": 492, "3.141592653589793:15": 705, "-123456.789:0": 483, "0.1:20": 4579, "1e300:2": 24712,
-    "5e-324:300": 954, "1e16:2": 701, "3.141592653589793:17": 746, "1e-60": 1043, "1e60": 1016,
-    # Decimals that binary fractions have.
-    "0.5": 444, "0.25": 450, "0.125": 462, "19.75": 403, "-1234.0625": 521, "0.25:4": 516, "-1234.0625:6": 593, "3.141592653589793:9": 599,
-    # The ends of the ranges that crates/ufmt_float/CALLING.md names, and what lies in them.
-    "1e15": 377, "1.5e-9": 526, "1e-15": 737, "1e40": 602, "1e46": 767, "1e-93": 1075, "1e-75": 1061, "1e80": 938, "1e125": 1080, "6.55e149": 2235,
-    "1.2345678901234567e250": 2989, "1.7976931348623157e308": 3087, "2.2250738585072014e-308": 3179,
-    # The same of texts with decimals in crates/ufmt_fixed/CALLING.md.
-    "1e17:2": 715, "9e18:0": 682, "5e-324:310": 960,
-}
-# A call may take so many times as much.
-MOST = 1.3
+TOLD = "Of `x try floats`: steps of a `{:?}` and the loop around it, and after a colon of one with decimals"
 
 
 def counted(program):
     """What each call of the program takes. None is counted without valgrind."""
     if not shutil.which("valgrind"):
         return {}
-    return {value: floats.instructions(program, value) for value in TAKEN}
+    return {value: [("steps", floats.instructions(program, value))] for value in measures.Table("floats").rows}
 
 
 def faults(counts):
     """A line for each call that takes more than its bound."""
-    return ["%s takes %d instructions, and not at most %d" % (value, count, MOST * TAKEN[value])
-            for value, count in counts.items() if count > MOST * TAKEN[value]]
+    return list(measures.Table("floats").faults(counts)) if counts else []
+
+
+def measured_again(is_written):
+    """Writes the table again, or names each row whose bound left the band."""
+    needs.require("measure", "rt", "valgrind")
+    with tempfile.TemporaryDirectory(prefix="x-floats-") as room:
+        return measures.measured_again("floats", counted(programs.by_ufmt(pathlib.Path(room))), TOLD, is_written)

@@ -117,7 +117,7 @@ def wrong_round(devices, number, chunk, writes):
         if not given:
             return "after read %d of %s it ends: %s" % (number, shown(chunk or b""), shown(b"".join(devices.rest(devices.error))))
         if given != wanted:
-            return "after read %d of %s it writes %s, not %s" % (number, shown(chunk or b""), shown(given), shown(wanted))
+            return "after read %d of %s: wanted %s, got %s" % (number, shown(chunk or b""), shown(wanted), shown(given))
     return None
 
 
@@ -131,7 +131,7 @@ def wrong_end(devices, program, process, wanted, line):
         return "at the end it writes %s and %s, and its status is %d" % (shown(b"".join(rest)), shown(b"".join(error)), ended.status)
     wanted = wanted._replace(writes=wanted.writes + len(error))
     if ended.reads is not None and ended != wanted:
-        return "%d reads and %d writes are called, not %d and %d" % (*ended[1:], *wanted[1:])
+        return "wanted %d reads and %d writes, got %d and %d" % (*wanted[1:], *ended[1:])
     return None
 
 

@@ -4,17 +4,11 @@ A log that `--plain` leaves as it is comes back after pretty and plain, for ever
 """
 import random
 
+from lib import data
 from lib.log_model import log_model
 
 LIMITS = (0, 8, 40)
-# What broke weaker definitions: two values one after another, a map after a name, and brackets before a line feed.
-NAMED = (b"m {a: a}", b"[2]{b}", b"{a}f(3)", b"[a](b,)", b"{\n,(:,)", b"a: [b, c]", b"S { a: :: }", b"counts {1: 2, 3: 4}")
-PIECES = (b"a", b"b:", b"a: ", b"[", b"]", b"(", b")", b"{", b"}", b" { ", b" }", b", ", b",", b":", b": ", b" ", b"\n", b"    ", b"        ", b",\n",
-          b"\n    ", b"..", b"\"x [1, 2]\"", b"'a'", b"'", b"\\", b"()", b"(Weak)", b"[::1]:80", b"Some(", b"S { a: 1, b: 2 }", b"[1, 2]",
-          b"{1: 2, 3: 4}", b"{a: 1, b: 2}", b"m ", b"1", b"\xff", b"\xc3\xa9", b"(a,)", b"(a, b)", b"[\n    a,\n]", b"m {\n    a: b,\n}", b"x {\n    a,\n}",
-          b"(\n    1,\n)", b"{\n    1: 2,\n}", b"\r", b"\x1b[0m", b",\n}", b",\n]", b"\n}", b"[[", b"{ ", b"S { a: [", b"    1,\n", b"    ..\n",
-          b"S {\n    a: 1,\n    ..\n}", b"\"", b"[\n", b"{\n", b"(\n", b" {\n", b"S {\n", b"x:", b"] b [\n", b"}(\n", b"]{\n", b"    [\n", b"    b: S {\n",
-          b"        1,\n", b"    ],\n", b"]\n", b"}\n", b")\n")
+NAMED, PIECES = ([data.data_of(row) for row in data.parts("logs/nasty.txt")[part]] for part in ("named", "pieces"))
 
 
 def nasty(chance):

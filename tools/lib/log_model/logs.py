@@ -1,13 +1,9 @@
 """Random logs, and how they are cut into chunks. One seed makes the same ones each time."""
 import itertools
-import random
 
-from lib.log_model.log_model import STRUCTS, Block, plain, pretty, quoted
+from lib.log_model.log_model import Block, plain, pretty, quoted
+from lib.model.documents import DebugMaker
 
-LETTERS = "abcxyzABCXYZ0189_-"
-# Characters of one to four bytes, and those that have an escape.
-CHARACTERS = "\0\t\n\r\\\"'\x01\x1b\x7f aZ~,:[]{}()\u0080\u00e9\u07ff\u20ac\ufffd\U0001f980\U0010ffff"
-KINDS = ("list", "set", "map", "struct", "open struct", "tuple", "unnamed")
 # What is between words, or next to a text. A text begins only after a space or a line feed.
 BETWEEN = (b" ", b" ", b" ", b"  ", b"    ", b"\t", b"=", b": ", b", ", b"\r ", b"\r", b"\0", b"\xff ", b"\xc3", b". ", b"\xc2\xa0", b"\x0b")
 AFTER = (b" ", b"\r", b".", b",", b"\0", b"]", b"}", b")", b"\t", b"\xff", b"  ", b"\x80", b"\xe2\x82")
@@ -21,57 +17,16 @@ CHUNK = 64 * 1024
 
 class Maker:
     def __init__(self, seed):
-        self.random = random.Random(seed)
+        self.documents = DebugMaker(seed)
+        self.random = self.documents.random
 
     def size(self, most):
         """A number from 1 on, as often between 1 and 10 as between 10 and 100."""
         return int((most + 1) ** self.random.random())
 
-    def word(self):
-        return "".join(self.random.choices(LETTERS, k=self.size(20)))
-
-    def leaf(self):
-        form = self.random.random()
-        if form < 0.5:
-            return self.word()
-        if form < 0.6:
-            return "()"
-        if form < 0.85:
-            return quoted("".join(self.random.choices(CHARACTERS, k=self.size(60) - 1)))
-        return quoted(self.random.choice(CHARACTERS), "'")
-
-    def document(self, leaves):
-        """A document with so many leaves. It can be too deep for a text."""
-        if leaves == 1 and self.random.random() < 0.6:
-            return self.leaf() if self.random.random() < 0.9 else self.empty()
-        cuts = sorted(self.random.randrange(leaves + 1) for _ in range(self.size(leaves) - 1))
-        shares = [end - start for start, end in zip([0, *cuts], [*cuts, leaves]) if end > start]
-        return self.block([self.document(share) for share in shares])
-
-    def empty(self):
-        kind = self.random.choice(("list", "map", "open struct"))
-        return Block(kind, self.word() if kind in STRUCTS else "", [])
-
-    def block(self, values):
-        kind = self.random.choice(KINDS)
-        if kind == "map":
-            return Block("map", "", [(self.leaf(), value) for value in values])
-        if kind in STRUCTS:
-            return Block(kind, self.word(), [(self.word(), value) for value in values])
-        if kind == "unnamed":
-            return Block("tuple", "", [(None, value) for value in values])
-        return Block(kind, self.word() if kind == "tuple" else "", [(None, value) for value in values])
-
-    def chain(self):
-        """A document in so many lists that they are perhaps too deep."""
-        document = self.leaf()
-        for _ in range(self.random.choice(NUMBERS[:28])):
-            document = self.block([document])
-        return document
-
     def text(self):
-        """The plain or pretty text of a document."""
-        document = self.chain() if self.random.random() < 0.02 else self.document(self.size(50))
+        """The plain or pretty text of a document, which may be too deep."""
+        document = self.documents.chain() if self.random.random() < 0.02 else self.documents.grown(self.size(50), 0)
         return self.random.choice((plain, pretty))(document).encode()
 
     def changed(self, text):
@@ -96,7 +51,7 @@ class Maker:
             return b""
         words = []
         for _ in range(self.size(1000 if self.random.random() < 0.05 else 8)):
-            words.append(self.random.choice(SIGNS) if self.random.random() < 0.25 else self.word())
+            words.append(self.random.choice(SIGNS) if self.random.random() < 0.25 else self.documents.word())
             words.append(self.random.choice(BETWEEN).decode("utf-8", "surrogateescape"))
         return "".join(words).encode("utf-8", "surrogateescape")
 

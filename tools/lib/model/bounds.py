@@ -54,7 +54,7 @@ for call in ("is_text", "read", "convert", "convert to a String", "convert into"
 STEPS["debug is_debug"] = tuple(map(sum, zip(STEPS["is_token"], DEBUG_STEPS)))
 # A call that reads a text and then does another thing takes what both take.
 STEPS["read_field"] = tuple(map(sum, zip(STEPS["read"], STEPS["leaf_text"], STEPS["field_text"])))
-# It may take so many times the steps. If a step takes more nanoseconds, on long texts, then steps are counted: steps that grow
+# It may take so many times the steps, more than by a table of what was measured, since these numbers fit texts of any shape. If a step takes more nanoseconds, on long texts, then steps are counted: steps that grow
 # in another order are far beyond. Spaces of indentation are compared and written several at once, and a text may be nearly
 # all indentation, so of these steps it may take fewer more.
 MOST_STEPS = 1.8
@@ -119,6 +119,8 @@ class Memory(NamedTuple):
 NOTHING = Memory()
 # How long a text is at most for which a conversion reserves memory at once.
 RESERVED = 1024
+# What an open block takes: its name, its entries, and the key that waits.
+OPEN_BLOCK = 96
 # How many bytes more a text that is parsed gets room for at its first escape.
 PARSED = 32
 
@@ -130,13 +132,14 @@ def text(length, start=8):
 
 
 def document(found, length, size=DOC):
-    """A document of a text of this length, of values of this size, and the stack on which it is made."""
-    strings = found.strings()
-    count = strings + found.blocks + found.empties
-    entries = -(-found.entry_bytes * size // DOC)
-    made = length + entries + 4 * size * (count + 1)
-    held = 2 * (found.text_bytes() + entries) + size
-    return Memory(strings + found.blocks + 1, made, count.bit_length() + 2, held, made)
+    """A document of a text of this length, of values of this size, and the open blocks in which it is made. The entries of a
+    block are a vector that grows by doubling, from four on. A map's first key is in a vector of its own until the colon."""
+    strings, blocks = found.strings(), found.blocks
+    entries = 2 * -(-found.entry_bytes * size // DOC) + 8 * size * blocks
+    open_blocks = 2 * OPEN_BLOCK * min(max(blocks, 4), 256)
+    held = 2 * found.text_bytes() + entries + size
+    made = length + 2 * (entries + open_blocks) + 4 * size * (blocks + 1)
+    return Memory(strings + 2 * blocks + 1, made, (strings + blocks + found.empties) // 4 + 8, held, made)
 
 
 def grown(items, size):

@@ -1,29 +1,14 @@
 """Characters of each class, byte order marks and other encodings, in each place of a text."""
+from lib import data
 from lib.model.model import Block, plain, pretty, quoted
 
-# Ends of ranges, by their first and last characters: controls, spaces, marks, letters of each length in bytes.
-RANGES = (
-    (0x00, 0x1F), (0x20, 0x2F), (0x3A, 0x40), (0x5B, 0x60), (0x7B, 0x7F), (0x80, 0x9F), (0xA0, 0xBF), (0x300, 0x36F), (0x7FF, 0x800),
-    (0x1100, 0x11FF), (0x2000, 0x200F), (0x2028, 0x202F), (0x205F, 0x206F), (0x20D0, 0x20F0), (0xAC00, 0xD7A3), (0xD7FF, 0xE000),
-    (0xF8FF, 0xF900), (0xFDD0, 0xFDEF), (0xFE00, 0xFE0F), (0xFE20, 0xFE2F), (0xFEFF, 0xFFFD), (0x1F1E6, 0x1F1FF), (0x1F3FB, 0x1F3FF),
-    (0xE0001, 0xE007F), (0xE0100, 0xE01EF),
-)
-# Line ends, spaces, marks of direction, and letters and signs that look or fold like those of ASCII.
-SINGLE = (
-    0x41, 0x5A, 0x61, 0x7A, 0x30, 0x39, 0x85, 0xA0, 0xAA, 0xAD, 0xB2, 0xBA, 0xDF, 0xE9, 0x130, 0x131, 0x17F, 0x212A, 0x3A9, 0x410, 0x5D0, 0x61C,
-    0x627, 0x660, 0x966, 0x1680, 0x180E, 0x200B, 0x200C, 0x200D, 0x2011, 0x2013, 0x2018, 0x2019, 0x201C, 0x201D, 0x2028, 0x2029, 0x202E, 0x2060,
-    0x2066, 0x2069, 0x2126, 0x2212, 0x20AC, 0x3000, 0xA640, 0xFB01, 0xFEFF, 0xFF01, 0xFF0C, 0xFF10, 0xFF1A, 0xFF21, 0xFF3B, 0xFF3F, 0xFF5B, 0x10400,
-    0x1D400, 0x1D7CE, 0x1F980,
-)
+TABLES = data.parts("texts/characters.txt")
+ENDS = [int(end, 16) for row in TABLES["ends"] for ends in row.split() for end in ends.split("-")]
+SINGLE = [int(code, 16) for row in TABLES["single"] for code in row.split()]
+NO_UTF_8 = [data.data_of(row) for row in TABLES["no UTF-8"]]
 PLANES = range(17)
 MARK = "\ufeff"
 ENCODINGS = ("utf-16-le", "utf-16-be", "utf-16", "utf-32-le", "utf-32-be", "utf-32")
-# Bytes that are no UTF-8: overlong, surrogates, past the last character, cut short, and of other encodings.
-NO_UTF_8 = (
-    b"\x80", b"\xbf", b"\xc0\x80", b"\xc1\xbf", b"\xc2", b"\xe0\x80\x80", b"\xe0\x9f\xbf", b"\xe2\x82", b"\xed\xa0\x80", b"\xed\xbf\xbf",
-    b"\xed\xa0\x80\xed\xb0\x80", b"\xf0\x80\x80\x80", b"\xf0\x8f\xbf\xbf", b"\xf0\x9f\xa6", b"\xf4\x90\x80\x80", b"\xf5\x80\x80\x80",
-    b"\xf8\x88\x80\x80\x80", b"\xfc\x84\x80\x80\x80\x80", b"\xfe", b"\xff", b"\xfe\xff", b"\xff\xfe", b"\xe9",
-)
 SAMPLES = ('[x, "y"]', '[\n    x,\n    "y",\n]', "Node { value: 1 }", "x", '"x"', "'x'", "()", "{a: (1,)}")
 # How many characters of a plane are in one text.
 CHARACTERS_EACH = 32_768
@@ -36,8 +21,7 @@ def is_scalar(code):
 def codes():
     """The codes of each class: in each plane the first, one within, the last and the two before it."""
     of_planes = {(plane << 16) + low for plane in PLANES for low in (0, 0x1234, 0x8000, 0xFFFD, 0xFFFE, 0xFFFF)}
-    of_ranges = {end for ends in RANGES for end in ends}
-    return sorted(code for code in of_planes | of_ranges | set(SINGLE) | set(range(128)) if is_scalar(code))
+    return sorted(code for code in of_planes | set(ENDS) | set(SINGLE) | set(range(128)) if is_scalar(code))
 
 
 CODES = codes()

@@ -2,6 +2,7 @@
 from concurrent.futures import ThreadPoolExecutor
 from typing import NamedTuple
 
+from lib import findings
 from lib.log_model import log_model
 from lib.model import bounds, shapes
 from lib.model.costs import SECONDS, rough
@@ -87,27 +88,19 @@ def run_memory(run):
     return taken._replace(held=0)
 
 
-def over(counts, allowed):
-    """A message with the first number that is more than allowed, or None."""
-    for name, most in allowed.items():
-        if getattr(counts, name) > most:
-            return "%s: %d, and not at most %d" % (name, getattr(counts, name), most)
-    return None
-
-
 def run_faults(counter, program, run):
     """The faults of a run of ufmt_conv."""
     name = "ufmt_conv %s of %s" % (run.command, run.name)
     arguments = [program, run.command]
     _output, counts = counter.run(arguments, run.data, name, seconds=SECONDS)
     allowed = dict(run_memory(run)._asdict(), left=0, reads=len(run.data) // CHUNK + 2, writes=1)
-    wrong = over(counts[0], allowed)
+    wrong = findings.over(name, counts[0], allowed)
     if wrong:
-        yield "%s: %s" % (name, wrong)
+        yield wrong
     if counter.valgrind and run.case.length - run.case.indentation <= MOST_COUNTED:
         steps = counter.steps(arguments, run.data, name, seconds=SECONDS)[0]
         if steps > run_steps(run):
-            yield "%s: %d steps, and not at most %d" % (name, steps, run_steps(run))
+            yield findings.most(name, run_steps(run), steps, "steps")
 
 
 def conv_faults(counter, program):
@@ -138,7 +131,7 @@ def short_read_faults(counter, programs):
     if not counter.valgrind:
         return [], 0
     found = {name: read_steps(counter, [program, *words], "short reads, " + name, data) for name, program, words, data in short_reads(programs)}
-    return ["%s: a read of %d bytes takes %d steps more, and not at most %d" % (name, READ_BYTES, steps, READ_STEPS[name])
+    return [findings.most("%s, a read of %d bytes" % (name, READ_BYTES), READ_STEPS[name], steps, "steps more")
             for name, steps in found.items() if steps > READ_STEPS[name]], len(found)
 
 
@@ -219,13 +212,13 @@ def short_line_faults(counter, arguments, name, log):
     parts = [(line.group + "\n").encode() for line in log]
     start, *steps, _after = counter.steps(arguments, b"".join(parts), name + ", in turn", seconds=SECONDS, parts=list(map(len, parts)))
     if len(steps) != len(log):
-        return ["steps of %d groups, and not of %d" % (len(steps), len(log))]
+        return [findings.case("the steps of short groups", len(log), len(steps))]
     return [line_steps_fault(line, start + taken) for line, taken in zip(log, steps)]
 
 
 def line_steps_fault(line, steps):
     most = line_steps(line) + START_STEPS
-    return "%s: %d steps, and not at most %d" % (line.name, steps, most) if steps > most else None
+    return findings.most(line.name, most, steps, "steps") if steps > most else None
 
 
 def line_memory_fault(line, counts):
@@ -241,5 +234,4 @@ def line_memory_fault(line, counts):
         "writes": 1 + len(line.group) // CHUNK,
         "reads": 2 + len(line.group) // CHUNK,
     }
-    wrong = over(counts, allowed)
-    return "%s: %s" % (line.name, wrong) if wrong else None
+    return findings.over(line.name, counts, allowed)

@@ -1,8 +1,8 @@
 """Compares what each call takes of memory and steps with its bounds, on a text of each shape."""
 from typing import NamedTuple
 
-from lib import measures
-from lib.model import bounds, requests, shapes
+from lib import findings, measures
+from lib.model import asked, bounds, shapes
 from lib.model.features import Features, features, indentation, past_ascii
 from lib.model.model import DEBUG, PlainReader, PrettyReader, plain, pretty
 
@@ -23,11 +23,12 @@ SOME_TIME = 10_000_000
 
 
 def rough(text):
-    """Features of a text of no document, at most."""
+    """Features of a text of no document, at most. An entry ends at a comma, and a pair or a field has a colon too."""
     separators = sum(text.count(sign) for sign in ",:\"'")
     blocks = min(sum(text.count(bracket) for bracket in "[({"), 256)
     escapes = text.count("\\")
-    return Features(escapes=escapes, bare=separators + 1, texts=text.count('"'), blocks=blocks)
+    entry_bytes = DOC * (text.count(",") + text.count(":"))
+    return Features(escapes=escapes, bare=separators + 1, texts=text.count('"'), blocks=blocks, entry_bytes=entry_bytes)
 
 
 def leaf_case(text):
@@ -39,7 +40,7 @@ def leaf_case(text):
 
 
 class Sample(NamedTuple):
-    """A text, and what is known of it in each half of a line of `ufmt_model_probe costs`."""
+    """A text, and what is known of it in each half of a line of `probe_model costs`."""
 
     name: str
     data: bytes
@@ -107,32 +108,26 @@ def calls_of(line):
 
 
 def judged(one, line, counted, fault):
-    """The faults of one text. `fault` says what is wrong with a call by its case and its counts."""
+    """The faults of one text. `fault` says what is wrong with a call, which has a name, by its case and its counts."""
     for half, call in calls_of(line):
-        wrong = fault(call, one.cases[half], next(counted))
+        wrong = fault("%s of %s, %s" % (call, one.name, half), call, one.cases[half], next(counted))
         if wrong:
-            yield "%s of %s, %s: %s" % (call, one.name, half, wrong)
+            yield wrong
 
 
-def memory_fault(call, case, counts):
+def memory_fault(name, call, case, counts):
     """What is wrong with the memory of a call, or None."""
-    allowed = bounds.memory(call, case)
-    for name, most in allowed._asdict().items():
-        if getattr(counts, name) > most:
-            return "%s: %d, and not at most %d" % (name, getattr(counts, name), most)
-    if counts.left > 0:
-        return "%d blocks are never freed" % counts.left
-    return None
+    return findings.over(name, counts, dict(bounds.memory(call, case)._asdict(), left=0))
 
 
-def is_slow(call, case, counts):
+def is_slow(_name, call, case, counts):
     """Whether a call took so long that it may have taken too many steps. A machine that does other things may be slow too."""
     return counts.nanoseconds > SOME_TIME + bounds.NANOSECONDS * bounds.steps(call, case)
 
 
-def steps_fault(call, case, steps):
+def steps_fault(name, call, case, steps):
     most = bounds.steps(call, case)
-    return "%d steps, and not at most %d" % (steps, most) if steps > most else None
+    return findings.most(name, most, steps, "steps") if steps > most else None
 
 
 def request_sample(request):
@@ -194,7 +189,7 @@ def rows_of(texts, lines, counts):
 def measured_rows(counter, program):
     """The rows of all texts and requests."""
     rows = {}
-    for texts in [*(list(samples(COUNTED_SIZE, number)) for number in range(PARTS)), list(map(request_sample, requests.huge()))]:
+    for texts in [*(list(samples(COUNTED_SIZE, number)) for number in range(PARTS)), list(map(request_sample, asked.huge()))]:
         data = data_of(texts)
         output, _memory = counter.run([program, "costs"], data, "measured", seconds=SECONDS)
         steps = counter.steps([program, "costs"], data, "measured", seconds=SECONDS)
@@ -204,7 +199,7 @@ def measured_rows(counter, program):
 
 def request_faults(counter, program, is_counted):
     """The faults of calls with huge options, and how many calls were counted. Each must find its buffer full."""
-    made = list(map(request_sample, requests.huge()))
+    made = list(map(request_sample, asked.huge()))
     wrong, count, lines = counted_faults(counter, program, made, "requests", is_counted, REQUEST_SECONDS)
     return wrong + ["%s: a text fits: %s" % (one.name, line) for one, line in zip(made, lines) if " yes" in line], count
 

@@ -1,6 +1,6 @@
 /* Counts what a program takes: a library that is put before it by LD_PRELOAD, in place of the C library's calls.
  *
- * An allocation of MARK bytes is a mark of ufmt_model_probe: a call begins, it ended and its result is held, or the result
+ * An allocation of MARK bytes is a mark of probe_model: a call begins, it ended and its result is held, or the result
  * was dropped. No memory is given for a mark. At the third one a line of counts is written to the file that COUNTS names.
  * A program without marks gets a line when it ends; with COUNTS_OF=writes it gets one after each write, too.
  * With COUNTS_REFUSE=N the Nth allocation or growth of each call is refused. With COUNTS_REFUSE_OF=run it is the Nth of the whole run,

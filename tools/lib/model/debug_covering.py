@@ -1,11 +1,8 @@
 """Documents that fill each cell of the table of debug texts. What a cell leaves open is chosen at random."""
-from lib.model.coverage import BLOCKS, EXACT_ENTRIES, EXACT_LENGTH, LEAVES, PLACES, powers
+from lib.model.coverage import BLOCKS, DEBUG_PLACES, EXACT_ENTRIES, EXACT_LENGTH, LEAVES, OPEN_STRUCTS, powers
 from lib.model.debug_leaves import ESCAPED, SHAPES
 from lib.model.model import DEEPEST, STRUCTS, Block
 
-DEBUG_PLACES = (*PLACES, "field of an open struct")
-# Structs that end in dots, with fields and without.
-OPEN_STRUCTS = ("open struct", "empty open struct")
 DOTS = ".."
 NAME_SHAPES = ("p", "u", "Cp", "pCu", "wCw", "uCw")
 SHAPES_EACH = 60

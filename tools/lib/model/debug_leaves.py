@@ -8,6 +8,7 @@ a lifetime, which a word follows. At a leaf's start, `W` is a word in parenthese
 import itertools
 import re
 
+from lib import data
 from lib.model import characters
 from lib.model.model import CONTROLS, IN_QUOTES, LIFETIME, QUOTED_CHARACTER, QUOTED_TEXT, START, UNIT, WORD, WORD_BYTES, quoted
 
@@ -20,12 +21,7 @@ POINTS = "".join(chr(code) for code in range(0x21, 0x7F) if chr(code) not in END
 ESCAPED = "".join(map(chr, range(0x20, 0x7F)))
 PAST_ASCII = "\u00e9\u00b5\u0301\u20ac\u200b\ufeff\U0001f980\U0010ffff"
 # What rustc prints of values of std.
-PRINTED = (
-    "1.5", "-0.0", "1e-7", "NaN", "1.5s", "150\u00b5s", "127.0.0.1:80", "::1", "::ffff:10.0.0.1", "0..5", "..=9", "..", "'a'..='z'",
-    '"a".."b"', 'b"x\\x00"', "b'\\''", "'\\u{301}'", '"\\u{301}"', "<borrowed>", "PhantomData<alloc::vec::Vec<u8>>", "0x7f0012", "_",
-    "a::B", "1..=\"b\"", "f()", "a::b().c()", "fe80::", "::", "(Weak)",
-    "[::1]:80", "'static", "&'a", "&'static::str", "don't", "'a'b'c",
-)
+PRINTED = tuple(map(data.text_of, data.parts("texts/pieces.txt")["printed"]))
 
 
 def letter_of(found):
@@ -74,14 +70,6 @@ SHAPES = list(filter(is_shape, ROWS))
 def is_in_word(character):
     """Whether a word may have the character, but for colons."""
     return character not in ENDS + ":" and not re.match("[%s]" % CONTROLS, character)
-
-
-def word_form(text):
-    """The place and the character of a text that is a character, with or without a letter before and after it."""
-    for position, before, after in (("only", "", ""), ("first", "", "a"), ("last", "a", ""), ("middle", "a", "a")):
-        if len(text) == 1 + len(before + after) and text.startswith(before) and text.endswith(after):
-            return position, ord(text[len(before)])
-    return None
 
 
 def joined(pieces):

@@ -2,10 +2,8 @@
 import math
 import random
 
-from lib.model import characters, debug_refused, pieces, values
-from lib.model.coverage import powers
-from lib.model.covering import Covering
-from lib.model.debug_covering import DEBUG_PLACES, DebugCovering
+from lib import data
+from lib.model import characters, types
 from lib.model.debug_leaves import PRINTED, LeafMaker
 from lib.model.model import DEEPEST, STRUCTS, Block, plain, pretty, quoted
 
@@ -28,14 +26,10 @@ MOST_BYTES = 6000
 KINDS = ("list", "set", "map", "struct", "tuple", "unnamed")
 # The places that a document can have in a block of a chain.
 PLACES = ("list", "set", "key", "value", "struct", "tuple", "unnamed", "last of two", "first of two")
-# What a change puts in: brackets, spaces, line ends, escapes and quotes; and bytes that are no UTF-8.
-PIECES = (
-    "[", "]", "{", "}", "(", ")", "[]", "{}", "()", ",", ", ", ",\n", ": ", ":", " ", "    ", "\n", "\r", "\t", "\0", "\x7f",
-    '"', "'", "\\", "\\n", "\\u{1b}", "\\u{a}", "\\u{7F}", "\\u{07f}", "\\u{41}", "\\'", '\\"', "\\x", "a", "-", "\u00e9",
-)
-# What a change puts into debug texts besides.
-DEBUG_PIECES = ("..", "..=", ", ..", " { .. }", "    ..\n", "::", ":", "a:", ":a", "b'", 'b"', '""', "'x'", "\\\u00e9", "1.5", "\u20ac", "<", ">", *PRINTED)
-BAD_BYTES = (b"\xff", b"\x80", b"\xc3", b"\xc0\x80", b"\xed\xa0\x80", b"\xf4\x90\x80\x80", b"\xe2\x82", b"\xf0\x9f\xa6")
+# What a change puts in, and into debug texts besides; and bytes that are no UTF-8.
+CHANGES = data.parts("texts/pieces.txt")
+PIECES, DEBUG_PIECES = (list(map(data.text_of, CHANGES[part])) for part in ("token", "debug"))
+BAD_BYTES = list(map(data.data_of, CHANGES["no UTF-8"]))
 
 
 def cuts(random, total, count):
@@ -168,7 +162,7 @@ class Maker:
         if form < 0.65:
             document = self.document()
         elif form < 0.85:
-            document = values.made(self.random)
+            document = types.made(self.random)
         elif form < 0.92:
             document = self.chain()
         else:
@@ -240,7 +234,7 @@ class Maker:
 class DebugMaker(Maker):
     """Makes debug documents. Some of their leaves and names are those of token documents, and some of their structs end in dots."""
 
-    pieces = PIECES + DEBUG_PIECES
+    pieces = [*PIECES, *DEBUG_PIECES, *PRINTED]
     kinds = (*KINDS, "open struct")
     places = (*PLACES, "open struct")
 
@@ -271,65 +265,3 @@ class DebugMaker(Maker):
         if form == 2:
             return ":" * length + self.leaves.name(3)
         return self.leaves.in_quotes("o", length)
-
-
-def in_both_modes(documents):
-    for document in documents:
-        texts = plain(document), pretty(document)
-        yield texts[0].encode()
-        # A leaf has one text.
-        if texts[0] != texts[1]:
-            yield texts[1].encode()
-
-
-def too_deep(maker):
-    """In each place a chain that is almost too deep, and one that is."""
-    for depth in (DEEPEST - 1, DEEPEST, DEEPEST + 1):
-        for place in maker.places:
-            document = "x"
-            for _ in range(depth):
-                document = maker.deeper(place, document)
-            yield document
-
-
-def listed_leaves(leaves):
-    """Each leaf by itself, and all in a list."""
-    yield from leaves
-    yield Block("list", "", [(None, leaf) for leaf in leaves])
-
-
-def late_block():
-    """A block after more leaves than a number of two bytes counts."""
-    leaves = [(None, "x")] * 70_000
-    return Block("list", "", [*leaves, (None, Block("struct", "S", [("a", "1")])), (None, Block("list", "", [(None, "y")]))])
-
-
-def first_texts(seed):
-    """Texts that come first: each cell of the table of coverage, and each shape at each limit."""
-    maker, debug_maker = Maker(seed), DebugMaker(seed)
-    covering = Covering(maker)
-    debug_covering = DebugCovering(debug_maker, Covering(debug_maker, DEBUG_PLACES))
-    yield from (b"", b"\n", b"()", b"[]", b"{}", b'""', b"''", b"x\n")
-    yield from pieces.first_texts()
-    yield from in_both_modes(values.first_texts(maker.random))
-    yield from in_both_modes(too_deep(maker))
-    yield from in_both_modes(too_deep(debug_maker))
-    yield from in_both_modes(covering.documents())
-    yield from in_both_modes(debug_covering.documents())
-    yield from in_both_modes(listed_leaves(PRINTED))
-    yield from debug_refused.texts()
-    for number, document in enumerate(covering.many()):
-        yield (plain, pretty)[(number + seed) % 2](document).encode()
-    for character in CHARACTERS:
-        for length in (1, 255, 256, 257, 4097):
-            yield quoted(character * length).encode()
-        yield quoted(character, "'").encode()
-    for character in KINDS_OF_CHARACTERS:
-        yield quoted(character * 100_000).encode()
-    yield from in_both_modes([late_block()])
-    for length in LENGTHS:
-        yield b"x" * length
-        yield b" " * length
-    for size in powers(131072):
-        yield maker.characters(size).encode()[: covering.within(size) - 1] + b"]"
-    yield from characters.texts()

@@ -72,7 +72,7 @@ def command_runs(number):
 
 
 def verdict(text, document, other):
-    """The line of ufmt_model_probe on one of both texts of a document. Other is the document's other text."""
+    """The line of probe_model on one of both texts of a document. Other is the document's other text."""
     is_leaf, is_pretty = text == other, text[1:2] == "\n"
     by_plain, by_pretty = (
         half(text, *[document if is_text else None] * 2, mode) for mode, is_text in ((False, not is_pretty), (True, is_leaf or is_pretty))
@@ -84,7 +84,7 @@ def verdict_runs():
     for make in JUDGED:
         name, by_plain, by_pretty, document = make()
         for text, other in ((by_plain, by_pretty), (by_pretty, by_plain))[: 1 + (by_plain != by_pretty)]:
-            yield name, "ufmt_model_probe", [], "%d\n%s" % (len(text), text), verdict(text, document, other)
+            yield name, "probe_model", [], "%d\n%s" % (len(text), text), verdict(text, document, other)
 
 
 def limited():
@@ -98,7 +98,7 @@ def run_fault(program, arguments, data, wanted):
         return "status %d: %s" % (ran.returncode, ran.stderr[-200:].decode("utf-8", "replace"))
     given = ran.stdout.decode()
     if given != wanted:
-        return "%d bytes that start with %r, and not the right %d" % (len(given), given[:60], len(wanted))
+        return "wanted %d bytes, got %d that start with %r" % (len(wanted), len(given), given[:60])
     return None
 
 

@@ -7,7 +7,7 @@ what is around entries. A set or a map whose keys don't ascend, and an array of 
 import re
 import string
 
-from lib.model import floats, values
+from lib.model import types, values
 from lib.model.model import DEBUG, PlainReader, PrettyReader, unquoted
 
 WORDS = {
@@ -274,7 +274,7 @@ def stopped(data, at, expected):
 def stops(data, is_pretty):
     """What the program prints of the types that have no value with the text."""
     texts, told, lines = Texts(data, is_pretty), [], {}
-    for letter, kind in values.TYPES.items():
+    for letter, kind in types.TYPES.items():
         found = stop(kind, texts)
         if found is None:
             continue

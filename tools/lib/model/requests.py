@@ -18,12 +18,12 @@ A number that fits is the bits of a float too, of 32 and of 64. The text of a fl
 A range is its ends and dots between them. A mark of a line adds no pieces. What is between the items of a slice is a
 piece, also if it is empty.
 """
-import random
 import re
 from decimal import Decimal
 from typing import NamedTuple
 
 from lib.model import floats
+from lib.model.dumps import dump
 from lib.model.model import Block, add_pretty, plain, pretty, quoted
 from lib.model.pieces import by_character, by_text, digest, of_value, printed, with_zeros
 
@@ -263,35 +263,7 @@ def nested(request, text):
     return by_text("[") * depth + by_text(text) + by_text("]") * depth + before + by_text(text) + after
 
 
-# ---- Dumps.
-
-
-def dump(request):
-    per_row = request.per_row or 16
-    rows = range(0, len(request.payload), per_row)
-    return b"".join(row_pieces(request, at, request.payload[at : at + per_row]) for at in rows)
-
-
-def row_pieces(request, at, row):
-    """The pieces of a row. A short one is one piece, which has the text of all of them."""
-    per_row = request.per_row or 16
-    group = request.group or per_row
-    pieces = []
-    if request.offset < 2**32:
-        digits = "%x" % (request.offset + at)
-        pieces += [piece for piece in ("0" * (8 - len(digits)), digits) if piece] + [": "]
-    pieces += [" " * (number > 0 and number % group == 0) + "%02x" % byte for number, byte in enumerate(row)]
-    if request.ascii:
-        missing = per_row - len(row)
-        for count in (missing, missing, (per_row - 1) // group - (len(row) - 1) // group):
-            pieces += [" " * 64] * (count // 64) + [" " * (count % 64)] * (count % 64 > 0)
-        text = "".join(chr(byte) if 32 <= byte < 127 else "." for byte in row)
-        pieces += ["  "] + [text[start : start + 64] for start in range(0, len(text), 64)]
-    pieces.append("\n")
-    return by_text(*pieces) if per_row > 32 else by_text("".join(pieces))
-
-
-# ---- The line of a request, and the requests.
+# ---- The line of a request.
 
 
 def verdict(data):
@@ -310,78 +282,3 @@ def verdict(data):
         digest(values(text)),
         digest(nested(request, text)),
     )
-
-
-BOUNDS = (0, 1, 31, 32, 33, 63, 64, 65, 127, 128, 129, 255, 256, 257, 1000, 4096)
-FILLS = " *0\u00e9\u20ac\U0001f980\0\x7f"
-# What payloads are made of: words, escapes, characters of two to four bytes.
-KINDS = ("a", "ab\n", "\u00e9", "a\"\u20ac", "\x1b'", "\U0001f980")
-OFFSETS = (0, 1, 0xFFFFFF, 0x1000000, 0xFFFFFFF, 0x10000000, 0xFFFFFFDF, 0xFFFFFFFF, 2**32)
-
-
-# Options that each make a text longer than the buffer of 64 bytes in which the program counts steps, and huge ones.
-LONG, HUGE = 100, (2**63, 2**64 - 1)
-
-
-def huge():
-    """Requests with one huge option each, with some that don't meet in a call, and with columns of each width around
-    numbers that are padded to each."""
-    some = Request(width=LONG, pad_length=LONG, per_row=LONG, payload=b"abc")
-    for number in (LONG, *HUGE):
-        for align in (0, 1, 2):
-            for fill in " *\u20ac":
-                yield some._replace(width=number, align=align, fill=ord(fill))
-        for pad in (32, 48, 127):
-            for prefix in (0, 1):
-                yield some._replace(pad_length=number, pad=pad, prefix=prefix)
-        for width in (65, 1000, LONG, *HUGE):
-            for align in (0, 1, 2):
-                yield some._replace(pad_length=number, width=width, align=align)
-        for group in (0, 1, LONG, *HUGE):
-            for offset in (0, 0xFFFFFFFF, 2**32):
-                yield some._replace(per_row=number, group=group, offset=offset)
-
-
-class Asker:
-    """Makes requests. One seed makes the same ones each time."""
-
-    def __init__(self, seed):
-        self.random = random.Random(seed)
-
-    def request(self, width, per_row, payload):
-        """A request with other options at random."""
-        choice = self.random.choice
-        return Request(
-            width, choice((0, 1, 2)), ord(choice((" ", choice(FILLS)))),
-            choice((0, 1)), choice((48, 32, choice(range(128)))), choice(BOUNDS), choice((0, 1)),
-            per_row, choice((0, 1, 2, 3, 4, 16, choice(BOUNDS))), choice(OFFSETS), choice((0, 1, 1)), payload,
-        )
-
-    def text(self, length):
-        kind = self.random.choice(KINDS)
-        return (kind * length)[:length].encode()
-
-    def number(self):
-        """A number of some count of digits, or one near a bound of a type."""
-        digits, bits = self.random.randrange(39), self.random.choice((7, 8, 15, 16, 31, 32, 63, 64, 127, 128))
-        some = self.random.randrange(10**digits, 10 ** (digits + 1))
-        near = self.random.choice((2**bits, 10**digits)) + self.random.choice((-1, 0, 1))
-        number = self.random.choice((some, near))
-        return str(self.random.choice((number, -number))).encode()
-
-
-def made(seed):
-    """Requests of each two of the bounds as the width of a column and the length of a text, and as the length of a row
-    and that of what is dumped."""
-    asker = Asker(seed)
-    for place, width in enumerate(BOUNDS):
-        for other, length in enumerate(BOUNDS):
-            per_row = BOUNDS[(place + other) % len(BOUNDS)]
-            yield asker.request(width, per_row, asker.text(length)).data()
-            yield asker.request(min(width, 130), asker.random.randrange(1, 41), asker.number()).data()
-            yield asker.request(0, per_row, asker.random.randbytes(length)).data()
-    for width in (32, 64):
-        for bits in floats.edges(width):
-            yield asker.request(1, 1, str(bits).encode()).data()
-    for length in (20_000, 70_000):
-        yield asker.request(length, length, asker.text(length)).data()

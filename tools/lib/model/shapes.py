@@ -1,74 +1,18 @@
 """Documents of each shape, token documents and debug documents, and texts of no token document, in any size."""
+from lib import data
 from lib.model.model import STRUCTS, Block, plain, quoted
 
 PLACES = ("list", "set", "key", "value", "struct", "tuple", "unnamed")
 TREE = Block("struct", "Tree", [("size", "1"), ("children", Block("list", "", []))])
 ONLY_DOTS = Block("open struct", "S", [])
-# Each kind of leaf, in its shortest texts and in some that are a little longer.
-LEAVES = {
-    "letters": "x",
-    "words": "seventeen-letters",
-    "numbers": "18446744073709551615",
-    "units": "()",
-    "empty texts": '""',
-    "texts": '"ab"',
-    "texts with escapes": quoted('\n"\x1b\\'),
-    "characters": "'a'",
-    "characters past ASCII": quoted("\u20ac", "'"),
-    "escaped characters": quoted("\n", "'"),
-    "long escapes": quoted("\x1b", "'"),
-}
+# Leaves and rows of pieces, by their names.
+TABLES = {part: {name: [text.decode() for text in texts] for name, texts in rows.items()}
+          for part, rows in data.named("texts/shapes.txt").items()}
 # Values of types that have no long texts.
 VALUES = {
     "a number": "-170141183460469231731687303715884105728",
     "a character": quoted("\x1b", "'"),
     "an option of a number": Block("tuple", "Some", [(None, "-128")]),
-}
-# A leaf of one kind of character.
-LONG_LEAVES = {
-    "a long word": None,
-    "a long text": "a",
-    "a long text of apostrophes": "'",
-    "a text of quotation marks": '"',
-    "a text of short escapes": "\n\0",
-    "a text of long escapes": "\x1b",
-    "a text of two bytes each": "\u00e9",
-    "a text of three bytes each": "\u20ac",
-    "a text of four bytes each": "\U0001f980",
-    "a text of all kinds": "ab\u00e9\n\u20ac\x1b",
-}
-
-
-# Leaves that only debug documents have, in their shortest texts and in some that are a little longer.
-DEBUG_LEAVES = {
-    "letters past ASCII": "\u00b5",
-    "points": "+",
-    "numbers with points": "-12345678.87654321",
-    "ranges": "0..=9",
-    "paths": "a::B",
-    "addresses": "127.0.0.1:8080",
-    "calls": "f()",
-    "texts of bytes": 'b"ab"',
-    "ranges of texts": '"a".."b"',
-    "other escapes": "'\\u{301}'",
-}
-# A long leaf in a row of these.
-DEBUG_ROWS = {
-    "points": ("", ".", ""),
-    "letters past ASCII": ("", "\u20ac", ""),
-    "colons before a letter": ("", ":", "a"),
-    "letters and colons": ("", "a:", "a"),
-    "colons": ("", ":", ""),
-    "calls": ("", "f()", ""),
-    "colons before quotes": ("", ':"a"', ""),
-    "texts in a row": ("", '"a"', ""),
-    "empty texts in a row": ("", '""', ""),
-    "lifetimes": ("", "'ab", ""),
-    "texts and words": ("", '"a"..', ""),
-    "one text": ('b"', "a", '"'),
-    "one text past ASCII": ('b"', "\u20ac", '"'),
-    "one text of escapes": ('b"', "\\x", '"'),
-    "one text of quotes": ('b"', '\\"', '"'),
 }
 
 
@@ -99,8 +43,6 @@ def wide(place, value, size):
 
 
 def long_leaf(characters, size):
-    if characters is None:
-        return "x" * size
     return quoted(characters * (size // (len(quoted(characters).encode()) - 2)))
 
 
@@ -173,8 +115,9 @@ def repeated(document, size):
 
 def documents():
     """Each shape by its name, with a call that makes a document of a size."""
-    shapes = {name: lambda size, characters=characters: long_leaf(characters, size) for name, characters in LONG_LEAVES.items()}
-    for name, leaf in LEAVES.items():
+    shapes = {name: lambda size, characters=characters: long_leaf(characters, size) for name, (characters,) in TABLES["characters of long leaves"].items()}
+    shapes["a long word"] = lambda size: "x" * size
+    for name, (leaf,) in TABLES["leaves"].items():
         shapes["a wide list of " + name] = lambda size, leaf=leaf: repeated(leaf, size)
     for kind in ("list", "map"):
         shapes["a wide list of an empty " + kind] = lambda size, kind=kind: repeated(Block(kind, "", []), size)
@@ -199,8 +142,8 @@ def documents():
     return shapes
 
 
-def debug_leaf(row, size):
-    """A leaf of this size: a piece so many times, between what is before and after."""
+def in_a_row(row, size):
+    """A text of this size: a piece so many times, between what is before and after."""
     before, piece, after = row
     return before + piece * (size // len(piece.encode())) + after
 
@@ -226,8 +169,8 @@ def open_structs():
 
 def debug_documents():
     """Each shape of debug documents that aren't token documents, in the same way."""
-    shapes = {"a long leaf, " + name: lambda size, row=row: debug_leaf(row, size) for name, row in DEBUG_ROWS.items()}
-    for name, leaf in DEBUG_LEAVES.items():
+    shapes = {"a long leaf, " + name: lambda size, row=row: in_a_row(row, size) for name, row in TABLES["long debug leaves"].items()}
+    for name, (leaf,) in TABLES["debug leaves"].items():
         shapes["a wide list of " + name] = lambda size, leaf=leaf: repeated(leaf, size)
     for place in PLACES:
         shapes["a wide %s of points" % place] = lambda size, place=place: wide(place, "1.5", size)
@@ -242,23 +185,7 @@ def debug_documents():
 def no_texts():
     """Texts of no token document, in the same way. They are wrong at the end or at the start."""
     return {
-        "colons": lambda size: ":" * size,
-        "a word and colons": lambda size: "x" + ":" * size,
-        "colons and spaces": lambda size: "x: " * (size // 3),
-        "an open quote after quotes": lambda size: '"a"' * (size // 3) + '"',
-        "an open quote after quotes and words": lambda size: "'a'.." * (size // 5) + "'",
-        "open parentheses before words": lambda size: "(w" * (size // 2),
-        "open brackets before addresses": lambda size: "[v" * (size // 2),
-        "apostrophes": lambda size: "'" * size,
-        "lifetimes and an apostrophe": lambda size: "'ab" * (size // 3) + "'",
-        "lifetimes and an open escape": lambda size: "'ab" * (size // 3) + "'\\a",
-        "points and a control": lambda size: "." * size + "\x7f",
-        "opening brackets": lambda size: "[" * size,
-        "spaces": lambda size: " " * size,
-        "line feeds": lambda size: "\n" * size,
-        "an open quote": lambda size: '"' + "a" * size,
-        "an open quote with escapes": lambda size: '"' + '\\"' * (size // 2),
-        "quotes in a row": lambda size: '"a"' * (size // 3),
+        **{name: lambda size, row=row: in_a_row(row, size) for name, row in TABLES["no texts"].items()},
         "an open list": lambda size: "[" + ", ".join("x" * (size // 3)),
         "an open list of numbers": lambda size: "[" + ", ".join(["65535"] * (size // 7)),
         "an open list of texts": lambda size: "[" + ", ".join(['"ab"'] * (size // 6)),
@@ -267,9 +194,5 @@ def no_texts():
         "an open map of keys in order": lambda size: plain(ordered_map(size))[:-2],
         "an open map": lambda size: "{" + ", ".join(["k: v"] * (size // 6)),
         "an open pretty list": lambda size: "[\n" + "    x,\n" * (size // 7),
-        "an open struct without its end": lambda size: "S { " + "a: x, " * (size // 6) + "..",
-        "only dots and a rest": lambda size: "[" + "S { .. }, " * (size // 10) + "S { .. }.]",
         "dots and a comma": lambda size: "S {\n" + "    a: x,\n" * (size // 10) + "    ..,\n}",
-        "a list and a rest": lambda size: "[" + "x, " * (size // 3) + "x]]",
-        "a word and a byte that is no text": lambda size: "x" * size + "\x7f",
     }

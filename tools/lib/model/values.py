@@ -1,11 +1,8 @@
-"""The types that the program parses: which documents are their values', and random values of them.
-
-Each has a letter, which the program prints of a text if a value of the type has it.
-"""
+"""Kinds of types: which documents are their values', and random values of them. types.py has the types that the program parses."""
 import re
 
 from lib.model import floats
-from lib.model.model import Block, plain, quoted, unquoted
+from lib.model.model import Block, quoted, unquoted
 
 NUMBER = re.compile(r"0|-?[1-9][0-9]*")
 # A sign, the digits of the whole number, and those after a point.
@@ -250,12 +247,15 @@ TEXT = Quoted('"', CHARACTERS)
 CHARACTER = Quoted("'", CHARACTERS)
 
 
+SIZE = Number(0, 2**64 - 1)
+
+
 class Tree:
     def has(self, document):
         return TREE.has(document)
 
     def made(self, random):
-        size = Number(0, 2**64 - 1).made(random)
+        size = SIZE.made(random)
         children = [self.made(random) for _ in range(random.choice((0, 0, 0, 1, 2)))]
         return Block("struct", "Tree", [("size", size), ("children", Block("list", "", [(None, child) for child in children]))])
 
@@ -265,208 +265,25 @@ class Node:
         return NODE.has(document)
 
     def made(self, random):
-        value = Number(0, 2**64 - 1).made(random)
+        value = SIZE.made(random)
         following = "None" if random.random() < 0.5 else Block("tuple", "Some", [(None, self.made(random))])
         return Block("struct", "Node", [("value", value), ("next", following)])
 
 
-TREE = Fields("struct", "Tree", [("size", Number(0, 2**64 - 1)), ("children", List(Tree()))])
-NODE = Fields("struct", "Node", [("value", Number(0, 2**64 - 1)), ("next", Choice("None", Some=Node()))])
+TREE = Fields("struct", "Tree", [("size", SIZE), ("children", List(Tree()))])
+NODE = Fields("struct", "Node", [("value", SIZE), ("next", Choice("None", Some=Node()))])
 
 
-def row(letters, *kinds):
-    """Types with their letters."""
-    assert len(letters) == len(kinds)
-    return dict(zip(letters, kinds))
+# ---- The types without parameters.
 
 
-def unsigned(bits):
-    return Number(0, 2**bits - 1)
+def integers():
+    """Each type of integers by its name."""
+    for name, bits in (("8", 8), ("16", 16), ("32", 32), ("64", 64), ("128", 128), ("size", 64)):
+        low, high = -(2 ** (bits - 1)), 2 ** (bits - 1)
+        yield from {"u" + name: Number(0, 2 * high - 1), "i" + name: Number(low, high - 1)}.items()
+        yield from {"NonZeroU" + name: Number(1, 2 * high - 1, False), "NonZeroI" + name: Number(low, high - 1, False)}.items()
 
 
-def signed(bits):
-    return Number(-(2 ** (bits - 1)), 2 ** (bits - 1) - 1)
-
-
-def nonzero(number):
-    return Number(number.low or 1, number.high, has_zero=False)
-
-
-def few(count):
-    """A tuple of so many numbers and truth values in turn."""
-    return Fields("tuple", "", [(None, BOOL if number % 2 else unsigned(8)) for number in range(count)])
-
-
-BOOL = Word("false", "true")
-UNIT = Word("()")
-ORDERING = Word("Less", "Equal", "Greater")
-BYTE = unsigned(8)
-UNSIGNED = [unsigned(bits) for bits in (8, 16, 32, 64, 128, 64)]
-SIGNED = [signed(bits) for bits in (8, 16, 32, 64, 128, 64)]
-
-TYPES = {
-    **row("abcdefghijkl", *UNSIGNED, *SIGNED),
-    **row("mnopqrstuv", *(nonzero(number) for number in UNSIGNED[:4] + UNSIGNED[5:] + SIGNED[:4] + SIGNED[5:])),
-    **row("ABDF", BOOL, CHARACTER, UNIT, Choice("None", Some=Choice("None", Some=BOOL))),
-    **row(
-        "CEGJ\u03bd",
-        TEXT,
-        Choice("None", Some=signed(8)),
-        Choice("None", Some=TEXT),
-        BYTE,
-        Fields("tuple", "", [(None, CHARACTER), (None, UNIT), (None, List(BOOL))]),
-    ),
-    **row("HI", Choice(None, Ok=TEXT, Err=CHARACTER), Choice(None, Ok=UNIT, Err=Choice("None", Some=CHARACTER))),
-    **row(
-        "KLMNOPQR",
-        List(unsigned(64)),
-        List(Choice("None", Some=BOOL)),
-        List(List(BYTE)),
-        List(BYTE, 0),
-        List(BOOL, 1),
-        List(signed(16), 2),
-        List(CHARACTER, 3),
-        List(List(BYTE, 2), 2),
-    ),
-    **row(
-        "STUVWXYZ012345",
-        Keyed(signed(8)),
-        Keyed(TEXT, Choice("None", Some=BYTE)),
-        Keyed(BOOL),
-        Keyed(CHARACTER, UNIT),
-        Keyed(UNIT),
-        Keyed(Choice("None", Some=BYTE)),
-        Keyed(Choice(None, Ok=BOOL, Err=CHARACTER)),
-        Keyed(List(signed(16))),
-        Keyed(List(BYTE, 2), List(CHARACTER)),
-        Keyed(signed(32)),
-        Keyed(unsigned(64), Keyed(signed(128))),
-        Keyed(unsigned(16), Keyed(unsigned(64), Keyed(unsigned(128)))),
-        Keyed(signed(64), Keyed(signed(64))),
-        Keyed(unsigned(32), Keyed(BYTE)),
-    ),
-    **row(
-        "\u03be\u03bf\u03c0\u03c1\u03c3\u03c4\u03c5\u03c6",
-        ORDERING,
-        Choice("Unbounded", Included=BYTE, Excluded=BYTE),
-        Choice(None, Continue=CHARACTER, Break=BOOL),
-        signed(8),
-        unsigned(16),
-        Reversed(BYTE),
-        Fields("struct", "Cell", [("value", BOOL)]),
-        Word(".."),
-    ),
-    **row("\u03c8\u03c9\u0431\u0432\u0433", signed(8), Choice("None", Some=BOOL), TEXT, TEXT, TEXT),
-    **row("\u0435\u0436\u0437\u0438\u0439", List(BYTE), List(BOOL), List(signed(16)), List(CHARACTER), List(BYTE)),
-    **row("\u043d\u043e", Keyed(Reversed(BYTE)), Keyed(ORDERING, TEXT)),
-    **row("678", Tree(), Node(), List(Tree())),
-    **row(
-        "\u03b1\u03b2\u03b3\u03b4\u03b5\u03b6\u03b7\u03b8\u03b9\u03ba\u03bb\u03bc",
-        Fields("tuple", "", [(None, unsigned(32))]),
-        *(few(count) for count in range(2, 13)),
-    ),
-    **row("\u043f\u0440", Float(32), Float(64)),
-    **row("\u0434", Decimal()),
-}
-
-
-# ---- Structs, tuples and an enum that are parsed by the calls and the macros for a user's types.
-
-NAMES = "abcdefghijkl"
-
-
-def mixed(kind, name, count):
-    """A struct or a tuple of so many numbers and characters in turn."""
-    names = NAMES[:count] if kind == "struct" else [None] * count
-    return Fields(kind, name, [(name, CHARACTER if number % 2 else BYTE) for number, name in enumerate(names)])
-
-
-TWELVE = Fields("struct", "Twelve", [(name, BYTE) for name in NAMES[:11]] + [("l", TEXT)])
-ONE = Fields("tuple", "One", [(None, TEXT)])
-SHAPES = [mixed(kind, name, count) for kind, name in (("struct", "S"), ("tuple", "T")) for count in (1, 2, 3, 12)]
-SAID = Fields("tuple", "Said", [(None, BYTE), (None, TEXT)])
-LOST = Fields("struct", "Lost", [("since", BYTE), ("peers", List(BYTE))])
-SIGNALS = (Word("Started"), SAID, LOST, Word("Ended"))
-KINDS_OF_SHAPES = (*SHAPES, TWELVE, ONE, *SIGNALS)
-SHAPE_COUNT = len(KINDS_OF_SHAPES)
-
-
-def shapes(document):
-    """The numbers of these types that have a value with this document."""
-    return [number for number, kind in enumerate(KINDS_OF_SHAPES) if kind.has(document)]
-
-
-def unnamed(values):
-    return Block("tuple", "", [(None, value) for value in values])
-
-
-def some(value):
-    return Block("tuple", "Some", [(None, value)])
-
-
-def values_of(document):
-    return [value for _name, value in document.entries]
-
-
-def fields(document):
-    """The fields of a document of one of these types, as the program prints them."""
-    if document in ("Started", "Ended"):
-        return "e(%d, None, None);" % (3 if document == "Ended" else 0)
-    if isinstance(document, str):
-        return ""
-    if any(shape.has(document) for shape in SHAPES):
-        found = values_of(document)
-        found = found[0] if len(found) == 1 else unnamed(found)
-        return document.kind[0] + plain(found) + ";"
-    if TWELVE.has(document):
-        found = values_of(document)
-        return "w" + plain(unnamed([unnamed(found[:11]), found[11]])) + ";"
-    if ONE.has(document):
-        return "o" + plain(values_of(document)[0]) + ";"
-    if SAID.has(document):
-        return "e" + plain(unnamed(["1", some(unnamed(values_of(document))), "None"])) + ";"
-    if LOST.has(document):
-        return "e" + plain(unnamed(["2", "None", some(unnamed(values_of(document)))])) + ";"
-    return ""
-
-
-def first_texts(random):
-    """Values of each type. The values at each number type's bounds, and one past them; and what is nearly a value."""
-    for kind in (*TYPES.values(), *KINDS_OF_SHAPES):
-        yield from (surely(kind, random) for _ in range(3))
-        yield kind.made(random)
-    bounds = {(kind.low, kind.high) for kind in TYPES.values() if isinstance(kind, Number)}
-    for low, high in sorted(bounds):
-        yield from (str(number) for number in (low - 1, low, high, high + 1))
-    yield from ("0", "-0", "00", "-1", "01", "-01", "None", "Some", "true", "True", "Tree", "Node")
-    for name in ("None", "Some", "Ok", "Err", "Maybe"):
-        for value in ("1", "-129", "'a'", quoted("a"), Block("list", "", [])):
-            yield Block("tuple", name, [(None, value)])
-            yield Block("struct", name, [("value", value)])
-    for keys in (("1", "2"), ("2", "1"), ("1", "1"), ("-1", "1"), ("-1", "-2"), ("1", "128"), (quoted("a"), quoted("b"))):
-        yield Block("set", "", [(None, key) for key in keys])
-        yield Block("list", "", [(None, key) for key in keys])
-        yield Block("map", "", [(key, "None") for key in keys])
-    for keys in (("", "a"), ("b", "a"), ("a", "a"), ("z", "\u00e9"), ("\u20ac", "\U0001f980")):
-        yield Block("map", "", [(quoted(key), Block("tuple", "Some", [(None, "255")])) for key in keys])
-    yield Block("struct", "Tree", [("children", Block("list", "", [])), ("size", "1")])
-    yield Block("struct", "Tree", [("size", "1"), ("children", "None")])
-    yield Block("struct", "Node", [("value", "1"), ("next", "1")])
-
-
-def surely(kind, random):
-    """A value of the type."""
-    while True:
-        document = kind.made(random)
-        if kind.has(document):
-            return document
-
-
-def letters(document):
-    """The letters of the types that have a value with this document."""
-    return "".join(letter for letter, kind in TYPES.items() if kind.has(document))
-
-
-def made(random):
-    """A value of one of the types, or what is nearly one."""
-    return random.choice([*TYPES.values(), *KINDS_OF_SHAPES]).made(random)
+INTEGERS = dict(integers())
+BYTE, ORDERING = INTEGERS["u8"], Word("Less", "Equal", "Greater")

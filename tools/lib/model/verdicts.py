@@ -1,5 +1,5 @@
 """The lines that the programs should print: of each text all that the calls say of it, and what ufmt_conv writes."""
-from lib.model import coverage, debug_coverage, pieces, places, requests, values
+from lib.model import coverage, pieces, places, requests, types
 from lib.model.model import DEBUG, DEEPEST, NO_UTF8, TOKEN, PlainReader, PrettyReader, depth_of, events, parts, plain, pretty, quoted
 from lib.model.shown import shown
 
@@ -28,8 +28,8 @@ def reading(document, is_pretty, is_token):
 
 def parsed(document, data, is_pretty):
     """Which types have a value with a text, the fields of those of a user's types, and the errors of the other types."""
-    letters = values.letters(document) if document is not None else ""
-    fields = values.fields(document) if document is not None else ""
+    letters = types.letters(document) if document is not None else ""
+    fields = types.fields(document) if document is not None else ""
     errors = digest(places.stops(data, is_pretty))
     return "types [%s] in pieces %s, fields %s, errors %s" % (letters, pieces.of_values(document, is_pretty, letters), digest(fields), errors)
 
@@ -73,17 +73,6 @@ def leaf_verdict(text):
 READERS = [(PlainReader(), PlainReader(DEBUG)), (PrettyReader(), PrettyReader(DEBUG))]
 
 
-def cells(data, found):
-    """The cells of both tables that a text fills, of which each mode has a token document and a debug document."""
-    filled = set()
-    for mode, (document, debug_document) in zip(coverage.MODES, found):
-        filled |= coverage.cells(document, mode, len(data))
-        filled |= coverage.value_cells(debug_document, mode)
-        if document is None:
-            filled |= debug_coverage.cells(data, debug_document, mode)
-    return filled
-
-
 def verdict(data):
     """The line that the program prints of these bytes, and the cells of the table of coverage that they fill."""
     if data.startswith(requests.REQUEST_PREFIX):
@@ -92,7 +81,8 @@ def verdict(data):
     found = [(token.read(text), debug.read(text)) for token, debug in READERS]
     halves = [half(text, *documents, is_pretty) for documents, is_pretty in zip(found, (False, True))]
     leaf = "no UTF-8" if NO_UTF8.search(text) else leaf_verdict(text)
-    return "plain: %s; pretty: %s; leaf: %s" % (*halves, leaf), cells(data, found)
+    cells = [coverage.cells(data, debug, mode) for mode, (_token, debug) in zip(coverage.MODES, found)]
+    return "plain: %s; pretty: %s; leaf: %s" % (*halves, leaf), set().union(*cells)
 
 
 def outcome(command, data):

@@ -1,11 +1,11 @@
-"""The folder that tools/build leaves: laid out as a prefix, with the programs, the library for C in both forms, and what says how
+"""The folder that x dist leaves: laid out as a prefix, with the programs, the library for C in both forms, and what says how
 they were built."""
-import pathlib
 import re
 import shutil
 import subprocess
 
-TOP = pathlib.Path(__file__).resolve().parents[3]
+from lib.top import TOP
+
 CRATE = TOP / "crates" / "ufmt_c"
 PROGRAMS = ("ufmt_conv", "ufmt_lines")
 LICENCES = ("LICENSE-APACHE", "LICENSE-MIT")

@@ -4,10 +4,11 @@ Before each block stands a comment. `<!-- PATH -->` says that the block's lines 
 repository, which the gate proves. `<!-- form -->` says that the block is a shape to fill in, a list of signatures, a
 command or an example that is refused.
 """
-import pathlib
 import re
 
-TOP = pathlib.Path(__file__).resolve().parents[3]
+from lib.findings import ended
+from lib.top import TOP
+
 COMMENT = re.compile(r"<!-- (\S+) -->")
 
 
@@ -52,16 +53,14 @@ def fault(name, block):
 
 
 def main(_arguments):
-    compared, forms, faults = 0, 0, 0
+    compared, forms, faults = 0, 0, []
     for page in pages():
         for number, name, block in blocks(page.read_text().split("\n")):
             wrong = fault(name, block)
             if wrong:
-                faults += 1
-                print("fault: %s:%d: %s" % (page.relative_to(TOP), number, wrong))
+                faults.append("%s:%d: %s" % (page.relative_to(TOP), number, wrong))
             elif name == "form":
                 forms += 1
             else:
                 compared += 1
-    print("%d code blocks are as in their files, %d are forms, %d faults" % (compared, forms, faults))
-    return 1 if faults else 0
+    return ended(faults, "%d code blocks are as in their files, %d are forms" % (compared, forms))

@@ -5,25 +5,22 @@ such a definition cites, and so on. The list of that section must have every one
 this repository. An item lists a file of specs/ whole, or `without` some of its definitions, or only those that it names. A call's
 name may have stars.
 
-A fault is a name of the page that is nothing, a definition that isn't listed, or one that is listed and not cited. `--list` first
-prints, for each list of promises, the definitions that these rest on beside the headline's, by file.
+A fault is a name of the page that is nothing, a definition that isn't listed, or one that is listed and not cited. `x list definitions`
+first prints, for each list of promises, the definitions that these rest on beside the headline's, by file.
 """
 import fnmatch
-import pathlib
 import re
 
 from lib.contracts.functions import functions_of
-from lib.memory_errors.source import end_of, name_at, tokens_of
+from lib.findings import ended
+from lib.contracts.source import end_of, name_at, tokens_of
 from lib.pages.items import items_of, promises_of, section
+from lib.top import TOP, is_ours
 
-TOP = pathlib.Path(__file__).resolve().parents[3]
 CRATES = TOP / "crates"
 PAGE = TOP / "docs" / "PROMISES.md"
 IMPORT = re.compile(r"^\s*(?:ghost |pub )?use Rattle\.(\w+)\.specs\.([\w.]+)\.\{([^}]*)\}", re.M)
 BEGINS = re.compile(r"^ *(?:(?:abbrev|unfoldable|pub|inductive|data) )*(record )?([\w◌]\S*) ?(.*)$")
-# Crates whose promises are none of this repository's.
-LEFT_OUT = ("_tests", "ufmt_test_rows", "ufmt_print_examples", "ufmt_parse_examples", "ufmt_memory_probe", "ufmt_print_probe",
-            "ufmt_read_probe", "ufmt_model_probe")
 # Words of the page that stand for many calls.
 MANY_CALLS = {
     "each builder call": ("formatter/builder.rt", "core/src/list.rt", "core/src/set.rt", "core/src/map.rt", "core/src/structs.rt", "core/src/tuple.rt"),
@@ -90,7 +87,7 @@ def imports_of(text):
 def is_promised(path):
     """Whether a file is of a crate of this repository, and of no tests. A user's crate may stand beside these."""
     crate = path.relative_to(CRATES).parts[0]
-    return crate.startswith("ufmt") and not crate.endswith(LEFT_OUT) and not {"tests", "tests.rt"} & set(path.parts)
+    return is_ours(crate) and not {"tests", "tests.rt"} & set(path.parts)
 
 
 class Tree(object):
@@ -99,6 +96,10 @@ class Tree(object):
     def __init__(self):
         files = [path for path in sorted(CRATES.glob("*/specs/**/*.antt")) if is_promised(path) and path.stem not in ("Lib", "Private")]
         self.definitions = {(one.path, one.name): one for path in files for one in definitions_of(path)}
+        # The files with one path below specs/ of each crate.
+        self.files = {}
+        for path in files:
+            self.files.setdefault("/".join(path.relative_to(CRATES).parts[2:]), []).append(path)
         sources = [path for path in sorted(CRATES.glob("*/src/**/*.rt")) if is_promised(path)]
         self.calls = [call for path in sources for call in functions_of(path)]
         self.names = {key[1] for key in self.definitions} | {identifier for path in files + sources for identifier in re.findall(r"\w+", path.read_text())}
@@ -106,7 +107,7 @@ class Tree(object):
 
     def named(self, crate, file, name):
         """The definition that an import means: a crate may pass on a file of another."""
-        there = [CRATES / crate / "specs" / file] + sorted(CRATES.glob("*/specs/" + file))
+        there = [CRATES / crate / "specs" / file, *self.files.get(file, ())]
         return next(((path, name) for path in there if (path, name) in self.definitions), None)
 
     def cited(self, path, identifiers):
@@ -270,7 +271,4 @@ def main(arguments):
         show_others(tree, text, part)
     faults = ["there is no `%s`" % name for name in unknown]
     faults += list(faults_of(tree, part, beside_files(section(page, "## The definitions to trust")), "the headline"))
-    for fault in faults:
-        print("fault: " + fault)
-    print("%d definitions, %d of them of the headline, %d faults" % (len(whole), len(part), len(faults)))
-    return 1 if faults else 0
+    return ended(["docs/PROMISES.md:1: " + fault for fault in faults], "%d definitions, %d of them of the headline" % (len(whole), len(part)))

@@ -6,15 +6,14 @@ edit's name, a line `guards:` for each promise that it guards, with the first wo
 and a reason stand for an edit that guards no promise.
 
 Each edit guards a promise that is there and is the only one with these first words, and the texts that it replaces stand once in
-its file; else that is a fault. `--list` prints each promise with its edits. `--write` writes the edits of a crate's more-edits.txt that
-change something as files of the folder.
+its file; else that is a fault. `x list edits` prints each promise with its edits.
 """
-import pathlib
 import re
 
+from lib.findings import ended
 from lib.pages.items import items_of, promises_of
+from lib.top import TOP
 
-TOP = pathlib.Path(__file__).resolve().parents[3]
 PAGE = TOP / "docs" / "PROMISES.md"
 NONE = "none: "
 
@@ -110,22 +109,18 @@ def show(edits, rows):
                 print("  %s (%s)" % (edit.told(), words[len(NONE) :]))
 
 
-def write(crate, folder):
+def write(path, folder):
+    """Writes the edits of a file that change something as files of the folder. Returns how many."""
     folder.mkdir(parents=True, exist_ok=True)
-    for edit in edits_of(TOP / "crates" / crate / "more-edits.txt"):
-        if not edit.is_in_gate:
-            (folder / (edit.name + ".edit")).write_text("\n".join(edit.change) + "\n")
+    written = [edit for edit in edits_of(path) if not edit.is_in_gate]
+    for edit in written:
+        (folder / (edit.name + ".edit")).write_text("\n".join(edit.change) + "\n")
+    return len(written)
 
 
 def main(arguments):
-    if arguments[:1] == ["--write"]:
-        write(arguments[1], pathlib.Path(arguments[2]))
-        return 0
     edits, rows = every_edit(), promises()
     if arguments:
         show(edits, rows)
     faults = list(faults_of(edits, rows))
-    for fault in faults:
-        print("fault: " + fault)
-    print("%d edits, %d promises, %d faults" % (len(edits), len(rows), len(faults)))
-    return 1 if faults else 0
+    return ended(faults, "%d edits, %d promises" % (len(edits), len(rows)))

@@ -1,5 +1,6 @@
-"""Looks for what the pages name: each link leads to a file and a title that are there, each file in backticks is there, and each
-module of contracts, as `Rattle.ufmt.specs.Layout`, is there with the words that stand in braces after it.
+"""Looks for what the pages name: each link leads to a file and a title that are there, each file in backticks is there, each command,
+as `./x try pages`, is there with its steps, and each module of contracts, as `Rattle.ufmt.specs.Layout`, is there with the words that stand
+in braces after it.
 
 Modules of this repository are files of `crates`, those of std are files of the kit. A library passes on modules by the `pub use`
 lines of its `Lib.antt`. Modules below `declared` are made from the sources, and aren't looked at.
@@ -8,12 +9,16 @@ import pathlib
 import re
 import shutil
 
+from lib import steps
+from lib.command.main import COMMANDS
+from lib.findings import ended
 from lib.pages.blocks import TOP, pages
 
 KIT = pathlib.Path(shutil.which("rattle") or "/opt/rattle/bin/rattle").resolve().parent.parent / "rattle"
 LINK = re.compile(r"\]\(([^)\s]+)\)")
 FILE = re.compile(r"`([\w./-]+\.(?:rt|antt|py|txt|tsv|log|md))`")
 MODULE = re.compile(r"Rattle\.(\w+)\.(specs|proofs)((?:\.[\w+-]+)+)(?:\.\{([^}]*)\})?")
+COMMAND = re.compile(r"(?:`|^)(?:\S*/)?x ([a-z]+)((?: [a-z]+)*)", re.M)
 # The crate that a reader makes, and what it has.
 OF_A_READER = {"my_types"}
 
@@ -75,17 +80,22 @@ def wrong_module(crate, side, path, words):
     return None
 
 
+def wrong_command(command, words):
+    if command not in COMMANDS:
+        return "there is no command x %s" % command
+    unknown = [word for word in words.split() if word not in steps.BY_NAME] if command == "try" else []
+    return "x try has no step %s" % " and no ".join(unknown) if unknown else None
+
+
 def main(_arguments):
-    files, counts, faults = sources(), [0, 0, 0], 0
+    files, counts, faults = sources(), [0, 0, 0, 0], []
     for page in all_pages():
         for number, line in enumerate(page.read_text().split("\n"), 1):
             links = [wrong_link(page, link) for link in LINK.findall(line) if "://" not in link]
             named = [None if any(path.endswith("/" + name) for path in files) else "there is no file %s" % name for name in FILE.findall(line)]
             modules = [wrong_module(*found) for found in MODULE.findall(line)]
-            for at, found in enumerate((links, named, modules)):
+            commands = [wrong_command(*found) for found in COMMAND.findall(line)]
+            for at, found in enumerate((links, named, modules, commands)):
                 counts[at] += len(found)
-            for wrong in filter(None, links + named + modules):
-                faults += 1
-                print("fault: %s:%d: %s" % (page.relative_to(TOP), number, wrong))
-    print("%d links, %d files and %d modules are there, %d faults" % (*counts, faults))
-    return 1 if faults else 0
+            faults += ["%s:%d: %s" % (page.relative_to(TOP), number, wrong) for wrong in links + named + modules + commands if wrong]
+    return ended(faults, "%d links, %d files, %d modules and %d commands are there" % tuple(counts))

@@ -5,20 +5,20 @@ The functions, methods and methods of traits are those that another crate can ca
 name is the last words of the function's path, as `Parser::is_named`, and may have stars. A call that is in two items asks for both.
 
 A fault is a function that asks for something and isn't in the list, or a name in the list that is of no function, or of one
-that asks for nothing. `--list` prints each function with what it asks for.
+that asks for nothing. `x list requires` prints each function with what it asks for.
 """
 import fnmatch
-import pathlib
 import re
 
 from lib.contracts.functions import Exports, functions_of
+from lib.findings import ended
 from lib.pages.items import items_of
+from lib.top import TOP, libraries
 
-TOP = pathlib.Path(__file__).resolve().parents[3]
 PAGE = TOP / "docs" / "PROMISES.md"
 SECTION = "### What calls ask for"
-LIBRARIES = ("ufmt_float", "ufmt_core", "ufmt_fixed", "ufmt_grammar", "ufmt", "ufmt_scan", "ufmt_doc", "ufmt_parser", "ufmt_parse_fields", "ufmt_parse_structs", "ufmt_parse_tuples", "ufmt_parse_entries", "ufmt_parse_leaves", "ufmt_parse", "ufmt_snapshot", "ufmt_values", "ufmt_io", "ufmt_c")
-PROGRAMS = ("ufmt_conv", "ufmt_lines")
+# Beside the libraries.
+OTHERS = ("ufmt_c", "ufmt_conv", "ufmt_lines")
 TESTS = {"tests", "tests.rt"}
 
 
@@ -38,7 +38,7 @@ class Row(object):
 def public_functions():
     """The name of each public function, and the function."""
     found = []
-    for crate in LIBRARIES + PROGRAMS:
+    for crate in (*libraries(), *OTHERS):
         sources = TOP / "crates" / crate / "src"
         exports = Exports(sources)
         paths = [path for path in sorted(sources.rglob("*.rt")) if not TESTS & set(path.parts)]
@@ -83,8 +83,4 @@ def main(arguments):
         for name, function in asking:
             print("%s: %s" % (name, ", ".join(function.requires)))
     faults = list(faults_of(functions, listed))
-    for fault in faults:
-        print("fault: " + fault)
-    print("%d public functions, %d of them ask for something, %d names in the list, %d faults" % (
-        len(functions), len(asking), len(listed), len(faults)))
-    return 1 if faults else 0
+    return ended(faults, "%d public functions, %d of them ask for something, %d names in the list" % (len(functions), len(asking), len(listed)))

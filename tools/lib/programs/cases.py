@@ -16,13 +16,14 @@ import tempfile
 import threading
 from typing import NamedTuple, Optional, Tuple
 
+from lib import findings
 from lib.model.counter import Counter
+from lib.top import TOP
 
-TOP = pathlib.Path(__file__).resolve().parents[3]
 # A run that takes longer is a fault.
 SECONDS = 120
 # So long a wait for an output that must come, and for one that must not come yet.
-LATE, SOON = 10, 0.2
+LATE, SOON = 60, 0.2
 CLOSED, FOLDER = "closed", "a folder"
 # A message on standard error has fewer bytes.
 MESSAGE = 64 * 1024
@@ -57,7 +58,7 @@ class Cases:
         wanted = Ran(status, output, line.encode() + b"\n" if line else b"")
         if ran != wanted:
             self.faults += 1
-            print("fault: %s: %s, not %s" % (name, shown(ran), shown(wanted)), flush=True)
+            print(findings.case(name, shown(wanted), shown(ran)), flush=True)
 
     def end(self):
         """Prints the counts, and returns the tool's status."""
@@ -230,7 +231,7 @@ def run(words, text=b""):
 
 
 def answers(program, texts):
-    """The line that ufmt_model_probe writes of each text, and a fault if it doesn't of each."""
+    """The line that probe_model writes of each text, and a fault if it doesn't of each."""
     ran = run([program], b"".join(b"%d\n%s" % (len(text), text) for text in texts))
     lines = ran.output.decode(errors="replace").splitlines()
     if ran.status == 0 and len(lines) == len(texts):

@@ -1,4 +1,4 @@
-"""Runs tools/check over five small crates, and compares how and where it calls the checker, its last line, its status and the lines that
+"""Runs `x check` over five small crates, and compares how and where it calls the checker, its last line, its status and the lines that
 it shows.
 
 In the place of the kit's checker there is a script that keeps its arguments, and prints what that prints of such a crate. What the
@@ -12,9 +12,9 @@ import sys
 import time
 from typing import NamedTuple, Tuple
 
-from lib.programs.cases import LATE, TOP, Cases, Ran, run
+from lib.programs.cases import LATE, Cases, Ran, run
+from lib.top import X
 
-CHECK = TOP / "tools" / "check"
 # Keeps its folder and its arguments, prints what a file says, on standard error what another says, and ends with the status in a third.
 CHECKER = """#!/bin/sh
 printf '%s\\n' "$PWD" "$@" > "$0.asked"
@@ -79,7 +79,7 @@ CALLS = (
 
 
 class Check:
-    """tools/check in a folder with these crates, and a script in the place of the checker."""
+    """`x check` in a folder with these crates, and a script in the place of the checker."""
 
     def __init__(self, cases):
         self.cases = cases
@@ -107,8 +107,8 @@ class Check:
         self.checker.with_name("rattle.status").write_text(str(status))
 
     def command(self, folder, *words, path=None):
-        """tools/check with these words in a folder. The checker is found by `path`, or where it is."""
-        return ["env", "-C", folder, "PATH=%s:%s" % (path or self.checker.parent, os.environ["PATH"]), CHECK, *words]
+        """`x check` with these words in a folder. The checker is found by `path`, or where it is."""
+        return ["env", "-C", folder, "PATH=%s:%s" % (path or self.checker.parent, os.environ["PATH"]), X, "check", *words]
 
     def judge_call(self, called, paths):
         """Compares the arguments of the checker with what it takes of this crate, or of these paths in it."""
@@ -123,7 +123,7 @@ class Check:
         for path in paths or (called.crate,):
             wanted += ["--only", path]
         asked = self.checker.with_name("rattle.asked").read_bytes()
-        self.cases.judge("how tools/check calls the checker of %s %s" % (called.crate, paths), Ran(0, asked, b""), 0, "".join(word + "\n" for word in wanted).encode())
+        self.cases.judge("how x check calls the checker of %s %s" % (called.crate, paths), Ran(0, asked, b""), 0, "".join(word + "\n" for word in wanted).encode())
 
     def judge_end(self, number):
         """Compares what is left when it is ended by this signal before the verdict: nothing of the checker."""
@@ -133,7 +133,7 @@ class Check:
         process.send_signal(number)
         output, said = process.communicate(timeout=LATE)
         name = signal.Signals(number).name
-        self.cases.judge("tools/check after %s" % name, Ran(process.returncode, output, said), 1, line="not checked: ended before the verdict")
+        self.cases.judge("x check after %s" % name, Ran(process.returncode, output, said), 1, line="not checked: ended before the verdict")
         self.cases.judge("the checker's own process, after %s" % name, Ran(0, state_of(started), b""), 0, b"ended")
 
     def judge_link(self):
@@ -154,7 +154,7 @@ class Check:
         source.touch()
         (inner / "crates.txt").write_text("nested: core\n")
         self.answer(PROVED, 0)
-        self.cases.judge("tools/check in a repository in another", run(self.command(source.parent, "nested")), 0, b"checked: the libraries are trusted\n")
+        self.cases.judge("x check in a repository in another", run(self.command(source.parent, "nested")), 0, b"checked: the libraries are trusted\n")
 
     def judge_kept(self):
         """What the checker keeps of a crate stays from one run to the next."""
@@ -165,39 +165,36 @@ class Check:
         self.cases.judge("what the checker kept", Ran(0, kept.read_bytes() if kept.exists() else b"", b""), 0, b"kept")
 
     def judge_words(self):
-        """The page of the tool, and its first line where a crate is missing."""
-        page = CHECK.read_text().split('"""')[1].strip()
-        for word in ("--help", "-h"):
-            self.cases.judge("tools/check %s" % word, run(self.command("/", word)), 0, page.encode() + b"\n")
-        for words in ((), ("--jobs", "small")):
-            self.cases.judge("tools/check %s" % (words,), run(self.command(self.cases.room, *words)), 1, line=page.splitlines()[0])
-        self.cases.judge("tools/check of no crate", run(self.command(self.cases.room, "none")), 1, line="tools/check: crates.txt names no crate none")
+        """What is said where words are wrong, or the kit isn't there."""
+        for words, status in ((("--help",), 0), ((), 2), (("--job", "x", "small"), 2)):
+            self.cases.judge("the status of x check %s" % (words,), Ran(run(self.command(self.cases.room, *words)).status, b"", b""), status)
+        self.cases.judge("x check of no crate", run(self.command(self.cases.room, "none")), 1, line="x check: crates.txt names no crate none")
         without = self.cases.room / "without"
         without.mkdir()
         (without / "python3").symlink_to(sys.executable)
-        ran = run(["/usr/bin/env", "-C", self.cases.room, "PATH=%s" % without, CHECK, "small"])
-        self.cases.judge("tools/check without a kit", ran, 1, line="tools/check: no rattle on the path: the Rattle kit has it")
-        self.cases.judge("tools/check outside of crates", run(self.command("/", "small")), 1, line="tools/check: no crates.txt here or above")
+        ran = run(["/usr/bin/env", "-C", self.cases.room, "PATH=%s" % without, X, "check", "small"])
+        self.cases.judge("x check without a kit", ran, 1, line="x check: no rattle on the path (the Rattle kit has it)")
+        self.cases.judge("x check outside of crates", run(self.command("/", "small")), 1, line="x check: no crates.txt here or above")
 
 
 def state_of(number):
     """Whether a process has ended, at the latest after a while. Nobody may have asked for its status yet."""
     status = pathlib.Path("/proc/%d/status" % number)
-    for _ in range(50):
+    for _ in range(10 * LATE):
         if not status.exists() or "State:\tZ" in status.read_text():
             return b"ended"
         time.sleep(0.1)
     return b"there"
 
 
-def main():
-    cases = Cases(CHECK)
+def main(_given):
+    cases = Cases(X)
     (cases.room / "kit").mkdir()
     check = Check(cases)
     for row in ROWS:
         check.answer(row.printed, row.status, row.error)
         output = row.shown + row.last + "the libraries are trusted\n"
-        cases.judge("tools/check, %s" % row.name, run(check.command(cases.room, "small")), row.status, output.encode())
+        cases.judge("x check, %s" % row.name, run(check.command(cases.room, "small")), row.status, output.encode())
     for called in CALLS:
         for paths in ((), ("types", "types::Pair::swap")):
             check.judge_call(called, paths)

@@ -1,6 +1,5 @@
 """Runs the built ufmt_conv as a shell would, and compares its status, standard output and standard error."""
 import os
-import pathlib
 
 from lib.programs.cases import CLOSED, FOLDER, LATE, OTHERS, Cases, texts
 

@@ -1,5 +1,5 @@
-"""Runs the built programs of the pages as a shell would: ufmt_parse_program, which says what a line of standard input sets, and
-ufmt_print_program, whose output is one write."""
+"""Runs the built programs of the pages as a shell would: example_parse_program, which says what a line of standard input sets, and
+example_print_program, whose output is one write."""
 from lib.programs.cases import CLOSED, TOP, Cases
 
 SET = b"channel 3 is set to -4\n"
@@ -30,14 +30,14 @@ def parse(cases):
 
 
 def printed(cases):
-    output = (TOP / "crates" / "ufmt_print_program" / "stdout").read_bytes()
+    output = (TOP / "crates" / "example_print_program" / "stdout").read_bytes()
     cases.judge("what it prints", cases.run(source=CLOSED), 0, output)
     cases.judge_calls("what it prints", [], 0, 1)
 
 
 def main():
     statuses = []
-    for name, part in (("ufmt_parse_program", parse), ("ufmt_print_program", printed)):
+    for name, part in (("example_parse_program", parse), ("example_print_program", printed)):
         cases = Cases(built(name))
         part(cases)
         statuses.append(cases.end())

@@ -1,78 +1,19 @@
 """Runs the built ufmt_lines as a shell would, and compares its status, standard output and standard error."""
 import os
-import pathlib
 import pty
 import subprocess
-import threading
-import time
 import tty
 
-from lib.programs.cases import CLOSED, FOLDER, LATE, OTHERS, SOON, Cases, Ran, taken, texts
+from lib import data
+from lib.programs import line_files
+from lib.programs.cases import CLOSED, FOLDER, LATE, OTHERS, Cases
+from lib.programs.line_texts import CLOSED_FILE, HELP, IS_BUSY, IS_FOLDER, IS_FULL, IS_GONE, IS_MISSING, LONG, LONG_PRETTY, MIB, OUT_OF_MEMORY
+from lib.programs.line_texts import PIPE_STATUS, PLAIN, PRETTY, USAGE, VERSION, cannot_read, cannot_write
 
-LOGS_FOLDER = pathlib.Path(__file__).resolve().parents[2] / "data" / "logs"
-USAGE = "usage: ufmt_lines [--longer-than N | --plain | --help | --version] [--] [FILE..]"
-VERSION = b"ufmt_lines 0.4.0\n"
-HELP = b"""usage: ufmt_lines [--longer-than N | --plain | --help | --version] [--] [FILE..]
-
-Writes each line of the files, with its long debug texts made pretty. The files are
-read as one, in their order. Without a file, standard input is read.
-
-  --longer-than N  makes texts of more than N bytes pretty, not of more than 40
-  --plain          writes pretty texts of several lines as plain ones
-  --help           prints this text
-  --version        prints the version
-  --               ends the options: what follows are files
-  -                is standard input
-"""
-# What the C library says of these failures.
-CLOSED_FILE = "Bad file descriptor (os error 9)"
-IS_BUSY = "Resource temporarily unavailable (os error 11)"
-IS_FOLDER = "Is a directory (os error 21)"
-IS_FULL = "No space left on device (os error 28)"
-IS_GONE = "Input/output error (os error 5)"
-IS_MISSING = "No such file or directory (os error 2)"
-OUT_OF_MEMORY = "ufmt_lines: out of memory"
-# The status of a program that SIGPIPE ends, as a shell has it.
-PIPE_STATUS = 141
-PLAIN, PRETTY = texts("node")
-MIB = 1024 * 1024
-CHUNK = 64 * 1024
-# A line with a value of more than forty bytes, and the same made pretty.
-LONG = b"got [1, 12345678901234567890, 23456789012345678901]\n"
-LONG_PRETTY = b"got [\n    1,\n    12345678901234567890,\n    23456789012345678901,\n]\n"
-
-
-def cannot_read(name, reason):
-    return "ufmt_lines: cannot read %s: %s" % (name, reason)
-
-
-def cannot_write(reason):
-    return "ufmt_lines: cannot write standard output: %s" % reason
-
-
-# Each pretty log, and the log whose values are plain.
-LOGS = [
-    ("a line", PLAIN, PRETTY),
-    ("nothing", b"", b""),
-    ("four lines, the last without a line feed", b"12:00 INFO got=Reading { channel: 3, text: \"not a short one\" }; ok\n\nno text\nend [1234567890123456789, 2345678901234567890]",
-     b"12:00 INFO got=Reading {\n    channel: 3,\n    text: \"not a short one\",\n}; ok\n\nno text\nend [\n    1234567890123456789,\n    2345678901234567890,\n]"),
-    ("a tuple of words, and JSON with spaces", b"of (first_word, second_word, third_word, fourth_word)\n{\"level\": \"info\", \"message\": \"started\", \"port\": 8080}\n",
-     b"of (\n    first_word,\n    second_word,\n    third_word,\n    fourth_word,\n)\n"
-     b"{\n    \"level\": \"info\",\n    \"message\": \"started\",\n    \"port\": 8080,\n}\n"),
-    ("structs that end in dots", b"state Mutex { data: 0, poisoned: false, owner: 7, .. }\nOnce { .. }\n",
-     b"state Mutex {\n    data: 0,\n    poisoned: false,\n    owner: 7,\n    ..\n}\nOnce { .. }\n"),
-    ("a carriage return, colours and a tab", b"\x1b[3mpoint\x1b[0m=Point { x: 1.5, y: 2.5, label: \"a long label\" }\x1b[0m\tend\r\n",
-     b"\x1b[3mpoint\x1b[0m=Point {\n    x: 1.5,\n    y: 2.5,\n    label: \"a long label\",\n}\x1b[0m\tend\r\n"),
-]
-# Logs that stay, in each mode.
-STAY = {
-    (): [("a pretty text", PRETTY), ("a short text", b"got [1, 2]\n"), ("one leaf", b"got Some(\"%s\")\n" % (b"a" * 50)),
-         ("a map after a word", b"counts {a: 1234567890123456789, b: 2345678901234567890}\n"), ("no dots after a comma", b"S { a: 1, ..}\n"),
-         ("quotes that stay open", b"it's (a, 'b)\n"), ("brackets that don't match", b"[1, (2, 3]\n"),
-         ("an opening bracket in quotes", b'say "[1]\n')],
-    ("--plain",): [("a plain text", PLAIN), ("lines", b"got [\r\n    1,\r\n]\r\n{\n    1,\n\n  word\n]\n"), ("dots and a comma", b"S {\n    a: 1,\n    ..,\n}\n"),
-                   ("an opening bracket", b"no text [\n")],
-}
+# Logs by their names, each with what it becomes, and those that stay, in each mode.
+TABLES = {part: [(name, *logs) for name, logs in rows.items()] for part, rows in data.named("programs/logs.txt").items()}
+LOGS = [("a line", PLAIN, PRETTY), *TABLES["both ways"]]
+STAY = {(): [("a pretty text", PRETTY), *TABLES["plain stay"]], ("--plain",): [("a plain text", PLAIN), *TABLES["pretty stay"]]}
 
 
 def bytes_of(shown):
@@ -84,7 +25,7 @@ def conversions(cases):
     for name, plain, pretty in LOGS:
         cases.judge(name, cases.run(text=plain), 0, pretty)
         cases.judge("--plain: " + name, cases.run("--plain", text=pretty), 0, plain)
-    example, readable = (bytes_of(LOGS_FOLDER / name) for name in ("example.log", "example.pretty"))
+    example, readable = (bytes_of(data.DATA / "logs" / name) for name in ("example.log", "example.pretty"))
     cases.judge("the example", cases.run(text=example), 0, readable)
     cases.judge("--plain: the example", cases.run("--plain", text=readable), 0, example)
     for row, logs in STAY.items():
@@ -157,74 +98,11 @@ def arguments(cases):
     cases.judge("an option, and an input that stays open", cases.without_input("-x"), 2, b"", "ufmt_lines: unknown option: -x\n" + USAGE)
 
 
-def files(cases):
-    """Files are read as `cat` gives them: lines and groups go over from one to the next. Of one that can't be opened or read the
-    name and the reason are said, and the next is read."""
-    front, back = LONG[:20], LONG[20:] + b"b"
-    for name, text in (("front", front), ("back", back), ("group", LONG_PRETTY[:20]), ("group's end", LONG_PRETTY[20:]), ("--plain", LONG),
-                       ("empty", b""), ("r\u00e9sum\u00e9", LONG)):
-        (cases.room / name).write_bytes(text)
-    (cases.room / "folder").mkdir()
-    whole, missing, folder = LONG_PRETTY + b"b", cannot_read("none", IS_MISSING), cannot_read("folder", IS_FOLDER)
-    rows = [("a file", ("front",), b"", front, ""), ("two files", ("front", "back"), b"", whole, ""), ("an empty file", ("empty",), b"", b"", ""),
-            ("a file between options", ("front", "--longer-than", "1000", "back"), b"", LONG + b"b", ""),
-            ("--plain: two files", ("--plain", "group", "group's end"), b"", LONG, ""), ("a name in Latin letters", ("r\u00e9sum\u00e9",), b"", LONG_PRETTY, ""),
-            ("standard input by its name", ("-",), LONG, LONG_PRETTY, ""), ("standard input in the middle", ("front", "-", "front"), back + b"\n", whole + b"\n" + front, ""),
-            ("standard input twice", ("-", "empty", "-"), LONG, LONG_PRETTY, ""), ("standard input that isn't named", ("front",), LONG, front, ""),
-            ("the end of the options", ("--", "--plain"), b"", LONG_PRETTY, ""), ("options, their end, and a file", ("--longer-than", "1000", "--", "--plain"), b"", LONG, ""),
-            ("the end of the options alone", ("--",), LONG, LONG_PRETTY, ""),
-            ("a missing file", ("none",), b"", b"", missing), ("a missing file between two", ("front", "none", "back"), b"", whole, missing),
-            ("a folder", ("folder", "--plain", "group", "group's end"), b"", LONG, folder), ("an empty name", ("",), b"", b"", cannot_read("", IS_MISSING)),
-            ("a missing file and a folder", ("none", "folder", "front", "back"), b"", whole, missing + "\n" + folder),
-            ("a folder and a missing file", ("folder", "none"), b"", b"", folder + "\n" + missing),
-            ("a folder twice", ("folder", "folder", "front"), b"", front, folder + "\n" + folder),
-            ("a name with a line feed", ("a\nb",), b"", b"", cannot_read("a\nb", IS_MISSING))]
-    for name, row, text, output, said in rows:
-        cases.judge(name, cases.run(*row, text=text), 3 if said else 0, output, said)
-    # What isn't read needn't be open, and `-` is read where it isn't.
-    cases.judge("a file, and standard input closed", cases.run("front", "back", source=CLOSED), 0, whole)
-    cases.judge("files around a closed standard input", cases.run("front", "-", "back", source=CLOSED), 3, whole, cannot_read("standard input", CLOSED_FILE))
-    cases.judge("a missing file and a full device", cases.run("none", "front", sink="/dev/full"), 4, b"", missing + "\n" + cannot_write(IS_FULL))
-    cases.judge("a file, and an input that stays open", cases.without_input("front", "back"), 0, whole)
-
-
 def messages(cases):
     """Each message is one write."""
     cases.judge_messages("a missing file and a folder", ("none", "folder"), [cannot_read("none", IS_MISSING), cannot_read("folder", IS_FOLDER)])
     cases.judge_messages("an unknown option", ("-x",), ["ufmt_lines: unknown option: -x\n" + USAGE])
     cases.judge_messages("an argument that isn't UTF-8", (b"\xff",), ["ufmt_lines: an argument isn't UTF-8\n" + USAGE])
-
-
-def calls_of_files(cases):
-    """Each read takes a chunk of a file, as of standard input, and one more read its end. The outputs of a chunk are one write."""
-    file = cases.room / "eight chunks"
-    file.write_bytes(b"0123456 9abcdef\n" * (8 * CHUNK // 16))
-    for number in (1, 3):
-        cases.judge_calls("%d files" % number, [str(file)] * number, 9 * number, 8 * number)
-    cases.judge_calls("standard input", [], 9, 8, text=file.read_bytes())
-
-
-def many_files(cases):
-    """As many as an argument list has, with few open at once. Those that are empty or missing in a row end nothing."""
-    (cases.room / "long").write_bytes(LONG)
-    (cases.room / "nothing").write_bytes(b"")
-    cases.judge("2,000 files of which 24 may be open", cases.run(*["long"] * 2000, files_limit=24), 0, LONG_PRETTY * 2000)
-    cases.judge("2,000 files without a byte", cases.run(*["nothing"] * 2000, "long", files_limit=24), 0, LONG_PRETTY)
-    names = ["none-%d" % number for number in range(2000)]
-    missing = "\n".join(cannot_read(name, IS_MISSING) for name in names)
-    cases.judge("2,000 missing files", cases.run(*names, "long"), 3, LONG_PRETTY, missing)
-
-
-def file_names(cases):
-    """A name is taken and said as it is given, whole."""
-    (cases.room / "logs").mkdir()
-    for name in (" log", "log ", "log\t", "-", "b" * 250, "logs/in it", "[1, 2]", "a\nb"):
-        name = name if name != "-" else "./-"
-        cases.judge("the missing file %r" % name[:20], cases.run(name), 3, b"", cannot_read(name, IS_MISSING))
-        (cases.room / name).write_bytes(LONG)
-        cases.judge("the file %r" % name[:20], cases.run(name), 0, LONG_PRETTY)
-    whole = str(cases.room / "logs" / "missing" / "/".join(["b" * 250] * 12))
-    cases.judge("a missing file by its whole path", cases.run(whole), 3, b"", cannot_read(whole, IS_MISSING))
 
 
 def each_byte(cases):
@@ -239,49 +117,11 @@ def each_byte(cases):
         cases.judge("a line that begins with byte %d" % byte, cases.run(text=log), 0, bytes([byte]) + LONG_PRETTY)
 
 
-def named_pipe(cases):
-    """A pipe with a name is read until its writers are gone, however slow they are. A file is opened to be read only: who opens a pipe to
-    write it, too, waits for itself."""
-    pipe = cases.room / "pipe"
-    os.mkfifo(pipe)
-
-    def write():
-        with open(pipe, "wb", buffering=0) as writer:
-            for part in (LONG[:20], LONG[20:]):
-                writer.write(part)
-                time.sleep(SOON)
-
-    producer = threading.Thread(target=write, daemon=True)
-    producer.start()
-    cases.judge("a pipe with a name, and a slow writer", cases.run("pipe", seconds=LATE), 0, LONG_PRETTY)
-    producer.join(LATE)
-    process = cases.start(["pipe"])
-    with open(pipe, "wb", buffering=0) as writer:
-        writer.write(LONG)
-        first = taken(process.stdout, len(LONG_PRETTY), LATE)
-        writer.write(b"the end")
-    output, said = process.communicate(timeout=LATE)
-    cases.judge("a pipe with a name, before its writer is gone", Ran(0, first, b""), 0, LONG_PRETTY)
-    cases.judge("a pipe with a name, and its end", Ran(process.returncode, output, said), 0, b"the end")
-
-
 def byte_by_byte(cases):
     """Devices that move one byte at a call are called a million times, and nothing gives up."""
     count = MIB // len(LONG)
     cases.judge("a million calls of each device", cases.byte_by_byte(text=LONG * count), 0, LONG_PRETTY * count)
     cases.judge("--plain: a million calls of each device", cases.byte_by_byte("--plain", text=LONG_PRETTY * count), 0, LONG * count)
-
-
-def reasons(cases):
-    """Each reason for which the system refuses a file is said, and the next is read."""
-    (cases.room / "log").write_bytes(LONG)
-    os.symlink("loop", cases.room / "loop")
-    (cases.room / "secret").write_bytes(LONG)
-    (cases.room / "secret").chmod(0)
-    rows = [("log/x", "Not a directory (os error 20)"), ("b" * 300, "File name too long (os error 36)"),
-            ("loop", "Too many levels of symbolic links (os error 40)"), ("secret", "Permission denied (os error 13)")]
-    for name, reason in rows:
-        cases.judge("a file with the reason %s" % reason, cases.run(name, "log", as_nobody=True), 3, LONG_PRETTY, cannot_read(name, reason))
 
 
 def no_bytes_yet(cases):
@@ -405,8 +245,7 @@ def many_lines(cases):
 
 def main(program):
     cases = Cases(program)
-    for part in (conversions, limits, slow_producer, environments, helps, arguments, files, messages, calls_of_files,
-                 many_files, file_names, each_byte, named_pipe, byte_by_byte, reasons, no_bytes_yet, inputs, terminals,
-                 outputs, errors, readers_go_away, slow_reader_goes_away, too_many_arguments, too_long_a_line, many_lines):
+    for part in (conversions, limits, slow_producer, environments, helps, arguments, *line_files.PARTS, messages,
+                 each_byte, byte_by_byte, no_bytes_yet, inputs, terminals, outputs, errors, readers_go_away, slow_reader_goes_away, too_many_arguments, too_long_a_line, many_lines):
         part(cases)
     return cases.end()

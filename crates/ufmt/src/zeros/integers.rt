@@ -4,7 +4,7 @@
 ghost use Rattle.std.specs.Prelude.{pos};
 ghost use Rattle.ufmt.specs.Zeros.{zero_padded};
 
-use crate::zeros::{uDisplayZeros, write_zeros};
+use crate::zeros::{uDisplayZeros, write_u64, write_u128};
 use ufmt_core::{Formatter, uWrite};
 
 impl uDisplayZeros for u8 {
@@ -47,7 +47,7 @@ impl uDisplayZeros for u64 {
     ghost zeros_text = { λ n width. zero_padded width (pos n) };
 
     fn fmt_zeros<W: uWrite>(&self, f: &mut Formatter<W>, width: usize) -> Result<(), W::Error> {
-        write_zeros(false, *self, &mut [0; 20], f, width)
+        write_u64(false, *self, f, width)
     }
 
     fn pads_zeros(&self) -> bool {
@@ -59,7 +59,7 @@ impl uDisplayZeros for u128 {
     ghost zeros_text = { λ n width. zero_padded width (pos n) };
 
     fn fmt_zeros<W: uWrite>(&self, f: &mut Formatter<W>, width: usize) -> Result<(), W::Error> {
-        write_zeros(false, *self, &mut [0; 39], f, width)
+        write_u128(false, *self, f, width)
     }
 
     fn pads_zeros(&self) -> bool {
@@ -120,7 +120,7 @@ impl uDisplayZeros for i64 {
 
     #[tactic(auto, using(crate::proofs::ZeroPadding::sign_tested))]
     fn fmt_zeros<W: uWrite>(&self, f: &mut Formatter<W>, width: usize) -> Result<(), W::Error> {
-        write_zeros(*self < 0, self.unsigned_abs(), &mut [0; 20], f, width)
+        write_u64(*self < 0, self.unsigned_abs(), f, width)
     }
 
     fn pads_zeros(&self) -> bool {
@@ -133,7 +133,7 @@ impl uDisplayZeros for i128 {
 
     #[tactic(auto, using(crate::proofs::ZeroPadding::sign_tested))]
     fn fmt_zeros<W: uWrite>(&self, f: &mut Formatter<W>, width: usize) -> Result<(), W::Error> {
-        write_zeros(*self < 0, self.unsigned_abs(), &mut [0; 39], f, width)
+        write_u128(*self < 0, self.unsigned_abs(), f, width)
     }
 
     fn pads_zeros(&self) -> bool {

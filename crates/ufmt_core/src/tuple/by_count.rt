@@ -1,4 +1,4 @@
-//! Whole tuples by their number of fields. tools/write-by-count writes this file: change it there.
+//! Whole tuples by their number of fields. `x generate` writes this file: change tools/lib/by_count.
 ghost use Rattle.std.specs.Prelude.{◌≡◌, ℕ, List, is_ok, true, [], ◌∷◌};
 ghost use Rattle.std.specs.Str.{bytes_eq};
 ghost use Rattle.ufmt_core.specs.Alike.{SameDocuments};

@@ -1,8 +1,11 @@
-//! Printing a document, each block by its kind.
-ghost use Rattle.std.specs.Prelude.{is_ok, List, map, string_bytes, ℕ};
-ghost use Rattle.ufmt.specs.Document.{Document, documents, fields_of, map_of, non_exhaustive_of, pairs_of, set_of, struct_of, tuple_of};
+//! Printing a document. Each kind of block has a function, which calls `fmt` for each entry between the two
+//! halves of a builder's call.
+ghost use Rattle.std.specs.Prelude.{is_ok, map};
+ghost use Rattle.ufmt.specs.Document.{documents, fields_of, list_of, map_of, pairs_of, set_of, tuple_of};
 ghost use Rattle.ufmt.specs.Formatter.{LaysOut};
 ghost use Rattle.ufmt_doc.specs.Doc.{tree_document};
+ghost use Rattle.ufmt_doc.specs.DocViews.{field_view, pair_view};
+ghost use Rattle.ufmt_doc.specs.StructNames.{named_struct};
 
 use super::{StructName, Tree};
 use ufmt::{Formatter, uDebug, uWrite};
@@ -14,92 +17,98 @@ impl<N: StructName> uDebug for Tree<N> {
     fn fmt<W: uWrite>(&self, f: &mut Formatter<W>) -> Result<(), W::Error> {
         match self {
             Tree::Leaf(text) => f.write_str(text),
-            Tree::Listed(entries) => entries.fmt(f),
-            Tree::SetOf(entries) => EntriesOf::<SetKind>::print(entries, "", f),
-            Tree::MapOf(pairs) => EntriesOf::<MapKind>::print(pairs, "", f),
-            Tree::StructOf(name, fields) if name.ends_in_dots() => {
-                EntriesOf::<NonExhaustiveKind>::print(fields, name.as_str(), f)
-            }
-            Tree::StructOf(name, fields) => {
-                EntriesOf::<StructKind>::print(fields, name.as_str(), f)
-            }
-            Tree::TupleOf(name, fields) => EntriesOf::<TupleKind>::print(fields, name, f),
+            Tree::Listed(entries) => Self::print_list(entries, f),
+            Tree::SetOf(entries) => Self::print_set(entries, f),
+            Tree::MapOf(pairs) => Self::print_map(pairs, f),
+            Tree::StructOf(name, fields) => Self::print_struct(fields, name, f),
+            Tree::TupleOf(name, fields) => Self::print_tuple(name, fields, f),
         }
     }
 }
 
-struct SetKind;
-
-struct MapKind;
-
-struct StructKind;
-
-struct NonExhaustiveKind;
-
-struct TupleKind;
-
-// The entries of a block of this kind. Implemented per field type: the check allows recursion at
-// `Vec<Tree<N>>`, not at `Tree<N>`.
-trait EntriesOf<Kind> {
-    // The block with this name.
-    ghost block: { List ℕ → Self → Document };
-
-    fn print<W: uWrite>(&self, name: &str, f: &mut Formatter<W>) -> Result<(), W::Error>
-        ensures { LaysOut W.seen f.old (block name.now self.now) (is_ok result) f.new };
-}
-
-impl<T: uDebug> EntriesOf<SetKind> for Vec<T> {
-    ghost block = { λ _ v. set_of (documents (map T.document v.items)) };
-
-    fn print<W: uWrite>(&self, _name: &str, f: &mut Formatter<W>) -> Result<(), W::Error> {
-        f.set_of(self)
+// In an `impl` for the type of `fmt`: the check wants the functions of a cycle of calls to have the same type
+// parameters.
+impl<N: StructName> Tree<N> {
+    #[cycle(print)]
+    fn print_list<W: uWrite>(entries: &[Tree<N>], f: &mut Formatter<W>) -> Result<(), W::Error>
+        ensures { LaysOut W.seen f.old (list_of (documents (map (tree_document N.shown) entries.now)))
+            (is_ok result) f.new }
+    {
+        let mut list = f.debug_list()?;
+        for entry in entries {
+            let outcome = entry.fmt(list.begin_entry()?);
+            list.end_entry(outcome)?;
+        }
+        list.finish()
     }
-}
 
-impl<K: uDebug, V: uDebug> EntriesOf<MapKind> for Vec<(K, V)> {
-    ghost block = { λ _ v. map_of (pairs_of (map (λ p. (K.document p.0, V.document p.1)) v.items)) };
-
-    fn print<W: uWrite>(&self, _name: &str, f: &mut Formatter<W>) -> Result<(), W::Error> {
-        f.map_of(self)
+    #[cycle(print)]
+    fn print_set<W: uWrite>(entries: &[Tree<N>], f: &mut Formatter<W>) -> Result<(), W::Error>
+        ensures { LaysOut W.seen f.old (set_of (documents (map (tree_document N.shown) entries.now)))
+            (is_ok result) f.new }
+    {
+        let mut set = f.debug_set()?;
+        for entry in entries {
+            let outcome = entry.fmt(set.begin_entry()?);
+            set.end_entry(outcome)?;
+        }
+        set.finish()
     }
-}
 
-impl<T: uDebug> EntriesOf<TupleKind> for Vec<T> {
-    ghost block = { λ name v. tuple_of name (documents (map T.document v.items)) };
+    #[cycle(print)]
+    fn print_map<W: uWrite>(
+        pairs: &[(Tree<N>, Tree<N>)],
+        f: &mut Formatter<W>,
+    ) -> Result<(), W::Error>
+        ensures { LaysOut W.seen f.old (map_of (pairs_of (map (pair_view N.shown) pairs.now)))
+            (is_ok result) f.new }
+    {
+        let mut map = f.debug_map()?;
+        for (key, value) in pairs {
+            let key_outcome = key.fmt(map.begin_entry()?);
+            let outcome = value.fmt(map.begin_value(key_outcome)?);
+            map.end_entry(outcome)?;
+        }
+        map.finish()
+    }
 
-    fn print<W: uWrite>(&self, name: &str, f: &mut Formatter<W>) -> Result<(), W::Error> {
-        let values = self.as_slice();
+    #[cycle(print)]
+    fn print_struct<W: uWrite>(
+        fields: &[(String, Tree<N>)],
+        name: &N,
+        f: &mut Formatter<W>,
+    ) -> Result<(), W::Error>
+        ensures { LaysOut W.seen f.old
+            (named_struct (N.shown name.now) (fields_of (map (field_view N.shown) fields.now)))
+            (is_ok result) f.new }
+    {
+        let mut builder = f.debug_struct(name.as_str())?;
+        for field in fields {
+            let outcome = field.1.fmt(builder.begin_field(&field.0)?);
+            builder.end_field(outcome)?;
+        }
+        if name.ends_in_dots() {
+            builder.finish_non_exhaustive()
+        } else {
+            builder.finish()
+        }
+    }
+
+    #[cycle(print)]
+    fn print_tuple<W: uWrite>(
+        name: &str,
+        fields: &[Tree<N>],
+        f: &mut Formatter<W>,
+    ) -> Result<(), W::Error>
+        ensures { LaysOut W.seen f.old
+            (tuple_of name.now (documents (map (tree_document N.shown) fields.now)))
+            (is_ok result) f.new }
+    {
         let mut tuple = f.debug_tuple(name)?;
-        for value in values {
-            tuple.field(value)?;
+        for value in fields {
+            let outcome = value.fmt(tuple.begin_field()?);
+            tuple.end_field(outcome)?;
         }
         tuple.finish()
-    }
-}
-
-impl<V: uDebug> EntriesOf<StructKind> for Vec<(String, V)> {
-    ghost block = { λ name v. struct_of name (fields_of (map (λ f. (string_bytes f.0, V.document f.1)) v.items)) };
-
-    fn print<W: uWrite>(&self, name: &str, f: &mut Formatter<W>) -> Result<(), W::Error> {
-        let fields = self.as_slice();
-        let mut builder = f.debug_struct(name)?;
-        for field in fields {
-            builder.field(&field.0, &field.1)?;
-        }
-        builder.finish()
-    }
-}
-
-impl<V: uDebug> EntriesOf<NonExhaustiveKind> for Vec<(String, V)> {
-    ghost block = { λ name v. non_exhaustive_of name
-        (fields_of (map (λ f. (string_bytes f.0, V.document f.1)) v.items)) };
-
-    fn print<W: uWrite>(&self, name: &str, f: &mut Formatter<W>) -> Result<(), W::Error> {
-        let fields = self.as_slice();
-        let mut builder = f.debug_struct(name)?;
-        for field in fields {
-            builder.field(&field.0, &field.1)?;
-        }
-        builder.finish_non_exhaustive()
     }
 }

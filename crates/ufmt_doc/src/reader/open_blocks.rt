@@ -1,93 +1,94 @@
 //! The open blocks of a text that is read.
-ghost use Rattle.std.specs.Prelude.{◌≡◌, ◌<◌, ◌∷◌, [], IsFalse, IsTrue, MatchOption, false, length};
-ghost use Rattle.ufmt_doc.specs.Private.Growing.{block_at, marked};
+ghost use Rattle.std.specs.Prelude.{◌≤◌, length};
 
-use std::marker::Model;
+use super::open_block::OpenBlock;
+use super::read_name::ReadName;
+use crate::doc::Tree;
+use std::alloc::{AllocError, Global};
 
-// In a document of either class, blocks with entries are at most 255 deep. A scan opens one more before it
-// fails.
+// Blocks with entries are at most 255 deep in a document. A scan opens one more, and no entry begins in it.
 const MOST_OPEN: usize = 256;
 
-/// An open block: where its entries start on the stack, and whether a colon came in it.
-#[derive(Clone, Copy)]
-pub(super) struct PartialBlock {
-    pub(super) start: usize,
-    pub(super) has_colon: bool,
-}
-
-/// The open blocks of a text. The innermost is the last one at the front of the array, and the first
-/// one that contracts see.
+/// The open blocks of a text, the innermost last.
 #[derive(Drop)]
-pub(super) struct OpenBlocks {
-    blocks: [PartialBlock; MOST_OPEN],
-    count: usize,
+pub(super) struct OpenBlocks<N> {
+    blocks: Vec<OpenBlock<N>>,
+    ghost bounded: { length blocks.items ≤ 256 },
 }
 
-impl Model for OpenBlocks {
-    ghost use Rattle.std.specs.Prelude.{◌≡◌, ◌≤◌, List, length, reverse, take};
-    ghost use Rattle.ufmt_doc.specs.declared.reader.open_blocks.PartialBlock.{PartialBlock};
+impl<N: ReadName> OpenBlocks<N> {
+    ghost use Rattle.std.specs.Prelude.{◌≡◌, ◌∷◌, [], MatchOption, OnOk, option_map, string_bytes};
+    ghost use Rattle.ufmt_doc.specs.Doc.{tree_document};
+    ghost use Rattle.ufmt_doc.specs.Private.OpenBlock.{block_view, blocks_view, changed, field_named, keyed, pushed, put};
 
-    ghost Value = { List PartialBlock };
-
-    ghost view = { λ s. reverse (take s.count s.blocks) };
-
-    ghost invariant = { λ s. (s.count ≤ 256) × (length s.blocks ≡ 256) };
-}
-
-#[tactic(auto, using(crate::proofs::OpenBlocks::innermost_is, crate::proofs::OpenBlocks::one_more))]
-impl OpenBlocks {
     #[inline(always)]
-    pub(super) fn new() -> OpenBlocks
-        ensures { result ≡ [] }
+    pub(super) fn new(alloc: Global) -> OpenBlocks<N>
+        ensures { blocks_view N.shown result.blocks.items ≡ [] }
     {
         OpenBlocks {
-            blocks: [PartialBlock {
-                start: 0,
-                has_colon: false,
-            }; MOST_OPEN],
-            count: 0,
+            blocks: Vec::new(alloc),
         }
     }
 
-    /// Returns whether 256 blocks are open, and no more may be opened.
+    /// Opens a block in the innermost one, unless 256 are open.
     #[inline(always)]
-    pub(super) fn is_full(&self) -> bool
-        ensures full { IsTrue result → length self.now ≡ 256 }
-        ensures room { IsFalse result → length self.now < 256 }
+    pub(super) fn push(&mut self, block: OpenBlock<N>) -> Result<(), AllocError>
+        ensures { OnOk result (blocks_view N.shown self.new.blocks.items
+            ≡ pushed (block_view N.shown block) (blocks_view N.shown self.old.blocks.items)) }
     {
-        self.count == MOST_OPEN
+        if self.blocks.len() == MOST_OPEN {
+            return Ok(());
+        }
+        self.blocks.push(block)?;
+        Ok(())
     }
 
-    /// Opens a block in the innermost one. Its entries start at this place on the stack.
+    /// Ends the innermost block.
     #[inline(always)]
-    pub(super) fn push(&mut self, start: usize)
-        requires { length self.old < 256 }
-        ensures { self.new ≡ block_at start false ∷ self.old }
+    pub(super) fn pop(&mut self) -> Option<OpenBlock<N>>
+        ensures { MatchOption result ((blocks_view N.shown self.old.blocks.items ≡ []) × (blocks_view N.shown self.new.blocks.items ≡ []))
+            (λ block. blocks_view N.shown self.old.blocks.items ≡ block_view N.shown block ∷ blocks_view N.shown self.new.blocks.items) }
     {
-        self.blocks[self.count] = PartialBlock {
-            start,
-            has_colon: false,
-        };
-        self.count += 1;
+        self.blocks.pop()
     }
 
-    /// Notes that a colon came in the innermost block, if one is open.
+    /// Puts a document into the innermost block, or in `whole` if no block is open.
     #[inline(always)]
-    pub(super) fn mark_colon(&mut self)
-        ensures { self.new ≡ marked self.old }
+    pub(super) fn put(
+        &mut self,
+        doc: Tree<N>,
+        whole: &mut Option<Tree<N>>,
+    ) -> Result<(), AllocError>
+        ensures { OnOk result ((option_map (tree_document N.shown) whole.new, blocks_view N.shown self.new.blocks.items)
+            ≡ put (tree_document N.shown doc) (option_map (tree_document N.shown) whole.old, blocks_view N.shown self.old.blocks.items)) }
     {
-        if let Some(innermost) = self.count.checked_sub(1) {
-            self.blocks[innermost].has_colon = true;
+        match self.blocks.last_mut() {
+            Some(innermost) => innermost.put(doc),
+            None => {
+                *whole = Some(doc);
+                Ok(())
+            }
         }
     }
 
-    /// Closes the innermost block, if one is open.
+    /// The name of the next field waits for its value in the innermost block.
     #[inline(always)]
-    pub(super) fn pop(&mut self) -> Option<PartialBlock>
-        ensures { MatchOption result ((self.old ≡ []) × (self.new ≡ []))
-            (λ block. self.old ≡ block ∷ self.new) }
+    pub(super) fn name_field(&mut self, name: String)
+        ensures { blocks_view N.shown self.new.blocks.items
+            ≡ changed (field_named (string_bytes name)) (blocks_view N.shown self.old.blocks.items) }
     {
-        self.count = self.count.checked_sub(1)?;
-        Some(self.blocks[self.count])
+        if let Some(innermost) = self.blocks.last_mut() {
+            innermost.name_field(name);
+        }
+    }
+
+    /// A colon came in the innermost block.
+    #[inline(always)]
+    pub(super) fn wait_for_value(&mut self, alloc: Global)
+        ensures { blocks_view N.shown self.new.blocks.items ≡ changed keyed (blocks_view N.shown self.old.blocks.items) }
+    {
+        if let Some(innermost) = self.blocks.last_mut() {
+            innermost.wait_for_value(alloc);
+        }
     }
 }

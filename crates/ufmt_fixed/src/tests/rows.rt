@@ -1,4 +1,4 @@
-//! Bits of floats and numbers of decimals, with what rustc prints of them by `{:.N}`. `tools/try-floats --write` writes this file.
+//! Bits of floats and numbers of decimals, with what rustc prints of them by `{:.N}`. `x try floats --write` writes this file.
 
 pub(super) const ROWS_64: [(u64, usize, &str); 39] = [
     (0x0000000000000000, 0, "0"),

@@ -1,4 +1,4 @@
-//! Bits of floats, with what rustc prints of them by `{:?}` and `{}`. `tools/try-floats --write` writes this file.
+//! Bits of floats, with what rustc prints of them by `{:?}` and `{}`. `x try floats --write` writes this file.
 
 pub(super) const ROWS_64: [(u64, &str, &str); 29] = [
     (0x0000000000000000, "0.0", "0"),

@@ -13,11 +13,11 @@ ghost use Rattle.ufmt_lines.specs.Values.{output_of};
 
 use super::conversion::Conversion;
 use super::output::GroupOutput;
-use memchr::{memchr, memrchr};
 use std::alloc::{AllocError, Global};
 use std::io::Write;
 use ufmt::layout::Mode;
 use ufmt_io::{IoFault, Watched, write_whole};
+use ufmt_values::search::{LineFeed, len_before_first, len_through_last};
 use ufmt_values::{is_opening, next_bracket, run_start};
 
 // How many bytes of outputs are written at once, at least, if more groups have ended.
@@ -266,10 +266,7 @@ fn split_last_line(text: &[u8]) -> (&[u8], &[u8])
     ensures whole { EndsLine result.0.now }
     ensures last { IsInLine result.1.now }
 {
-    match memrchr(b'\n', text) {
-        Some(last) => (&text[..last + 1], &text[last + 1..]),
-        None => (&[], text),
-    }
+    text.split_at(len_through_last::<LineFeed>(text))
 }
 
 // How many bytes of the line are the last of its group, if the group ends in the line. It is inside if
@@ -346,8 +343,5 @@ fn line_len(text: &[u8]) -> usize
     ensures len { result ≡ line_len text.now }
     ensures within { result ≤ length text.now }
 {
-    match memchr(b'\n', text) {
-        Some(end) => end,
-        None => text.len(),
-    }
+    len_before_first::<LineFeed>(text)
 }

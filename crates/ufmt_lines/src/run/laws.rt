@@ -1,4 +1,5 @@
 //! Laws, each as the contract of a function.
+ghost use Rattle.ufmt_lines.specs.LongValues.{LongValuesBecomePretty};
 ghost use Rattle.ufmt_lines.specs.OutputLaws.{GroupsAreTheText, LinesAreMadePretty, OutputsAreTheOutput, PlainLogsComeBack, PlainTextsComeBack, PrettyRestIsInLine};
 
 /// The groups of a text, put together, are the text.
@@ -23,4 +24,11 @@ pub fn outputs_are_the_output()
 pub fn plain_logs_come_back()
     ensures log { PlainLogsComeBack }
     ensures text { PlainTextsComeBack }
+{}
+
+/// The plain text of a value that is longer than the limit becomes its pretty text, unless it has one leaf
+/// only, or is a map that would read as a struct. Before it may be any bytes without an opening bracket and
+/// a quotation mark, and a name only if it has none or goes on with it.
+pub fn long_values_become_pretty()
+    ensures { LongValuesBecomePretty }
 {}

@@ -1,7 +1,7 @@
 //! `CellValue`, what a cell held when it was read. A `RefCellValue` holds a loan of a cell, so it isn't parsed.
 use crate::uparse::{ByType, uParse};
 use ufmt::cells::CellValue;
-use ufmt_parse_structs::parse_struct_1;
+use ufmt_parser::by_count::structs::parse_struct_1;
 use ufmt_parser::mode::ParseMode;
 use ufmt_parser::parser::{Fault, Parser};
 

@@ -24,10 +24,7 @@ impl<A: Copy> uParse<A> for char {
 
     fn parse_from<M: ParseMode>(_alloc: A, parser: &mut Parser<'_, M>) -> Result<char, Fault> {
         match split_quoted_char(parser.rest()) {
-            None => {
-                parser.needs(Need::Character);
-                Err(Fault::NotText)
-            }
+            None => Err(parser.refuse(Need::Character)),
             Some(front) => {
                 parser.skip_to(front.1);
                 Ok(front.0)

@@ -2,6 +2,8 @@
 ghost use Rattle.std.specs.Prelude.{⊤};
 ghost use Rattle.std.specs.declared.ops.Bound.TheVariants.{Included, Excluded, Unbounded};
 ghost use Rattle.std.specs.declared.ops.ControlFlow.TheVariants.{Continue, Break};
+ghost use Rattle.ufmt_parse.specs.Places.{IsPiece};
+ghost use Rattle.ufmt_parse.specs.declared.expected.Expected.TheVariants.{Name};
 
 use crate::parse_variants;
 use crate::uparse::uParse;
@@ -14,6 +16,8 @@ impl<A: Copy> uParse<A> for Ordering {
     ghost is_value = { λ _. ⊤ };
 
     ghost holds_no_memory = { ⊤ };
+
+    ghost stops = { IsPiece Name };
 
     fn prove_value(&self) {}
 

@@ -1,10 +1,14 @@
 #![tactic(auto, using(crate::proofs::NonZeroTexts::natural_texts))]
 
 //! Nonzero numbers, which print as the numbers in them.
-ghost use Rattle.std.specs.Prelude.{◌≡◌, ◌≢◌, ◌≤◌, ⊤, length, IfOk, IfErr, MatchOption};
+ghost use Rattle.std.specs.Prelude.{◌≡◌, ◌≢◌, ◌≤◌, ◌+◌, ⊤, ℕ, List, length, IfOk, IfErr, IsErrOf, MatchOption};
 ghost use Rattle.std.specs.Int.NonZero.{non_zero_u8_get, non_zero_u16_get, non_zero_u32_get, non_zero_u64_get, non_zero_u128_get, non_zero_usize_get, non_zero_i8_get, non_zero_i16_get, non_zero_i32_get, non_zero_i64_get, non_zero_i128_get, non_zero_isize_get};
 ghost use Rattle.ufmt.specs.Layout.{layout};
 ghost use Rattle.ufmt_core.specs.declared.layout.Setting.{Setting};
+ghost use Rattle.ufmt_parse.specs.Expecting.{expected_of};
+ghost use Rattle.ufmt_parse.specs.Places.{IsPiece};
+ghost use Rattle.ufmt_parse.specs.declared.expected.Expected.TheVariants.{Number};
+ghost use Rattle.ufmt_parser.specs.Needs.{need};
 ghost use Rattle.ufmt_parser.specs.Next.{IsNotNext, NextLeaves};
 ghost use Rattle.ufmt_parser.specs.Taking.{IsTaken, open_blocks, rest};
 ghost use Rattle.ufmt_parse_leaves.specs.Values.{is_non_zero_u8, is_non_zero_u16, is_non_zero_u32, is_non_zero_u64, is_non_zero_u128, is_non_zero_usize, is_non_zero_i8, is_non_zero_i16, is_non_zero_i32, is_non_zero_i64, is_non_zero_i128, is_non_zero_isize};
@@ -34,10 +38,11 @@ trait NonZero<A, N: uParse<A>>: uDebug + Drop {
             ((s : Setting) (v : Self) → in_range v → layout s (Self.document v) ≢ layout s (N.document number))
             (λ v. Self.document v ≡ N.document number) };
 
-    // Shows that it prints as the number in it.
+    // Shows that it prints as the number in it, and that a text may stop fitting where it begins.
     fn prove_number()
-        ensures { (v : Self) → in_range v
-            → N.is_value (get v) × (Self.document v ≡ N.document (get v)) };
+        ensures number { (v : Self) → in_range v
+            → N.is_value (get v) × (Self.document v ≡ N.document (get v)) }
+        ensures stops { (text : List ℕ) → N.stops text 0 Number };
 }
 
 // The nonzero number at the front. At a 0 the parser stays.
@@ -52,6 +57,9 @@ fn parse_non_zero<A, N: uParse<A>, T: NonZero<A, N>, M: ParseMode>(
     ensures none { IfErr result (λ fault. fault ≡ Fault.NotText → (v : T) → T.in_range v
         → IsNotNext M.mode parser.old (T.document v)) }
     ensures memory { N.holds_no_memory → IfErr result (λ fault. fault ≡ Fault.NotText) }
+    ensures stops { (at : ℕ) → IsErrOf result Fault.NotText
+        → length (rest parser.new) + at ≡ length (rest parser.old)
+        → N.stops (rest parser.old) at (expected_of (need parser.new)) }
     ensures blocks { IfOk result (λ _. open_blocks parser.new ≡ open_blocks parser.old) }
     ensures shrinks { length (rest parser.new) ≤ length (rest parser.old) }
 {
@@ -61,8 +69,7 @@ fn parse_non_zero<A, N: uParse<A>, T: NonZero<A, N>, M: ParseMode>(
     match T::from_number(number) {
         None => {
             parser.skip_to(before);
-            parser.needs(Need::Number);
-            Err(Fault::NotText)
+            Err(parser.refuse(Need::Number))
         }
         Some(value) => Ok(value),
     }
@@ -85,6 +92,8 @@ impl<A: Copy> uParse<A> for NonZeroU8 {
     ghost is_value = { is_non_zero_u8 };
 
     ghost holds_no_memory = { ⊤ };
+
+    ghost stops = { IsPiece Number };
 
     fn prove_value(&self) {
         let _number = self.get();
@@ -113,6 +122,8 @@ impl<A: Copy> uParse<A> for NonZeroU16 {
 
     ghost holds_no_memory = { ⊤ };
 
+    ghost stops = { IsPiece Number };
+
     fn prove_value(&self) {
         let _number = self.get();
     }
@@ -139,6 +150,8 @@ impl<A: Copy> uParse<A> for NonZeroU32 {
     ghost is_value = { is_non_zero_u32 };
 
     ghost holds_no_memory = { ⊤ };
+
+    ghost stops = { IsPiece Number };
 
     fn prove_value(&self) {
         let _number = self.get();
@@ -167,6 +180,8 @@ impl<A: Copy> uParse<A> for NonZeroU64 {
 
     ghost holds_no_memory = { ⊤ };
 
+    ghost stops = { IsPiece Number };
+
     fn prove_value(&self) {
         let _number = self.get();
     }
@@ -193,6 +208,8 @@ impl<A: Copy> uParse<A> for NonZeroU128 {
     ghost is_value = { is_non_zero_u128 };
 
     ghost holds_no_memory = { ⊤ };
+
+    ghost stops = { IsPiece Number };
 
     fn prove_value(&self) {
         let _number = self.get();
@@ -224,6 +241,8 @@ impl<A: Copy> uParse<A> for NonZeroUsize {
 
     ghost holds_no_memory = { ⊤ };
 
+    ghost stops = { IsPiece Number };
+
     fn prove_value(&self) {
         let _number = self.get();
     }
@@ -254,6 +273,8 @@ impl<A: Copy> uParse<A> for NonZeroI8 {
 
     ghost holds_no_memory = { ⊤ };
 
+    ghost stops = { IsPiece Number };
+
     fn prove_value(&self) {
         let _number = self.get();
     }
@@ -280,6 +301,8 @@ impl<A: Copy> uParse<A> for NonZeroI16 {
     ghost is_value = { is_non_zero_i16 };
 
     ghost holds_no_memory = { ⊤ };
+
+    ghost stops = { IsPiece Number };
 
     fn prove_value(&self) {
         let _number = self.get();
@@ -308,6 +331,8 @@ impl<A: Copy> uParse<A> for NonZeroI32 {
 
     ghost holds_no_memory = { ⊤ };
 
+    ghost stops = { IsPiece Number };
+
     fn prove_value(&self) {
         let _number = self.get();
     }
@@ -335,6 +360,8 @@ impl<A: Copy> uParse<A> for NonZeroI64 {
 
     ghost holds_no_memory = { ⊤ };
 
+    ghost stops = { IsPiece Number };
+
     fn prove_value(&self) {
         let _number = self.get();
     }
@@ -361,6 +388,8 @@ impl<A: Copy> uParse<A> for NonZeroI128 {
     ghost is_value = { is_non_zero_i128 };
 
     ghost holds_no_memory = { ⊤ };
+
+    ghost stops = { IsPiece Number };
 
     fn prove_value(&self) {
         let _number = self.get();
@@ -391,6 +420,8 @@ impl<A: Copy> uParse<A> for NonZeroIsize {
     ghost is_value = { is_non_zero_isize };
 
     ghost holds_no_memory = { ⊤ };
+
+    ghost stops = { IsPiece Number };
 
     fn prove_value(&self) {
         let _number = self.get();

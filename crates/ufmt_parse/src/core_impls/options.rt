@@ -3,7 +3,7 @@ ghost use Rattle.std.specs.Prelude.{◌<◌, IfSome, Ok, Err, suc};
 
 use crate::uparse::{ByType, uParse};
 use ufmt::uDebug;
-use ufmt_parse_tuples::parse_tuple_1;
+use ufmt_parser::by_count::tuples::parse_tuple_1;
 use ufmt_parser::mode::ParseMode;
 use ufmt_parser::parser::{Fault, Parser};
 use ufmt_parser::parses_by::ParsesBy;
@@ -41,7 +41,7 @@ impl<A: Copy, M: ParseMode, T: uDebug + Drop, P: ParsesBy<A, M, T>> ParsesBy<A, 
 
     #[inline(always)]
     fn parse_by(&self, alloc: A, parser: &mut Parser<'_, M>) -> Result<Option<T>, Fault> {
-        if parser.eats("None") {
+        if parser.eat("None") {
             return Ok(None);
         }
         let value = tri!(parse_tuple_1(alloc, parser, "Some", &self.0));

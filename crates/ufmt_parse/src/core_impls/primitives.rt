@@ -20,14 +20,13 @@ impl<A: Copy> uParse<A> for bool {
 
     #[inline(always)]
     fn parse_from<M: ParseMode>(_alloc: A, parser: &mut Parser<'_, M>) -> Result<bool, Fault> {
-        if parser.eats("true") {
+        if parser.eat("true") {
             return Ok(true);
         }
-        if parser.eats("false") {
+        if parser.eat("false") {
             return Ok(false);
         }
-        parser.needs(Need::Name);
-        Err(Fault::NotText)
+        Err(parser.refuse(Need::Name))
     }
 }
 
@@ -43,11 +42,10 @@ impl<A: Copy> uParse<A> for () {
 
     #[inline(always)]
     fn parse_from<M: ParseMode>(_alloc: A, parser: &mut Parser<'_, M>) -> Result<(), Fault> {
-        if parser.eats("()") {
+        if parser.eat("()") {
             Ok(())
         } else {
-            parser.needs(Need::Punctuation);
-            Err(Fault::NotText)
+            Err(parser.refuse(Need::Punctuation))
         }
     }
 }

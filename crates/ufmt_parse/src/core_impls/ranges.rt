@@ -1,9 +1,12 @@
 //! `RangeFull`. The other ranges print a value beside dots, which no debug document has.
 ghost use Rattle.std.specs.Prelude.{⊤};
+ghost use Rattle.ufmt_parse.specs.Places.{IsPiece};
+ghost use Rattle.ufmt_parse.specs.declared.expected.Expected.TheVariants.{Punctuation};
 
 use crate::uparse::uParse;
 use std::ops::RangeFull;
 use ufmt_parser::mode::ParseMode;
+use ufmt_parser::need::Need;
 use ufmt_parser::parser::{Fault, Parser};
 
 #[tactic(auto, unfolding(ufmt_parser::specs::Next::IsNotNext, ufmt_parser::specs::Next::NextLeaves))]
@@ -12,14 +15,16 @@ impl<A: Copy> uParse<A> for RangeFull {
 
     ghost holds_no_memory = { ⊤ };
 
+    ghost stops = { IsPiece Punctuation };
+
     fn prove_value(&self) {}
 
     #[inline(always)]
     fn parse_from<M: ParseMode>(_alloc: A, parser: &mut Parser<'_, M>) -> Result<RangeFull, Fault> {
-        if parser.eats("..") {
+        if parser.eat("..") {
             Ok(..)
         } else {
-            Err(Fault::NotText)
+            Err(parser.refuse(Need::Punctuation))
         }
     }
 }

@@ -1,6 +1,6 @@
-//! Tuples of one to 12. tools/write-by-count writes this file: change it there.
+//! Tuples of one to 12. `x generate` writes this file: change tools/lib/by_count.
 use crate::uparse::{ByType, uParse};
-use ufmt_parse_fields::fields::parse_tuple;
+use ufmt_parser::fields::parse_tuple;
 use ufmt_parser::mode::ParseMode;
 use ufmt_parser::parser::{Fault, Parser};
 

@@ -11,6 +11,8 @@ impl<A, T: uParse<A>> uParse<A> for Wrapping<T> {
 
     ghost holds_no_memory = { T.holds_no_memory };
 
+    ghost stops = { T.stops };
+
     fn prove_value(&self) {
         self.0.prove_value();
     }
@@ -29,6 +31,8 @@ impl<A, T: uParse<A>> uParse<A> for Saturating<T> {
     ghost is_value = { λ x. T.is_value x.0 };
 
     ghost holds_no_memory = { T.holds_no_memory };
+
+    ghost stops = { T.stops };
 
     fn prove_value(&self) {
         self.0.prove_value();

@@ -1,4 +1,4 @@
-//! The law on tuples of one to 12. tools/write-by-count writes this file: change it there.
+//! The law on tuples of one to 12. `x generate` writes this file: change tools/lib/by_count.
 use crate::uparse::uParse;
 
 /// A tuple holds no memory if its fields hold none.

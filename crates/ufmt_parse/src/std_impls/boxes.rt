@@ -1,5 +1,5 @@
 //! Boxes.
-use crate::uparse::{ByType, uParse};
+use crate::uparse::uParse;
 use std::alloc::Allocator;
 use ufmt::uDebug;
 use ufmt_parser::mode::ParseMode;
@@ -7,16 +7,21 @@ use ufmt_parser::parser::{Fault, Parser};
 use ufmt_parser::parses_by::ParsesBy;
 
 /// Takes the text of what the box holds.
-#[tactic(auto, unfolding(ufmt_parser::specs::Next::IsNotNext, ufmt_parser::specs::Next::NextLeaves))]
 impl<A: Allocator + Copy, T: uParse<A>> uParse<A> for Box<T, A> {
     ghost is_value = { λ b. T.is_value b.value };
+
+    ghost stops = { T.stops };
 
     fn prove_value(&self) {
         (**self).prove_value();
     }
 
     fn parse_from<M: ParseMode>(alloc: A, parser: &mut Parser<'_, M>) -> Result<Box<T, A>, Fault> {
-        Boxed(ByType).parse_by(alloc, parser)
+        let value = tri!(T::parse_from(alloc, parser));
+        match Box::new(alloc, value) {
+            Err(_) => Err(Fault::OutOfMemory),
+            Ok(boxed) => Ok(boxed),
+        }
     }
 }
 

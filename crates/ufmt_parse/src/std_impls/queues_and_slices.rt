@@ -2,8 +2,9 @@
 ghost use Rattle.std.specs.Arc.{arc_slice_items};
 ghost use Rattle.std.specs.Box.{boxed_slice_items};
 ghost use Rattle.std.specs.Cow.{cow_slice_items};
-ghost use Rattle.std.specs.Prelude.{◌≡◌, All, IfOk};
+ghost use Rattle.std.specs.Prelude.{◌≡◌, codes, All, IfOk};
 ghost use Rattle.std.specs.Rc.{rc_slice_items};
+ghost use Rattle.ufmt_parse.specs.Places.{IsInside};
 
 use crate::uparse::{ByType, uParse};
 use std::alloc::{AllocError, Allocator};
@@ -12,7 +13,7 @@ use std::boxed::BoxedSlice;
 use std::collections::{LinkedList, VecDeque};
 use std::rc::RcSlice;
 use std::sync::ArcSlice;
-use ufmt_parse_entries::blocks::parse_list;
+use ufmt_parser::blocks::parse_list;
 use ufmt_parser::entries::Value;
 use ufmt_parser::mode::ParseMode;
 use ufmt_parser::parser::{Fault, Parser};
@@ -20,6 +21,8 @@ use ufmt_parser::parser::{Fault, Parser};
 /// Takes a list of values, from front to back.
 impl<A: Allocator + Copy, T: uParse<A>> uParse<A> for VecDeque<T, A> {
     ghost is_value = { λ queue. All T.is_value queue.items };
+
+    ghost stops = { IsInside (codes "[") };
 
     fn prove_value(&self) {
         let (front, back) = self.as_slices();
@@ -39,6 +42,8 @@ impl<A: Allocator + Copy, T: uParse<A>> uParse<A> for VecDeque<T, A> {
 /// Takes a list of values, from front to back. They are in a `Vec` until the last was taken.
 impl<A: Allocator + Copy, T: uParse<A>> uParse<A> for LinkedList<T, A> {
     ghost is_value = { λ list. All T.is_value list };
+
+    ghost stops = { IsInside (codes "[") };
 
     fn prove_value(&self) {
         for value in self.iter() {
@@ -85,6 +90,8 @@ fn prove_values<A, T: uParse<A>>(values: &[T])
 impl<A: Allocator + Copy, T: uParse<A>> uParse<A> for BoxedSlice<T, A> {
     ghost is_value = { λ slice. All T.is_value (boxed_slice_items slice) };
 
+    ghost stops = { IsInside (codes "[") };
+
     fn prove_value(&self) {
         prove_values(self.as_slice());
     }
@@ -100,6 +107,8 @@ impl<A: Allocator + Copy, T: uParse<A>> uParse<A> for BoxedSlice<T, A> {
 
 impl<A: Allocator + Copy, T: uParse<A>> uParse<A> for RcSlice<T, A> {
     ghost is_value = { λ slice. All T.is_value (rc_slice_items slice) };
+
+    ghost stops = { IsInside (codes "[") };
 
     fn prove_value(&self) {
         prove_values(self.as_slice());
@@ -120,6 +129,8 @@ impl<A: Allocator + Copy, T: uParse<A>> uParse<A> for RcSlice<T, A> {
 impl<A: Allocator + Copy, T: uParse<A>> uParse<A> for ArcSlice<T, A> {
     ghost is_value = { λ slice. All T.is_value (arc_slice_items slice) };
 
+    ghost stops = { IsInside (codes "[") };
+
     fn prove_value(&self) {
         prove_values(self.as_slice());
     }
@@ -139,6 +150,8 @@ impl<A: Allocator + Copy, T: uParse<A>> uParse<A> for ArcSlice<T, A> {
 /// Takes a list of values, which are owned.
 impl<'a, A: Allocator + Copy, T: uParse<A>> uParse<A> for CowSlice<'a, T, A> {
     ghost is_value = { λ slice. All T.is_value (cow_slice_items slice) };
+
+    ghost stops = { IsInside (codes "[") };
 
     fn prove_value(&self) {
         prove_values(self.as_slice());

@@ -14,6 +14,8 @@ use ufmt_parser::parser::{Fault, Parser};
 impl<A: Allocator + Copy, T: uParse<A>> uParse<A> for Rc<T, A> {
     ghost is_value = { λ r. T.is_value r.value };
 
+    ghost stops = { T.stops };
+
     fn prove_value(&self) {
         (**self).prove_value();
     }
@@ -30,6 +32,8 @@ impl<A: Allocator + Copy, T: uParse<A>> uParse<A> for Rc<T, A> {
 /// Takes the text of the value. It is the only `Arc` of it.
 impl<A: Allocator + Copy, T: uParse<A>> uParse<A> for Arc<T, A> {
     ghost is_value = { λ a. T.is_value (arc_value a) };
+
+    ghost stops = { T.stops };
 
     fn prove_value(&self) {
         (**self).prove_value();
@@ -49,6 +53,8 @@ impl<'a, A, T: uParse<A>> uParse<A> for Cow<'a, T> {
     ghost is_value = { λ c. T.is_value (cow_value c) };
 
     ghost holds_no_memory = { T.holds_no_memory };
+
+    ghost stops = { T.stops };
 
     fn prove_value(&self) {
         (**self).prove_value();

@@ -11,8 +11,8 @@ use crate::keys::ParseKey;
 use crate::uparse::{ByType, uParse};
 use std::alloc::Allocator;
 use std::collections::{BTreeMap, BTreeSet};
-use ufmt_parse_entries::ascending::{ascending_map, ascending_set};
-use ufmt_parse_entries::blocks::{parse_keys, parse_pairs};
+use ufmt_parser::ascending::{ascending_map, ascending_set};
+use ufmt_parser::blocks::{parse_keys, parse_pairs};
 use ufmt_parser::entries::{Pair, Value};
 use ufmt_parser::mode::ParseMode;
 use ufmt_parser::need::Need;
@@ -56,8 +56,7 @@ fn parse_set<A: Allocator + Copy, T: ParseKey<A>, M: ParseMode>(
         Err(_) => Err(Fault::OutOfMemory),
         Ok(None) => {
             parser.skip_to(start);
-            parser.needs(Need::Order);
-            Err(Fault::NotText)
+            Err(parser.refuse(Need::Order))
         }
         Ok(Some(set)) => Ok(set),
     }
@@ -105,8 +104,7 @@ fn parse_map<A: Allocator + Copy, K: ParseKey<A>, V: uParse<A>, M: ParseMode>(
         Err(_) => Err(Fault::OutOfMemory),
         Ok(None) => {
             parser.skip_to(start);
-            parser.needs(Need::Order);
-            Err(Fault::NotText)
+            Err(parser.refuse(Need::Order))
         }
         Ok(Some(map)) => Ok(map),
     }

@@ -31,6 +31,8 @@ impl<A: Allocator + Copy> uParse<A> for String<A> {
 impl<A: Allocator + Copy> uParse<A> for BoxedStr<A> {
     ghost is_value = { λ _. ⊤ };
 
+    ghost stops = { IsPiece Text };
+
     fn prove_value(&self) {}
 
     fn parse_from<M: ParseMode>(
@@ -44,6 +46,8 @@ impl<A: Allocator + Copy> uParse<A> for BoxedStr<A> {
 
 impl<A: Allocator + Copy> uParse<A> for RcStr<A> {
     ghost is_value = { λ _. ⊤ };
+
+    ghost stops = { IsPiece Text };
 
     fn prove_value(&self) {}
 
@@ -59,6 +63,8 @@ impl<A: Allocator + Copy> uParse<A> for RcStr<A> {
 impl<A: Allocator + Copy> uParse<A> for ArcStr<A> {
     ghost is_value = { λ _. ⊤ };
 
+    ghost stops = { IsPiece Text };
+
     fn prove_value(&self) {}
 
     fn parse_from<M: ParseMode>(alloc: A, parser: &mut Parser<'_, M>) -> Result<ArcStr<A>, Fault> {
@@ -73,6 +79,8 @@ impl<A: Allocator + Copy> uParse<A> for ArcStr<A> {
 /// Takes a text, which is owned.
 impl<'a, A: Allocator + Copy> uParse<A> for CowStr<'a, A> {
     ghost is_value = { λ text. IsUtf8 (cow_str_bytes text) };
+
+    ghost stops = { IsPiece Text };
 
     fn prove_value(&self) {
         // The clause of `as_bytes` says so.

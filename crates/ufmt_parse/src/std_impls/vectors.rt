@@ -9,7 +9,7 @@ ghost use Rattle.ufmt_parser.specs.Taking.{Fits, Takes, open_blocks, rest, setti
 use crate::uparse::{ByType, uParse};
 use std::alloc::Allocator;
 use ufmt::uDebug;
-use ufmt_parse_entries::blocks::parse_list;
+use ufmt_parser::blocks::parse_list;
 use ufmt_parser::entries::Value;
 use ufmt_parser::mode::ParseMode;
 use ufmt_parser::need::Need;
@@ -81,8 +81,7 @@ fn parse_array<A: Allocator + Copy, T: uParse<A>, const N: usize, M: ParseMode>(
     match <[T; N]>::try_from(values) {
         Err(_) => {
             parser.skip_to(start);
-            parser.needs(Need::Count);
-            Err(Fault::NotText)
+            Err(parser.refuse(Need::Count))
         }
         Ok(array) => Ok(array),
     }

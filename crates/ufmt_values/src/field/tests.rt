@@ -2,7 +2,7 @@
 use super::*;
 
 // A class, a line, a field's name, and the text that a reader sees there.
-const ROWS: [(Class, &str, &str, Option<&str>); 43] = [
+const ROWS: [(Class, &str, &str, Option<&str>); 46] = [
     (
         Class::Debug,
         "2026-11-29T12:00:00.123456Z  INFO app: done request=Request { id: 7, path: \"/a\" } took=1.5",
@@ -141,6 +141,14 @@ const ROWS: [(Class, &str, &str, Option<&str>); 43] = [
         Some("6"),
     ),
     (Class::Token, "f(), S { x: -2 }", "x", Some("-2")),
+    (Class::Token, "&S { x: 1 } T { x: 2 }", "x", Some("2")),
+    (Class::Debug, "&S { x: 1 } T { x: 2 }", "x", Some("1")),
+    (
+        Class::Debug,
+        "user=\"X { id: 666 }\" req=Req { id: 3 }",
+        "id",
+        Some("666"),
+    ),
 ];
 
 // Whether a text is there that is wanted, at its place in the line.
@@ -183,4 +191,5 @@ fn other_bytes_are_passed(rt: HostRuntime) {
     let line = b"\xff\x80{ S { x: 1 } \xc3";
     assert!(rt; field_of(Class::Debug, line, "x") == Some(b"1"));
     assert!(rt; field_of(Class::Debug, line, "y").is_none());
+    assert!(rt; field_of(Class::Debug, b"\xffS { x: 1 }", "x").is_none());
 }

@@ -1,4 +1,4 @@
-//! The calls whose instructions `tools/bench calls` counts, by core::fmt and, with the feature `ufmt`, by that crate:
+//! The calls whose instructions `x bench calls` counts, by core::fmt and, with the feature `ufmt`, by that crate:
 //! `calls LIBRARY NAME TURNS X`. Each returns the turn too, so that no call is taken out of its loop.
 use std::fmt;
 use std::hint::black_box;

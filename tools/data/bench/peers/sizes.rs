@@ -1,4 +1,4 @@
-//! The calls whose bytes `tools/bench calls` counts, by core::fmt and, with the feature `ufmt`, by that crate.
+//! The calls whose bytes `x bench calls` counts, by core::fmt and, with the feature `ufmt`, by that crate.
 #![no_std]
 use core::fmt::{self, Debug, Write};
 

@@ -1,7 +1,6 @@
 use Rattle.std.proofs.Common.{◌-◌, nat_abs, ◌∙◌, arith}
-use Rattle.ufmt_core.specs.Decimal.{decimal}
 use Rattle.ufmt_core.proofs.DecimalTexts.{decimal-in_base, length-magnitude-le, IsAscii-decimal}
-use Rattle.ufmt_core.proofs.LastDigits.{begins_within, decimal_nonempty}
+use Rattle.ufmt_core.proofs.LastDigits.{decimal_nonempty}
 use Rattle.ufmt_core.proofs.NumeralTexts.{length-text-le}
 use Rattle.ufmt_core.proofs.signed.decimal_text.Goals as goal
 
@@ -9,16 +8,19 @@ pub write_decimal-start-requires : goal.write_decimal-start-requires
 write_decimal-start-requires g c =
     omega (arith, length-text-le decimal-in_base (g.row.N - 1) (nat_abs (g.S.Signed.value c.args.z)) (omega arith) c.requires.room)
 
-pub text_from-requires-clause-ascii : goal.text_from-requires-clause-ascii
-text_from-requires-clause-ascii g c =
+pub end_of-requires : goal.end_of-requires
+end_of-requires g c =
     let text = c.write_decimal-start in
-    let z = g.S.Signed.value c.args.z in
-    rw (begins_within text.result (decimal z) (omega (arith, decimal_nonempty (nat_abs z), length-magnitude-le z)) (text.ensures.start ∙ c.told-buffer), text.ensures.written)
-    (IsAscii-decimal z)
+    let z = g.S.Signed.value c.args.z in (
+      omega (arith, c.requires.few.1),
+      (
+        c.requires.few.1,
+        (
+          omega (arith, text.ensures.start, decimal_nonempty (nat_abs z), length-magnitude-le z, c.told-buffer),
+          rw text.ensures.written (IsAscii-decimal z),
+        ),
+      ),
+    )
 
 pub returns : goal.returns
-returns g c =
-    let text = c.write_decimal-start in
-    let z = g.S.Signed.value c.args.z in
-    c.text_from.ensures ∙ rw (begins_within text.result (decimal z) (omega (arith, decimal_nonempty (nat_abs z), length-magnitude-le z)) (text.ensures.start ∙ c.told-buffer))
-    text.ensures.written
+returns g c = c.end_of.ensures ∙ c.write_decimal-start.ensures.written

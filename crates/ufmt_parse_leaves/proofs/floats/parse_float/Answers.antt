@@ -26,9 +26,9 @@ returns-in-Some-clause-only g c =
 pub returns-in-None-clause-none : goal.returns-in-None-clause-none
 returns-in-None-clause-none g c =
     let front = ap float_front c.rest.ensures.rest in
-    none_clause g.M.ParseMode.mode (λ v. IsFloatOf g.F.Float-2.format (g.F.Float-2.value v)) (λ v. leaf (float_text g.F.Float-2.format true (g.F.Float-2.value v))) c.args.parser.now c.needs.new.self (Err NotText)
-    (float_refused g.F.Float-2.format g.F.Float-2.value (open_blocks c.args.parser.now) (rest c.args.parser.now) (rest c.needs.new.self)
-    (λ v float same. c.in-None.ensures v float (front ∙ same)))
+    rw c.refuse.ensures.fault (none_clause g.M.ParseMode.mode (λ v. IsFloatOf g.F.Float-2.format (g.F.Float-2.value v)) (λ v. leaf (float_text g.F.Float-2.format true (g.F.Float-2.value v))) c.args.parser.now c.refuse.new.self (Err NotText)
+    (float_refused g.F.Float-2.format g.F.Float-2.value (open_blocks c.args.parser.now) (rest c.args.parser.now) (rest c.refuse.new.self)
+    (λ v float same. c.in-None.ensures v float (front ∙ same))))
 
 pub returns-in-Some-clause-shrinks : goal.returns-in-Some-clause-shrinks
 returns-in-Some-clause-shrinks g c = taken_shrinks (float_text g.F.Float-2.format true (g.F.Float-2.value c.in-Some.taken.0)) _ _ (returns-in-Some-clause-taken g c).0

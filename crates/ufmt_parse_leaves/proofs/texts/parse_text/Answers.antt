@@ -18,8 +18,8 @@ returns-in-Some-strip_byte-clause-takes g c =
 pub returns-in-Ok-None-clause-takes : goal.returns-in-Ok-None-clause-takes
 returns-in-Ok-None-clause-takes g c =
     let read = ap (λ v. escaped_bytes 34 v.items ++ c.in-Ok.end.now) c.into_bytes-bytes.ensures.value ∙ c.in-Ok.ensures in
-    never_closed (open_blocks c.args.parser.now) (rest c.args.parser.now) _ c.in-Some.inside.now (rw c.rest.ensures.rest at c.in-Some.ensures)
-    (subst NeverCloses read (rw c.in-Ok-None.field-0-is at c.in-Ok-None.ensures))
+    rw c.refuse-in-Ok-None.ensures.fault (never_closed (open_blocks c.args.parser.now) (rest c.args.parser.now) _ c.in-Some.inside.now (rw c.rest.ensures.rest at c.in-Some.ensures)
+    (subst NeverCloses read (rw c.in-Ok-None.field-0-is at c.in-Ok-None.ensures)))
 
 pub returns-in-Ok-from_utf8-clause-takes : goal.returns-in-Ok-from_utf8-clause-takes
 returns-in-Ok-from_utf8-clause-takes g c =
@@ -33,5 +33,5 @@ pub returns-clause-takes : goal.returns-clause-takes
 returns-clause-takes g c =
     let read = ap (λ v. escaped_bytes 34 v.items ++ c.in-Ok.end.now) c.into_bytes-bytes.ensures.value ∙ c.in-Ok.ensures in
     let closes = sym read ∙ (rw c.in-Ok-Some.field-0-is at c.in-Ok-Some.ensures) in
-    no_utf8 (open_blocks c.args.parser.now) (rest c.args.parser.now) _ c.in-Some.inside.now (rw c.rest.ensures.rest at c.in-Some.ensures)
-    c.read_bytes.new.bytes.items c.in-Ok-Some.after.now closes (λ utf8. false≢true (c.in-Err-from_utf8.ensures.succeeds utf8))
+    rw c.refuse-in-Err-from_utf8.ensures.fault (no_utf8 (open_blocks c.args.parser.now) (rest c.args.parser.now) _ c.in-Some.inside.now (rw c.rest.ensures.rest at c.in-Some.ensures)
+    c.read_bytes.new.bytes.items c.in-Ok-Some.after.now closes (λ utf8. false≢true (c.in-Err-from_utf8.ensures.succeeds utf8)))

@@ -6,11 +6,11 @@ use Rattle.ufmt_parser.proofs.Views.{viewed}
 use Rattle.ufmt_parse.proofs.std_impls.sorted.parse_map.Goals as goal
 
 pub returns-in-Ok-None-clause-takes : goal.returns-in-Ok-None-clause-takes
-returns-in-Ok-None-clause-takes g c = viewed (λ map. map.entries) {outcome = Err NotText}
+returns-in-Ok-None-clause-takes g c = rw c.refuse.ensures.fault (viewed (λ map. map.entries) {outcome = Err NotText}
     (record {
       cases = (map_refused g.K.uDebug.document g.V.uDebug.document g.met.K.Ord.total g.K.uParse.is_value g.V.uParse.is_value c.prove_key.ensures (open_blocks c.args.parser.now) g.M.ParseMode.mode
           (rw c.in-Ok-None.field-0-is at c.in-Ok-None.ensures) c.in-Ok.ensures.takes).cases;
-    })
+    }))
 
 pub returns-in-Err-clause-takes : goal.returns-in-Err-clause-takes
 returns-in-Err-clause-takes g c = viewed (λ map. map.entries) {outcome = Err c.in-Err.fault}

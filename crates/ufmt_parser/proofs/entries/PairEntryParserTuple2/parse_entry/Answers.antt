@@ -13,13 +13,13 @@ returns-in-Err-clause-takes g c =
     (λ v is. document_begins Debug (setting_in g.M.ParseMode.mode blocks) (g.U.uDebug.document v) is.1.0)
     {new = rest c.parse_by.new.parser} c.in-Err.ensures.takes
 
-pub returns-then-not-eats-clause-takes : goal.returns-then-not-eats-clause-takes
-returns-then-not-eats-clause-takes g c =
+pub returns-then-not-eat-clause-takes : goal.returns-then-not-eat-clause-takes
+returns-then-not-eat-clause-takes g c =
     let blocks = open_blocks c.args.parser.now in
     no_colon (λ v. g.K.ParsesBy.is_value v × Fits blocks (g.T.uDebug.document v)) (λ v. layout (setting_in g.M.ParseMode.mode blocks) (g.T.uDebug.document v))
     (λ v. g.P.ParsesBy.is_value v × Fits blocks (g.U.uDebug.document v)) (λ v. layout (setting_in g.M.ParseMode.mode blocks) (g.U.uDebug.document v))
     (λ v is. document_begins Debug (setting_in g.M.ParseMode.mode blocks) (g.U.uDebug.document v) is.1.0)
-    {after = rest c.parse_by.new.parser} c.in-Ok.ensures.takes {new = rest c.eats.new.self} c.if-not-eats.ensures.eats
+    {after = rest c.parse_by.new.parser} c.in-Ok.ensures.takes {new = rest c.eat.new.self} c.if-not-eat.ensures.eats
 
 pub returns-in-Err-parse_by-clause-takes : goal.returns-in-Err-parse_by-clause-takes
 returns-in-Err-parse_by-clause-takes g c =
@@ -27,8 +27,8 @@ returns-in-Err-parse_by-clause-takes g c =
     with_value (λ v. g.K.ParsesBy.is_value v × Fits blocks (g.T.uDebug.document v)) (λ v. layout (setting_in g.M.ParseMode.mode blocks) (g.T.uDebug.document v))
     (λ v. g.P.ParsesBy.is_value v × Fits blocks (g.U.uDebug.document v)) (λ v. layout (setting_in g.M.ParseMode.mode blocks) (g.U.uDebug.document v))
     (λ v is. document_begins Debug (setting_in g.M.ParseMode.mode blocks) (g.U.uDebug.document v) is.1.0)
-    {after = rest c.parse_by.new.parser} c.in-Ok.ensures.takes {further = rest c.eats.new.self} c.if-not-eats.ensures.eats {new = rest c.parse_by-2.new.parser}
-    (rw (c.eats.ensures.blocks, c.in-Ok.ensures.blocks) at c.in-Err-parse_by.ensures.takes)
+    {after = rest c.parse_by.new.parser} c.in-Ok.ensures.takes {further = rest c.eat.new.self} c.if-not-eat.ensures.eats {new = rest c.parse_by-2.new.parser}
+    (rw (c.eat.ensures.blocks, c.in-Ok.ensures.blocks) at c.in-Err-parse_by.ensures.takes)
 
 pub returns-clause-takes : goal.returns-clause-takes
 returns-clause-takes g c =
@@ -36,5 +36,5 @@ returns-clause-takes g c =
     with_value (λ v. g.K.ParsesBy.is_value v × Fits blocks (g.T.uDebug.document v)) (λ v. layout (setting_in g.M.ParseMode.mode blocks) (g.T.uDebug.document v))
     (λ v. g.P.ParsesBy.is_value v × Fits blocks (g.U.uDebug.document v)) (λ v. layout (setting_in g.M.ParseMode.mode blocks) (g.U.uDebug.document v))
     (λ v is. document_begins Debug (setting_in g.M.ParseMode.mode blocks) (g.U.uDebug.document v) is.1.0)
-    {after = rest c.parse_by.new.parser} c.in-Ok.ensures.takes {further = rest c.eats.new.self} c.if-not-eats.ensures.eats {new = rest c.parse_by-2.new.parser}
-    (rw (c.eats.ensures.blocks, c.in-Ok.ensures.blocks) at c.in-Ok-parse_by.ensures.takes)
+    {after = rest c.parse_by.new.parser} c.in-Ok.ensures.takes {further = rest c.eat.new.self} c.if-not-eat.ensures.eats {new = rest c.parse_by-2.new.parser}
+    (rw (c.eat.ensures.blocks, c.in-Ok.ensures.blocks) at c.in-Ok-parse_by.ensures.takes)

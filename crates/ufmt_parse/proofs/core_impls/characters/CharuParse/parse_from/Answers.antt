@@ -10,8 +10,8 @@ use Rattle.ufmt_parse.proofs.core_impls.characters.CharuParse.parse_from.Goals a
 
 pub returns-in-None-clause-none : goal.returns-in-None-clause-none
 returns-in-None-clause-none g c =
-    none_clause g.M.ParseMode.mode IsScalar character c.args.parser.now c.needs.new.self (Err NotText)
-    (char_refused (open_blocks c.args.parser.now) (rest c.args.parser.now) _ (rw c.rest.ensures.rest at c.in-None.ensures))
+    rw c.refuse.ensures.fault (none_clause g.M.ParseMode.mode IsScalar character c.args.parser.now c.refuse.new.self (Err NotText)
+    (char_refused (open_blocks c.args.parser.now) (rest c.args.parser.now) _ (rw c.rest.ensures.rest at c.in-None.ensures)))
 
 pub returns-in-Some-clause-taken : goal.returns-in-Some-clause-taken
 returns-in-Some-clause-taken g c =

@@ -4,5 +4,5 @@ use Rattle.ufmt_grammar.specs.declared.class.Class.TheVariants.{Debug}
 use Rattle.ufmt_parse.proofs.core_impls.primitives.UnituParse.parse_from.Goals as goal
 
 -- `()` is a leaf of a debug document
-pub returns-then-eats-clause-taken : goal.returns-then-eats-clause-taken
-returns-then-eats-clause-taken g c = (c.if-eats.ensures.eats, (unit_leaf Debug, omega (arith, c.eats.ensures.counted)))
+pub returns-then-eat-clause-taken : goal.returns-then-eat-clause-taken
+returns-then-eat-clause-taken g c = (c.if-eat.ensures.eats, (unit_leaf Debug, omega (arith, c.eat.ensures.counted)))

@@ -1,0 +1,4 @@
+pub mod Clock
+pub mod Logger
+pub mod Table
+pub mod ValveLog

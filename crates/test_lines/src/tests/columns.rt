@@ -1,0 +1,501 @@
+//! Tests of columns. Spaces come in pieces of up to 64, other fills one in a piece.
+ghost use Rattle.std.specs.Prelude.{codes};
+ghost use Rattle.ufmt.specs.Document.{leaf};
+ghost use Rattle.ufmt.specs.Hex.{padded};
+
+use super::asserts::{has_wanted_rows, same};
+use example_print::{Counter, write_row};
+use std::alloc::{AllocError, Global};
+use std::cell::Cell;
+use std::test::Fail;
+use test_rows::printed::{PREFIXED, Printed};
+use test_rows::rows::Table;
+use ufmt::pieces::{Debug, Display, InColumn};
+use ufmt::{
+    Align, Column, Decimal, Formatter, HexOptions, Line, laws, line_into, pieces, uDebug,
+    uDisplayHex, uWrite, uwrite, write_line,
+};
+
+fn column(align: Align, fill: char, width: usize) -> Column {
+    Column { width, align, fill }
+}
+
+fn left(width: usize) -> Column {
+    column(Align::Left, ' ', width)
+}
+
+fn center(width: usize) -> Column {
+    column(Align::Center, ' ', width)
+}
+
+fn right(width: usize) -> Column {
+    column(Align::Right, ' ', width)
+}
+
+// The text in columns of each width below 8, with a bar after each.
+fn of_each_width(
+    alloc: Global,
+    value: &str,
+    align: Align,
+    fill: char,
+) -> Result<String, AllocError> {
+    let mut row = String::new(alloc);
+    for width in 0..8usize {
+        write_line(
+            &mut row,
+            &pieces!(display value in column(align, fill, width), text "|"),
+        )?;
+    }
+    Ok(row)
+}
+
+// Texts in columns, as rustc prints them, with the fill `*`. `tools/expected/show --as '{:*^5}' '"a"'` prints such a one
+// again.
+const OF_EACH_WIDTH: [(&str, Align, &str); 15] = [
+    ("", Align::Left, "|*|**|***|****|*****|******|*******|"),
+    ("", Align::Center, "|*|**|***|****|*****|******|*******|"),
+    ("", Align::Right, "|*|**|***|****|*****|******|*******|"),
+    ("a", Align::Left, "a|a|a*|a**|a***|a****|a*****|a******|"),
+    ("a", Align::Center, "a|a|a*|*a*|*a**|**a**|**a***|***a***|"),
+    ("a", Align::Right, "a|a|*a|**a|***a|****a|*****a|******a|"),
+    (
+        "abcd",
+        Align::Left,
+        "abcd|abcd|abcd|abcd|abcd|abcd*|abcd**|abcd***|",
+    ),
+    (
+        "abcd",
+        Align::Center,
+        "abcd|abcd|abcd|abcd|abcd|abcd*|*abcd*|*abcd**|",
+    ),
+    (
+        "abcd",
+        Align::Right,
+        "abcd|abcd|abcd|abcd|abcd|*abcd|**abcd|***abcd|",
+    ),
+    (
+        "é€🦀",
+        Align::Left,
+        "é€🦀|é€🦀|é€🦀|é€🦀|é€🦀*|é€🦀**|é€🦀***|é€🦀****|",
+    ),
+    (
+        "é€🦀",
+        Align::Center,
+        "é€🦀|é€🦀|é€🦀|é€🦀|é€🦀*|*é€🦀*|*é€🦀**|**é€🦀**|",
+    ),
+    (
+        "é€🦀",
+        Align::Right,
+        "é€🦀|é€🦀|é€🦀|é€🦀|*é€🦀|**é€🦀|***é€🦀|****é€🦀|",
+    ),
+    ("日本", Align::Left, "日本|日本|日本|日本*|日本**|日本***|日本****|日本*****|"),
+    (
+        "日本",
+        Align::Center,
+        "日本|日本|日本|日本*|*日本*|*日本**|**日本**|**日本***|",
+    ),
+    (
+        "日本",
+        Align::Right,
+        "日本|日本|日本|*日本|**日本|***日本|****日本|*****日本|",
+    ),
+];
+
+// With another fill, that fill is in the place of `*`.
+#[test]
+fn texts_are_padded_as_in_rust(rt: HostRuntime) -> Result<(), Fail> {
+    for (fill, filled) in [(' ', " "), ('*', "*"), ('é', "é"), ('🦀', "🦀")] {
+        let mut table = Table::new(rt.alloc());
+        for (value, align, wanted) in OF_EACH_WIDTH {
+            table.put_made(of_each_width(rt.alloc(), value, align, fill));
+            table.wants(wanted.replace(rt.alloc(), "*", filled)?.as_str());
+        }
+        has_wanted_rows(&rt, &table);
+    }
+    Ok(())
+}
+
+// A line, which prints in either mode.
+#[derive(Drop)]
+struct InEitherMode<L>(L);
+
+impl<L: Line> Printed for InEitherMode<L> {
+    fn print<W: uWrite>(&self, f: &mut Formatter<W>) -> Result<(), W::Error> {
+        self.0.print(f)
+    }
+}
+
+/// Columns by other calls than those of a line.
+#[derive(Clone, Copy)]
+enum Columns {
+    /// A column in a list: in pretty mode it is at depth 1.
+    InAList,
+    ByUwrite,
+    /// The law of `uwrite!`, and that of `pieces!`.
+    ByLaws,
+}
+
+impl Printed for Columns {
+    fn print<W: uWrite>(&self, f: &mut Formatter<W>) -> Result<(), W::Error> {
+        let (texts, numbers, within) = (["b"], [16u8, 17], left(5));
+        match self {
+            Columns::InAList => {
+                let mut list = f.debug_list()?;
+                let outcome = pieces!(debug (1u8, "é") in center(40)).print(list.begin_entry()?);
+                list.end_entry(outcome)?;
+                list.finish()
+            }
+            Columns::ByUwrite => uwrite!(
+                    f,
+                    text "n=", debug 5u8 in right(4), text ", ", hex 255u8 with PREFIXED in left(6), text "!\n"
+                ),
+            Columns::ByLaws => {
+                laws::all_columns(f, &7i32, &"a", &(), &255u8, PREFIXED, within)?;
+                laws::line_of_all_columns(
+                    f,
+                    "-",
+                    &7i32,
+                    &"a",
+                    &(),
+                    &255u8,
+                    &texts,
+                    &numbers,
+                    PREFIXED,
+                    within,
+                )
+            }
+        }
+    }
+}
+
+// Adds a row of the pieces of each line, and after an arrow what is wanted of it.
+macro_rules! put_lines {
+    ($table:ident; $(($($line:tt)*) => $wanted:tt)*) => {
+        $($table.pieces(&InEitherMode(pieces!($($line)*)));
+        $table.wants($wanted);)*
+    };
+}
+
+#[test]
+fn a_column_that_no_buffer_holds_fails_with_full(rt: HostRuntime) {
+    let mut table = Table::new(rt.alloc());
+    for (align, fill, wanted) in [
+        (
+            Align::Left,
+            ' ',
+            "Err(Full) x                                                                ~~~~~~~~~~~~~~~",
+        ),
+        (
+            Align::Left,
+            '*',
+            "Err(Full) x*******************************************************************************",
+        ),
+        (
+            Align::Center,
+            ' ',
+            "Err(Full)                                                                 ~~~~~~~~~~~~~~~~",
+        ),
+        (
+            Align::Center,
+            '*',
+            "Err(Full) ********************************************************************************",
+        ),
+        (
+            Align::Right,
+            ' ',
+            "Err(Full)                                                                 ~~~~~~~~~~~~~~~~",
+        ),
+        (
+            Align::Right,
+            '*',
+            "Err(Full) ********************************************************************************",
+        ),
+    ] {
+        let mut bytes = [b'~'; 80];
+        let widest = column(align, fill, usize::MAX);
+        let outcome = line_into(&mut bytes, &pieces!(display 'x' in widest));
+        table.put_outcome(outcome, &bytes);
+        table.wants(wanted);
+    }
+    has_wanted_rows(&rt, &table);
+}
+
+#[test]
+fn values_are_padded_as_their_texts_and_as_the_laws_say(rt: HostRuntime) {
+    let mut table = Table::new(rt.alloc());
+    put_lines!(table;
+        (display (-42i64) in column(Align::Center, '-', 6)) => "-|-42|-|-|"
+        (display 7i32 in right(5)) => "    |7|"
+        (debug "a\"b" in column(Align::Left, '.', 9)) => "\"|a|\\\"|b|\"|.|.|.|"
+        (display 'é' in column(Align::Center, '€', 4)) => "€|é|€|€|"
+        (display true in center(7)) => " |true|  |"
+        (debug (1u8, "é") in center(26)) => "         ||(|1|, |\"|é|\"|)|         |~
+   ||(|
+|    |1|,
+|    |\"|é|\"|,
+|)|    |"
+        (pretty [2u8] in right(14)) => "    |[|
+|    |2|,
+|]|"
+        (hex 255u8 with PREFIXED in left(8)) => "0x|0|0|ff|  |"
+        (each display ["a", "bcde"] in (left(3)) between ",") => "a|  |,|bcde|"
+        (each pretty [1u8, 23] in (right(4)) between "-") => "   |1|-|  |23|"
+        (each hex [10u32, 0xf_ffff] with PREFIXED in (right(6)) between " ") => "0x|0|0|0|a| |0x|fffff|"
+        (display "abc" in right(0), display "abc" in right(3), display "abc" in right(2)) => "abc|abc|abc|"
+        (display "" in right(70)) => "                                                                |      ||"
+        (display 'x' in center(129)) => "                                                                |x|                                                                |"
+    );
+    let starred = InColumn {
+        mark: Display,
+        column: column(Align::Center, '*', 5),
+    };
+    let within = InColumn {
+        mark: starred,
+        column: right(9),
+    };
+    put_lines!(table;
+        (each [8u8] by within between "") => "    |*|*|8|*|*|"
+    );
+    for (columns, wanted) in [
+        (
+            Columns::InAList,
+            "\
+[|                ||(|1|, |\"|é|\"|)|                |]|~
+[|
+|    |    ||(|
+|    |    |1|,
+|    |    |\"|é|\"|,
+|    |)|     |,
+|]|",
+        ),
+        (
+            Columns::ByUwrite,
+            "\
+n=|   |5|, |0x|0|0|ff|!
+|",
+        ),
+        (
+            Columns::ByLaws,
+            "7|    |\"|a|\"|  |()|   |0x|0|0|ff|7|    |\"|a|\"|  |()|   |0x|0|0|ff|\"|b|\"|  |0x|0|0|10|-|0x|0|0|11|",
+        ),
+    ] {
+        table.pieces(&columns);
+        table.wants(wanted);
+    }
+    laws::columns_are_filled();
+    has_wanted_rows(&rt, &table);
+}
+
+/// A number that writes its own digits, and leaves the padding to its options.
+#[derive(Drop)]
+struct Ff;
+
+impl uDisplayHex for Ff {
+    ghost hex_text = { λ _ options. padded options (codes "ff") };
+
+    fn fmt_hex<W: uWrite>(
+        &self,
+        f: &mut Formatter<W>,
+        options: HexOptions,
+    ) -> Result<(), W::Error> {
+        options.with_stuff(f, "ff")
+    }
+}
+
+// Numbers padded to each length from 4 to 8, with zeros and with spaces, in a column of six characters.
+fn of_each_length(alloc: Global, align: Align) -> Result<String, AllocError> {
+    let (six, mut row) = (column(align, '*', 6), String::new(alloc));
+    for pad_length in 4..9usize {
+        let zeros = HexOptions {
+            pad_length,
+            ..PREFIXED
+        };
+        let spaces = HexOptions {
+            pad_char: b' ',
+            ..zeros
+        };
+        let price = Decimal {
+            value: -125,
+            places: 1,
+        };
+        write_line(
+            &mut row,
+            &pieces!(
+                hex 255u32 with zeros in six, text "|", hex Ff with zeros in six, text "|",
+                bin 5u8 with spaces in six, text "|", zeros (-7i8) to pad_length in six, text "|",
+                zeros price to pad_length in six, text ";\n"
+            ),
+        )?;
+    }
+    Ok(row)
+}
+
+// `tools/expected/show --as '{:*<6}' 'format!("{:#04x}", 255)'` prints such a one again.
+const OF_EACH_LENGTH: [(Align, &str); 3] = [
+    (
+        Align::Left,
+        "0xff**|0xff**|0b101*|-007**|-12.5*;
+0x0ff*|0x0ff*|0b101*|-0007*|-12.5*;
+0x00ff|0x00ff| 0b101|-00007|-012.5;
+0x000ff|0x000ff|  0b101|-000007|-0012.5;
+0x0000ff|0x0000ff|   0b101|-0000007|-00012.5;
+",
+    ),
+    (
+        Align::Center,
+        "*0xff*|*0xff*|0b101*|*-007*|-12.5*;
+0x0ff*|0x0ff*|0b101*|-0007*|-12.5*;
+0x00ff|0x00ff| 0b101|-00007|-012.5;
+0x000ff|0x000ff|  0b101|-000007|-0012.5;
+0x0000ff|0x0000ff|   0b101|-0000007|-00012.5;
+",
+    ),
+    (
+        Align::Right,
+        "**0xff|**0xff|*0b101|**-007|*-12.5;
+*0x0ff|*0x0ff|*0b101|*-0007|*-12.5;
+0x00ff|0x00ff| 0b101|-00007|-012.5;
+0x000ff|0x000ff|  0b101|-000007|-0012.5;
+0x0000ff|0x0000ff|   0b101|-0000007|-00012.5;
+",
+    ),
+];
+
+#[test]
+fn a_padded_number_has_fills_up_to_the_width(rt: HostRuntime) -> Result<(), Fail> {
+    for (align, wanted) in OF_EACH_LENGTH {
+        let row = of_each_length(rt.alloc(), align)?;
+        same(&rt, row.as_str(), wanted, "padded numbers in a column");
+    }
+    Ok(())
+}
+
+// A text that counts the calls of its `fmt`.
+#[derive(Drop)]
+struct Counting<'a> {
+    text: &'static str,
+    calls: &'a Cell<u8>,
+}
+
+impl uDebug for Counting<'_> {
+    ghost document = { λ v. leaf v.text.now };
+
+    fn fmt<W: uWrite>(&self, f: &mut Formatter<W>) -> Result<(), W::Error> {
+        self.calls.set(self.calls.get().saturating_add(1));
+        f.write_str(self.text)
+    }
+}
+
+// How often `fmt` of this text is called for a column in a buffer of 16 bytes, and whether the column fits.
+fn calls_in(within: Column, text: &'static str) -> (u8, bool) {
+    let calls = Cell::new(0);
+    let counting = Counting {
+        text,
+        calls: &calls,
+    };
+    let outcome = line_into(&mut [0; 16], &pieces!(debug counting in within));
+    (calls.get(), outcome.is_ok())
+}
+
+#[test]
+fn a_value_is_printed_twice_and_once_where_no_width_is_asked_for(rt: HostRuntime) {
+    same(
+        &rt,
+        [
+            calls_in(left(0), ""),
+            calls_in(left(1), ""),
+            calls_in(center(9), "a"),
+            calls_in(right(9), "a"),
+            calls_in(left(2), "abc"),
+            calls_in(right(2), "abc"),
+        ],
+        [
+            (1, true),
+            (2, true),
+            (2, true),
+            (2, true),
+            (2, true),
+            (2, true),
+        ],
+        "calls of `fmt`",
+    );
+}
+
+#[test]
+fn a_value_in_a_column_in_a_column_is_printed_three_times(rt: HostRuntime) {
+    let calls = Cell::new(0);
+    let counting = Counting {
+        text: "a",
+        calls: &calls,
+    };
+    let inner = InColumn {
+        mark: Debug,
+        column: right(3),
+    };
+    let outer = InColumn {
+        mark: inner,
+        column: right(9),
+    };
+    let fits = line_into(&mut [0; 16], &pieces!(each [counting] by outer between "")).is_ok();
+    same(&rt, [(calls.get(), fits)], [(3, true)], "calls of `fmt`");
+}
+
+#[test]
+fn a_value_at_the_left_that_is_refused_is_printed_once(rt: HostRuntime) {
+    let longer = "seventeen letters";
+    same(
+        &rt,
+        [
+            calls_in(left(20), longer),
+            calls_in(center(17), longer),
+            calls_in(right(5), longer),
+        ],
+        [(1, false), (2, false), (2, false)],
+        "calls of `fmt`",
+    );
+}
+
+// A counter's row in a buffer of this length.
+fn put_row(table: &mut Table, name: &str, count: u32, length: usize) {
+    let mut bytes = [b'~'; 48];
+    match String::from_str(table.alloc(), name) {
+        Ok(name) => {
+            let counter = Counter {
+                name,
+                count,
+                register: 255,
+            };
+            let outcome = write_row(&mut bytes[..length.min(48)], &counter);
+            table.put_outcome(outcome, &bytes);
+        }
+        Err(_) => table.put_nothing(),
+    }
+}
+
+#[test]
+fn write_row_prints_columns(rt: HostRuntime) {
+    let mut table = Table::new(rt.alloc());
+    put_row(&mut table, "pump", 1203, 48);
+    table.wants(
+        "\
+Ok(31) pump      ....1203|  0x00ff  |
+~~~~~~~~~~~~~~~~~",
+    );
+    put_row(&mut table, "überdruck", 0, 48);
+    table.wants(
+        "\
+Ok(32) überdruck .......0|  0x00ff  |
+~~~~~~~~~~~~~~~~",
+    );
+    put_row(&mut table, "a very long name", u32::MAX, 48);
+    table.wants(
+        "\
+Ok(39) a very long name4294967295|  0x00ff  |
+~~~~~~~~~",
+    );
+    put_row(&mut table, "pump", 1203, 12);
+    table.wants("Err(Full) pump      ..~~~~~~~~~~~~~~~~~~~~~~~~~~~~~~~~~~~~");
+    put_row(&mut table, "pump", 1203, 0);
+    table.wants("Err(Full) ~~~~~~~~~~~~~~~~~~~~~~~~~~~~~~~~~~~~~~~~~~~~~~~~");
+    has_wanted_rows(&rt, &table);
+}

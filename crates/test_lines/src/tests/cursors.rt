@@ -1,0 +1,134 @@
+//! Tests of `Cursor`, of `write_to_buffer`, and of a formatter that continues after a failed entry.
+use super::asserts::{has_wanted_rows, same};
+use test_rows::rows::Table;
+use ufmt::{Cursor, Formatter, Full, laws, uWrite, write_debug};
+
+trait CursorRows {
+    // Adds a row of what a call on the cursor returned, and of what then remains and is written.
+    fn put_cursor(&mut self, outcome: Result<(), Full>, cursor: &Cursor<'_>);
+}
+
+impl CursorRows for Table {
+    fn put_cursor(&mut self, outcome: Result<(), Full>, cursor: &Cursor<'_>) {
+        let outcome = outcome.map(|()| cursor.remaining());
+        self.put_outcome(outcome, cursor.written());
+    }
+}
+
+#[test]
+fn a_cursor_takes_pieces_that_fit(rt: HostRuntime) {
+    let mut table = Table::new(rt.alloc());
+    let mut buffer = *b"......";
+    let mut cursor = Cursor::new(&mut buffer);
+    for (piece, wanted) in [
+        ("", "Ok(6) "),
+        ("ab", "Ok(4) ab"),
+        ("cdefg", "Err(Full) ab"),
+    ] {
+        let outcome = cursor.write_str(piece);
+        table.put_cursor(outcome, &cursor);
+        table.wants(wanted);
+    }
+    for (character, wanted) in [('é', "Ok(2) abé"), ('€', "Err(Full) abé")] {
+        let outcome = cursor.write_char(character);
+        table.put_cursor(outcome, &cursor);
+        table.wants(wanted);
+    }
+    let outcome = cursor.write_str("");
+    table.put_cursor(outcome, &cursor);
+    table.wants("Ok(2) abé");
+    same(&rt, cursor.remaining(), 2, "what remains");
+    same(
+        &rt,
+        buffer.as_slice(),
+        "abé..".as_bytes(),
+        "the whole buffer",
+    );
+    let mut cursor = Cursor::new(&mut []);
+    for (piece, wanted) in [("", "Ok(0) "), ("a", "Err(Full) ")] {
+        let outcome = cursor.write_str(piece);
+        table.put_cursor(outcome, &cursor);
+        table.wants(wanted);
+    }
+    same(&rt, cursor.remaining(), 0, "what remains");
+    has_wanted_rows(&rt, &table);
+}
+
+#[test]
+fn a_value_is_written_up_to_the_first_piece_that_does_not_fit(rt: HostRuntime) {
+    let mut table = Table::new(rt.alloc());
+    let in_each_room = [
+        "Err(Full) ",
+        "Err(Full) (",
+        "Err(Full) (",
+        "Err(Full) (12",
+        "Err(Full) (12",
+        "Err(Full) (12, ",
+        "Err(Full) (12, ",
+        "Err(Full) (12, ",
+        "Err(Full) (12, ",
+        "Err(Full) (12, -345",
+        "Ok(0) (12, -345)",
+        "Ok(1) (12, -345)",
+    ];
+    for (room, wanted) in in_each_room.iter().enumerate() {
+        let mut buffer = [0u8; 12];
+        let mut cursor = Cursor::new(&mut buffer[..room.min(12)]);
+        let outcome = write_debug(&mut cursor, &(12u8, -345i64));
+        table.put_cursor(outcome, &cursor);
+        table.wants(wanted);
+    }
+    has_wanted_rows(&rt, &table);
+}
+
+#[test]
+fn write_to_buffer_keeps_the_other_bytes(rt: HostRuntime) {
+    let mut buffer = *b"....";
+    let outcome = laws::write_to_buffer(&mut buffer, "abcde");
+    same(&rt, (outcome, &buffer), (Err(Full), b"...."), "too long");
+    let outcome = laws::write_to_buffer(&mut buffer, "ab");
+    same(&rt, (outcome, &buffer), (Ok(()), b"ab.."), "short");
+}
+
+// Begins a list whose first entry fails. Then writes `x` if the builder is closed and the depth is
+// as before.
+fn entry_then_text<W: uWrite<Error = Full>>(f: &mut Formatter<W>) -> Result<(), Full> {
+    let mut list = f.debug_list()?;
+    let outcome = list.entry(&1u64);
+    let is_closed = outcome == Err(Full) && !list.is_open();
+    let is_as_before = is_closed && f.depth() == 0;
+    f.write_str(if is_as_before { "x" } else { "" })
+}
+
+fn entry_then_text_to<W: uWrite<Error = Full>>(
+    is_pretty: bool,
+    writer: W,
+) -> (Result<(), Full>, (bool, u8), W) {
+    let mut f = Formatter::new(writer);
+    let outcome = if is_pretty {
+        f.pretty(|f| entry_then_text(f))
+    } else {
+        entry_then_text(&mut f)
+    };
+    (outcome, (f.is_pretty(), f.depth()), f.into_inner())
+}
+
+// A buffer of one byte takes only the bracket. One of three also takes the line feed. The four
+// spaces of the entry don't fit then, but the text does.
+#[test]
+fn a_formatter_continues_after_a_failed_entry(rt: HostRuntime) {
+    let mut table = Table::new(rt.alloc());
+    for ((size, is_pretty), wanted) in [
+        ((1, false), "Err(Full) ["),
+        ((1, true), "Err(Full) ["),
+        ((3, true), "Ok(0) [\nx"),
+    ] {
+        let mut buffer = [0; 3];
+        let writer = Cursor::new(&mut buffer[..size]);
+        let (outcome, left, cursor) = entry_then_text_to(is_pretty, writer);
+        same(&rt, left, (false, 0), "what is left");
+        table.put_cursor(outcome, &cursor);
+        table.wants(wanted);
+    }
+    has_wanted_rows(&rt, &table);
+}

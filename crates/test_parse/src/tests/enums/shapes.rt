@@ -1,0 +1,466 @@
+//! Tests of enums.
+ghost use Rattle.std.specs.Prelude.{[], ◌∷◌, IfSome, ⊤};
+ghost use Rattle.ufmt.specs.ValueDocuments.{named, named_struct, named_tuple, number, string};
+ghost use Rattle.test_parse.specs.declared.tests.enums.shapes.Signal.TheVariants.{A, AB, ABC};
+ghost use Rattle.ufmt_parse.specs.Values.{is_u8};
+ghost use Rattle.test_parse.specs.declared.tests.enums.shapes.Event.TheVariants.{Started, Said, Lost};
+ghost use Rattle.test_parse.specs.declared.tests.enums.shapes.Eight.TheVariants.{First, Second, Third, Fourth, Fifth, Sixth, Seventh, Eighth};
+
+use crate::tests::same;
+use std::alloc::Global;
+use ufmt::{Formatter, fields, plain_text, uDebug, uWrite};
+use ufmt_parse::ParseError::NotText;
+use ufmt_parse::{
+    Expected, Fault, ParseError, ParseMode, Parser, parse, parse_fields, parse_pretty,
+    parse_variants, uParse,
+};
+
+/// Variants of each shape.
+#[derive(Clone, Copy, PartialEq, Eq, Debug, Drop)]
+pub enum Event {
+    Started,
+    Said(bool, bool),
+    Lost { since: bool, peers: bool },
+}
+
+impl uDebug for Event {
+    ghost document = { elim [
+      | Started ↦ named "Started"
+      | Said node text ↦ named_tuple "Said" (⟦<bool as uDebug>⟧.document node ∷ ⟦<bool as uDebug>⟧.document text ∷ [])
+      | Lost since peers ↦ named_struct "Lost" (("since", ⟦<bool as uDebug>⟧.document since) ∷ ("peers", ⟦<bool as uDebug>⟧.document peers) ∷ [])
+    ] };
+
+    fn fmt<W: uWrite>(&self, f: &mut Formatter<W>) -> Result<(), W::Error> {
+        match self {
+            Event::Started => fields!(f, Started),
+            Event::Said(node, text) => fields!(f, Said(node, text)),
+            Event::Lost { since, peers } => fields!(f, Lost { since, peers }),
+        }
+    }
+}
+
+impl<A: Copy> uParse<A> for Event {
+    ghost is_value = { λ _. ⊤ };
+
+    fn prove_value(&self) {}
+
+    fn parse_from<M: ParseMode>(alloc: A, parser: &mut Parser<'_, M>) -> Result<Event, Fault> {
+        parse_variants!(alloc, parser, Event { Started, Said(node, text), Lost { since, peers } })
+    }
+}
+
+/// Each name begins the next.
+#[derive(PartialEq, Eq, Debug, Drop)]
+pub enum Signal {
+    A,
+    AB(u8, Option<bool>),
+    ABC { on: bool, level: u8, text: String },
+}
+
+impl uDebug for Signal {
+    ghost document = { elim [
+      | A ↦ named "A"
+      | AB level on ↦ named_tuple "AB" (number level ∷ ⟦<Option<bool> as uDebug>⟧.document on ∷ [])
+      | ABC on level text ↦ named_struct "ABC" (("on", ⟦<bool as uDebug>⟧.document on) ∷ ("level", number level) ∷ ("text", string text) ∷ [])
+    ] };
+
+    fn fmt<W: uWrite>(&self, f: &mut Formatter<W>) -> Result<(), W::Error> {
+        match self {
+            Signal::A => fields!(f, A),
+            Signal::AB(level, on) => fields!(f, AB(level, on)),
+            Signal::ABC { on, level, text } => fields!(f, ABC { on, level, text }),
+        }
+    }
+}
+
+impl uParse<Global> for Signal {
+    ghost is_value = { elim [
+      | A ↦ ⊤
+      | AB level on ↦ is_u8 level × IfSome on (λ _. ⊤)
+      | ABC on level text ↦ is_u8 level
+    ] };
+
+    fn prove_value(&self) {
+        match self {
+            Signal::A => {}
+            Signal::AB(level, on) => {
+                let _level = *level;
+                <Option<bool> as uParse<Global>>::prove_value(on);
+            }
+            Signal::ABC { level, .. } => {
+                let _level = *level;
+            }
+        }
+    }
+
+    fn parse_from<M: ParseMode>(
+        alloc: Global,
+        parser: &mut Parser<'_, M>,
+    ) -> Result<Signal, Fault> {
+        parse_variants!(alloc, parser, Signal { A, AB(level, on), ABC { on, level, text } })
+    }
+}
+
+/// As many variants as an enum of a program may have.
+#[derive(Clone, Copy, PartialEq, Eq, Debug, Drop)]
+pub enum Eight<T> {
+    First,
+    Second(u8),
+    Third(u8, bool),
+    Fourth(),
+    Fifth { channel: u8, level: bool },
+    Sixth(T),
+    Seventh { value: T },
+    Eighth {},
+}
+
+impl<T: uDebug> uDebug for Eight<T> {
+    ghost document = { elim [
+      | First ↦ named "First"
+      | Second a ↦ named_tuple "Second" (number a ∷ [])
+      | Third a b ↦ named_tuple "Third" (number a ∷ ⟦<bool as uDebug>⟧.document b ∷ [])
+      | Fourth ↦ named_tuple "Fourth" []
+      | Fifth a b ↦ named_struct "Fifth" (("channel", number a) ∷ ("level", ⟦<bool as uDebug>⟧.document b) ∷ [])
+      | Sixth a ↦ named_tuple "Sixth" (T.document a ∷ [])
+      | Seventh a ↦ named_struct "Seventh" (("value", T.document a) ∷ [])
+      | Eighth ↦ named_struct "Eighth" []
+    ] };
+
+    fn fmt<W: uWrite>(&self, f: &mut Formatter<W>) -> Result<(), W::Error> {
+        match self {
+            Eight::First => fields!(f, First),
+            Eight::Second(a) => fields!(f, Second(a)),
+            Eight::Third(a, b) => fields!(f, Third(a, b)),
+            Eight::Fourth() => fields!(f, Fourth()),
+            Eight::Fifth { channel, level } => fields!(f, Fifth { channel, level }),
+            Eight::Sixth(a) => fields!(f, Sixth(a)),
+            Eight::Seventh { value } => fields!(f, Seventh { value }),
+            Eight::Eighth {} => fields!(f, Eighth {}),
+        }
+    }
+}
+
+impl<A: Copy, T: uParse<A>> uParse<A> for Eight<T> {
+    ghost is_value = { elim [
+      | First ↦ ⊤
+      | Second a ↦ is_u8 a
+      | Third a b ↦ is_u8 a
+      | Fourth ↦ ⊤
+      | Fifth a b ↦ is_u8 a
+      | Sixth a ↦ T.is_value a
+      | Seventh a ↦ T.is_value a
+      | Eighth ↦ ⊤
+    ] };
+
+    fn prove_value(&self) {
+        match self {
+            Eight::First | Eight::Fourth() | Eight::Eighth {} => {}
+            Eight::Second(a) => {
+                let _a = *a;
+            }
+            Eight::Third(a, _) => {
+                let _a = *a;
+            }
+            Eight::Fifth { channel, .. } => {
+                let _channel = *channel;
+            }
+            Eight::Sixth(value) => <T as uParse<A>>::prove_value(value),
+            Eight::Seventh { value } => <T as uParse<A>>::prove_value(value),
+        }
+    }
+
+    fn parse_from<M: ParseMode>(alloc: A, parser: &mut Parser<'_, M>) -> Result<Eight<T>, Fault> {
+        parse_variants!(
+            alloc,
+            parser,
+            Eight { First, Second(a), Third(a, b), Fourth(), Fifth { channel, level }, Sixth(a), Seventh { value }, Eighth {} }
+        )
+    }
+}
+
+/// A struct of an enum.
+#[derive(Clone, Copy, PartialEq, Eq, Debug, Drop)]
+pub struct Report {
+    node: u8,
+    last: Event,
+}
+
+impl uDebug for Report {
+    ghost document = { λ r. named_struct "Report"
+        (("node", number r.node) ∷ ("last", ⟦<Event as uDebug>⟧.document r.last) ∷ []) };
+
+    fn fmt<W: uWrite>(&self, f: &mut Formatter<W>) -> Result<(), W::Error> {
+        fields!(f, self, Report { node, last })
+    }
+}
+
+impl<A: Copy> uParse<A> for Report {
+    ghost is_value = { λ r. is_u8 r.node };
+
+    fn prove_value(&self) {
+        let _node = self.node;
+    }
+
+    fn parse_from<M: ParseMode>(alloc: A, parser: &mut Parser<'_, M>) -> Result<Report, Fault> {
+        parse_fields!(alloc, parser, Report { node, last })
+    }
+}
+
+/// A struct without fields, which prints as its name.
+#[derive(Clone, Copy, PartialEq, Eq, Debug, Drop)]
+pub struct Marker {}
+
+impl uDebug for Marker {
+    ghost document = { λ _. named_struct "Marker" [] };
+
+    fn fmt<W: uWrite>(&self, f: &mut Formatter<W>) -> Result<(), W::Error> {
+        fields!(f, self, Marker {})
+    }
+}
+
+impl<A: Copy> uParse<A> for Marker {
+    ghost is_value = { λ _. ⊤ };
+
+    fn prove_value(&self) {}
+
+    fn parse_from<M: ParseMode>(alloc: A, parser: &mut Parser<'_, M>) -> Result<Marker, Fault> {
+        parse_fields!(alloc, parser, Marker {})
+    }
+}
+
+#[test]
+fn variants_of_each_shape_are_parsed(rt: HostRuntime) {
+    let rows: [(&str, Result<Eight<bool>, ParseError>); 16] = [
+        ("First", Ok(Eight::First)),
+        ("Second(7)", Ok(Eight::Second(7))),
+        ("Third(255, true)", Ok(Eight::Third(255, true))),
+        ("Fourth", Ok(Eight::Fourth())),
+        (
+            "Fifth { channel: 3, level: false }",
+            Ok(Eight::Fifth {
+                channel: 3,
+                level: false,
+            }),
+        ),
+        ("Sixth(true)", Ok(Eight::Sixth(true))),
+        (
+            "Seventh { value: true }",
+            Ok(Eight::Seventh { value: true }),
+        ),
+        ("Eighth", Ok(Eight::Eighth {})),
+        (
+            "Ninth",
+            Err(NotText {
+                at: 0,
+                expected: Expected::Name,
+            }),
+        ),
+        (
+            "first",
+            Err(NotText {
+                at: 0,
+                expected: Expected::Name,
+            }),
+        ),
+        (
+            "First()",
+            Err(NotText {
+                at: 0,
+                expected: Expected::Name,
+            }),
+        ),
+        (
+            "Fourth()",
+            Err(NotText {
+                at: 0,
+                expected: Expected::Name,
+            }),
+        ),
+        (
+            "Second",
+            Err(NotText {
+                at: 6,
+                expected: Expected::Punctuation,
+            }),
+        ),
+        (
+            "Second(256)",
+            Err(NotText {
+                at: 7,
+                expected: Expected::Number,
+            }),
+        ),
+        (
+            "Third(1, 1)",
+            Err(NotText {
+                at: 9,
+                expected: Expected::Name,
+            }),
+        ),
+        (
+            "Fifth { level: false, channel: 3 }",
+            Err(NotText {
+                at: 8,
+                expected: Expected::Name,
+            }),
+        ),
+    ];
+    for (text, wanted) in rows {
+        same(&rt, parse((), text.as_bytes()), wanted, text);
+    }
+}
+
+#[test]
+fn names_are_compared_whole(rt: HostRuntime) {
+    let alloc = rt.alloc();
+    // Each text is parsed and printed again, or isn't parsed past so many bytes.
+    let rows = [
+        ("A", Ok(())),
+        ("AB(7, None)", Ok(())),
+        ("AB(255, Some(true))", Ok(())),
+        ("ABC { on: true, level: 0, text: \"AB\" }", Ok(())),
+        (
+            "ABCD",
+            Err(NotText {
+                at: 0,
+                expected: Expected::Name,
+            }),
+        ),
+        (
+            "A-B",
+            Err(NotText {
+                at: 0,
+                expected: Expected::Name,
+            }),
+        ),
+        (
+            "A:B",
+            Err(NotText {
+                at: 0,
+                expected: Expected::Name,
+            }),
+        ),
+        (
+            "AB",
+            Err(NotText {
+                at: 2,
+                expected: Expected::Punctuation,
+            }),
+        ),
+        (
+            "AB { on: true }",
+            Err(NotText {
+                at: 2,
+                expected: Expected::Punctuation,
+            }),
+        ),
+        (
+            "ABC(7, None)",
+            Err(NotText {
+                at: 3,
+                expected: Expected::Punctuation,
+            }),
+        ),
+        (
+            "A(7)",
+            Err(NotText {
+                at: 1,
+                expected: Expected::End,
+            }),
+        ),
+        (
+            "A ",
+            Err(NotText {
+                at: 1,
+                expected: Expected::End,
+            }),
+        ),
+        (
+            "A: ",
+            Err(NotText {
+                at: 1,
+                expected: Expected::End,
+            }),
+        ),
+        (
+            "",
+            Err(NotText {
+                at: 0,
+                expected: Expected::Name,
+            }),
+        ),
+    ];
+    for (text, wanted) in rows {
+        let parsed: Result<Signal, ParseError> = parse(alloc, text.as_bytes());
+        let given = match parsed {
+            Err(error) => Err(error),
+            Ok(signal) => {
+                let printed = plain_text(alloc, &signal).expect(&rt, "memory");
+                same(&rt, printed.as_str(), text, text);
+                Ok(())
+            }
+        };
+        same(&rt, given, wanted, text);
+    }
+}
+
+#[test]
+fn enums_are_parsed_in_other_values(rt: HostRuntime) {
+    let alloc = rt.alloc();
+    let lost = Event::Lost {
+        since: true,
+        peers: false,
+    };
+    let report = Report {
+        node: 9,
+        last: lost,
+    };
+    let rows = [
+        (
+            "Report { node: 9, last: Lost { since: true, peers: false } }",
+            Ok(report),
+        ),
+        (
+            "Report { node: 9, last: Los }",
+            Err(NotText {
+                at: 24,
+                expected: Expected::Name,
+            }),
+        ),
+    ];
+    for (text, wanted) in rows {
+        same(&rt, parse((), text.as_bytes()), wanted, text);
+    }
+    let pretty =
+        "Report {\n    node: 9,\n    last: Lost {\n        since: true,\n        peers: false,\n    },\n}";
+    same(&rt, parse_pretty((), pretty.as_bytes()), Ok(report), pretty);
+    let list: Result<Vec<Event>, ParseError> = parse_pretty(
+        alloc,
+        b"[\n    Started,\n    Said(\n        true,\n        false,\n    ),\n]",
+    );
+    same(
+        &rt,
+        list.ok().as_ref().map(Vec::as_slice),
+        Some(&[Event::Started, Event::Said(true, false)][..]),
+        "a list of variants",
+    );
+    same(
+        &rt,
+        parse((), b"Some(Started)"),
+        Ok(Some(Event::Started)),
+        "a variant in an option",
+    );
+    same(&rt, parse((), b"Marker"), Ok(Marker {}), "no fields");
+    let error: Result<Result<u8, Event>, ParseError> = parse((), b"Err(Started)");
+    same(&rt, error, Ok(Err(Event::Started)), "an error in a result");
+    let neither: Result<Result<u8, Event>, ParseError> = parse((), b"Okay(1)");
+    same(
+        &rt,
+        neither,
+        Err(NotText {
+            at: 0,
+            expected: Expected::Name,
+        }),
+        "no result",
+    );
+}

@@ -1,0 +1,201 @@
+//! Tests of an enum with structs in its variants, beside other values, for which no proof is written.
+ghost use Rattle.std.specs.Prelude.{[], ◌∷◌, ⊤, IfSome};
+ghost use Rattle.ufmt.specs.ValueDocuments.{integer, named, named_struct, named_tuple, number};
+ghost use Rattle.test_parse.specs.declared.tests.enums.structs.Order.TheVariants.{Halt, Apply, Hold, CrossFadeBetween, Pulse};
+ghost use Rattle.ufmt_parse.specs.Values.{is_i16, is_u8};
+
+use crate::tests::same;
+use example_parse::Set;
+use ufmt::{Formatter, fields, uDebug, uWrite};
+use ufmt_parse::ParseError::NotText;
+use ufmt_parse::{Expected, Fault, ParseMode, Parser, parse, parse_pretty, parse_variants, uParse};
+
+/// An order to a device.
+#[derive(Clone, Copy, PartialEq, Eq, Debug, Drop)]
+pub enum Order {
+    Halt,
+    Apply {
+        set: Set,
+    },
+    Hold(Set, bool),
+    CrossFadeBetween {
+        starting_point: Set,
+        end_point: Set,
+        repeated: bool,
+    },
+    Pulse(u8, Option<u8>, i16),
+}
+
+impl uDebug for Order {
+    ghost document = { elim [
+      | Halt ↦ named "Halt"
+      | Apply set ↦ named_struct "Apply" (("set", ⟦<Set as uDebug>⟧.document set) ∷ [])
+      | Hold set locked ↦ named_tuple "Hold" (⟦<Set as uDebug>⟧.document set ∷ ⟦<bool as uDebug>⟧.document locked ∷ [])
+      | CrossFadeBetween start end repeated ↦ named_struct "CrossFadeBetween" (("starting_point", ⟦<Set as uDebug>⟧.document start) ∷ ("end_point", ⟦<Set as uDebug>⟧.document end) ∷ ("repeated", ⟦<bool as uDebug>⟧.document repeated) ∷ [])
+      | Pulse count pause level ↦ named_tuple "Pulse" (number count ∷ ⟦<Option<u8> as uDebug>⟧.document pause ∷ integer level ∷ [])
+    ] };
+
+    fn fmt<W: uWrite>(&self, f: &mut Formatter<W>) -> Result<(), W::Error> {
+        match self {
+            Order::Halt => fields!(f, Halt),
+            Order::Apply { set } => fields!(f, Apply { set }),
+            Order::Hold(set, locked) => fields!(f, Hold(set, locked)),
+            Order::CrossFadeBetween {
+                starting_point,
+                end_point,
+                repeated,
+            } => {
+                fields!(
+                    f,
+                    CrossFadeBetween {
+                        starting_point,
+                        end_point,
+                        repeated
+                    }
+                )
+            }
+            Order::Pulse(count, pause, level) => fields!(f, Pulse(count, pause, level)),
+        }
+    }
+}
+
+impl<A: Copy> uParse<A> for Order {
+    ghost is_value = { elim [
+      | Halt ↦ ⊤
+      | Apply set ↦ is_u8 set.channel × is_i16 set.level
+      | Hold set locked ↦ is_u8 set.channel × is_i16 set.level
+      | CrossFadeBetween start end repeated ↦ (is_u8 start.channel × is_i16 start.level) × (is_u8 end.channel × is_i16 end.level)
+      | Pulse count pause level ↦ is_u8 count × (IfSome pause is_u8 × is_i16 level)
+    ] };
+
+    fn prove_value(&self) {
+        match self {
+            Order::Halt => {}
+            Order::Apply { set } => <Set as uParse<A>>::prove_value(set),
+            Order::Hold(set, _) => <Set as uParse<A>>::prove_value(set),
+            Order::CrossFadeBetween {
+                starting_point,
+                end_point,
+                ..
+            } => {
+                <Set as uParse<A>>::prove_value(starting_point);
+                <Set as uParse<A>>::prove_value(end_point);
+            }
+            Order::Pulse(count, pause, level) => {
+                let _count = *count;
+                <Option<u8> as uParse<A>>::prove_value(pause);
+                let _level = *level;
+            }
+        }
+    }
+
+    fn parse_from<M: ParseMode>(alloc: A, parser: &mut Parser<'_, M>) -> Result<Order, Fault> {
+        parse_variants!(
+            alloc,
+            parser,
+            Order { Halt, Apply { set }, Hold(set, locked), CrossFadeBetween { starting_point, end_point, repeated }, Pulse(count, pause, level) }
+        )
+    }
+}
+
+#[test]
+fn structs_in_variants_are_parsed(rt: HostRuntime) {
+    let low = Set {
+        channel: 0,
+        level: -32768,
+    };
+    let high = Set {
+        channel: 255,
+        level: 32767,
+    };
+    let fade = Order::CrossFadeBetween {
+        starting_point: low,
+        end_point: high,
+        repeated: true,
+    };
+    let fading =
+        "CrossFadeBetween { starting_point: Set { channel: 0, level: -32768 }, end_point: Set { channel: 255, level: 32767 }, repeated: true }";
+    let rows = [
+        ("Halt", Ok(Order::Halt)),
+        (
+            "Apply { set: Set { channel: 0, level: -32768 } }",
+            Ok(Order::Apply { set: low }),
+        ),
+        (
+            "Hold(Set { channel: 255, level: 32767 }, false)",
+            Ok(Order::Hold(high, false)),
+        ),
+        (fading, Ok(fade)),
+        ("Pulse(3, None, -1)", Ok(Order::Pulse(3, None, -1))),
+        ("Pulse(0, Some(255), 0)", Ok(Order::Pulse(0, Some(255), 0))),
+        (
+            "Apply { set: Set { channel: 256, level: 0 } }",
+            Err(NotText {
+                at: 28,
+                expected: Expected::Number,
+            }),
+        ),
+        (
+            "Apply(Set { channel: 1, level: 2 })",
+            Err(NotText {
+                at: 5,
+                expected: Expected::Punctuation,
+            }),
+        ),
+        (
+            "Apply { set: Halt }",
+            Err(NotText {
+                at: 13,
+                expected: Expected::Name,
+            }),
+        ),
+        (
+            "Hold(Set { channel: 1, level: 2 }, maybe)",
+            Err(NotText {
+                at: 35,
+                expected: Expected::Name,
+            }),
+        ),
+        (
+            "Hold(Set { channel: 1, level: 2 })",
+            Err(NotText {
+                at: 33,
+                expected: Expected::Punctuation,
+            }),
+        ),
+        (
+            "Pulse(3, Some(256), -1)",
+            Err(NotText {
+                at: 14,
+                expected: Expected::Number,
+            }),
+        ),
+        (
+            "Pulsed(3, None, -1)",
+            Err(NotText {
+                at: 0,
+                expected: Expected::Name,
+            }),
+        ),
+    ];
+    for (text, wanted) in rows {
+        same(&rt, parse((), text.as_bytes()), wanted, text);
+    }
+    let pretty =
+        "Hold(\n    Set {\n        channel: 255,\n        level: 32767,\n    },\n    true,\n)";
+    same(
+        &rt,
+        parse_pretty((), pretty.as_bytes()),
+        Ok(Order::Hold(high, true)),
+        pretty,
+    );
+    same(
+        &rt,
+        parse_pretty::<Order, ()>((), fading.as_bytes()),
+        Err(NotText {
+            at: 16,
+            expected: Expected::Punctuation,
+        }),
+        fading,
+    );
+}

@@ -1,0 +1,442 @@
+//! Tests of structs by `parse_fields!`, and of options, with and without an allocator, and of where a text that isn't parsed
+//! stops fitting.
+ghost use Rattle.std.specs.Prelude.{[], ◌∷◌, IfSome, ⊤};
+ghost use Rattle.ufmt.specs.ValueDocuments.{named_struct, named_tuple, number, string};
+ghost use Rattle.ufmt_parse.specs.Values.{is_u8, is_u64};
+
+use super::{first_wrong, same};
+use example_parse::{Measurement, Set, Switch, parse_command, parse_measurement};
+use std::alloc::Global;
+use ufmt::{Formatter, fields, uDebug, uWrite};
+use ufmt_parse::ParseError::NotText;
+use ufmt_parse::{
+    Expected, Fault, ParseError, ParseMode, Parser, parse, parse_fields, parse_pretty, uParse,
+};
+
+/// Two truth values, each of which is one document or another.
+#[derive(Clone, Copy, PartialEq, Eq, Debug, Drop)]
+pub struct Flags {
+    on: bool,
+    off: bool,
+}
+
+impl uDebug for Flags {
+    ghost document = { λ f. named_struct "Flags" (("on", ⟦<bool as uDebug>⟧.document f.on)
+        ∷ ("off", ⟦<bool as uDebug>⟧.document f.off) ∷ []) };
+
+    fn fmt<W: uWrite>(&self, f: &mut Formatter<W>) -> Result<(), W::Error> {
+        fields!(f, self, Flags { on, off })
+    }
+}
+
+impl<A: Copy> uParse<A> for Flags {
+    ghost is_value = { λ _. ⊤ };
+
+    ghost holds_no_memory = { ⊤ };
+
+    fn prove_value(&self) {}
+
+    fn parse_from<M: ParseMode>(alloc: A, parser: &mut Parser<'_, M>) -> Result<Flags, Fault> {
+        parse_fields!(alloc, parser, Flags { on, off })
+    }
+}
+
+/// A tuple of a struct and an option.
+#[derive(Clone, Copy, PartialEq, Eq, Debug, Drop)]
+pub struct Both(Flags, Option<bool>);
+
+impl uDebug for Both {
+    ghost document = { λ b. named_tuple "Both" (⟦<Flags as uDebug>⟧.document b.0
+        ∷ ⟦<Option<bool> as uDebug>⟧.document b.1 ∷ []) };
+
+    fn fmt<W: uWrite>(&self, f: &mut Formatter<W>) -> Result<(), W::Error> {
+        fields!(f, self, Both(flags, option))
+    }
+}
+
+impl<A: Copy> uParse<A> for Both {
+    ghost is_value = { λ _. ⊤ };
+
+    ghost holds_no_memory = { ⊤ };
+
+    fn prove_value(&self) {}
+
+    fn parse_from<M: ParseMode>(alloc: A, parser: &mut Parser<'_, M>) -> Result<Both, Fault> {
+        parse_fields!(alloc, parser, Both(flags, option))
+    }
+}
+
+/// A struct of four fields.
+#[derive(Drop)]
+struct Entry<T> {
+    id: u8,
+    time: u64,
+    value: T,
+    text: String,
+}
+
+impl<T: uDebug> uDebug for Entry<T> {
+    ghost document = { λ e. named_struct "Entry"
+        (("id", number e.id) ∷ ("time", number e.time) ∷ ("value", T.document e.value) ∷ ("text", string e.text) ∷ []) };
+
+    fn fmt<W: uWrite>(&self, f: &mut Formatter<W>) -> Result<(), W::Error> {
+        fields!(
+            f,
+            self,
+            Entry {
+                id,
+                time,
+                value,
+                text
+            }
+        )
+    }
+}
+
+impl<T: uParse<Global>> uParse<Global> for Entry<T> {
+    ghost is_value = { λ e. is_u8 e.id × is_u64 e.time × T.is_value e.value };
+
+    fn prove_value(&self) {
+        let _id = self.id;
+        let _time = self.time;
+        self.value.prove_value();
+    }
+
+    fn parse_from<M: ParseMode>(
+        alloc: Global,
+        parser: &mut Parser<'_, M>,
+    ) -> Result<Entry<T>, Fault> {
+        parse_fields!(
+            alloc,
+            parser,
+            Entry {
+                id,
+                time,
+                value,
+                text
+            }
+        )
+    }
+}
+
+/// A tuple struct.
+#[derive(Drop)]
+struct Pair(u8, u64);
+
+impl uDebug for Pair {
+    ghost document = { λ b. named_tuple "Pair" (number b.0 ∷ number b.1 ∷ []) };
+
+    fn fmt<W: uWrite>(&self, f: &mut Formatter<W>) -> Result<(), W::Error> {
+        fields!(f, self, Pair(first, second))
+    }
+}
+
+impl<A: Copy> uParse<A> for Pair {
+    ghost is_value = { λ b. is_u8 b.0 × is_u64 b.1 };
+
+    fn prove_value(&self) {
+        let _first = self.0;
+        let _second = self.1;
+    }
+
+    fn parse_from<M: ParseMode>(alloc: A, parser: &mut Parser<'_, M>) -> Result<Pair, Fault> {
+        parse_fields!(alloc, parser, Pair(first, second))
+    }
+}
+
+#[test]
+fn structs_are_parsed(rt: HostRuntime) {
+    let alloc = rt.alloc();
+    let given = [
+        first_wrong::<Entry<bool>>(
+            alloc,
+            &["Entry { id: 3, time: 0, value: true, text: \"a\" }"],
+            &[
+                "Entry",
+                "Entry {}",
+                "Entry { id: 3, time: 0, value: true }",
+                "Entry { id: 3, time: 0, text: \"a\", value: true }",
+                "Entry { id: 3, time: 0, value: true, texts: \"a\" }",
+                "Entry { id: 3, time: 0, value: true, text: \"a\", id: 3 }",
+                "Entry { id: 256, time: 0, value: true, text: \"a\" }",
+                "Entry { id: 3, time: 0, value: 1, text: \"a\" }",
+                "Other { id: 3, time: 0, value: true, text: \"a\" }",
+                "Entry(3, 0, true, \"a\")",
+                "entry",
+            ],
+        ),
+        first_wrong::<Pair>(
+            alloc,
+            &["Pair(1, 2)"],
+            &[
+                "Pair",
+                "Pair(1)",
+                "Pair(1, 2, 3)",
+                "Pair(256, 2)",
+                "(1, 2)",
+                "Pair { x: 1, y: 2 }",
+            ],
+        ),
+        first_wrong::<Switch>(
+            alloc,
+            &[
+                "Switch { is_on: true, next: None, is_lit: false }",
+                "Switch { is_on: false, next: Some(2), is_lit: true }",
+            ],
+            &[
+                "Switch { is_on: true, next: none, is_lit: false }",
+                "Switch { is_on: 1, next: None, is_lit: false }",
+            ],
+        ),
+    ];
+    same(&rt, given, [None; 3], "by type");
+}
+
+#[test]
+fn options_are_parsed_without_an_allocator(rt: HostRuntime) {
+    let rows: [(&str, Result<Option<bool>, ParseError>); 11] = [
+        ("None", Ok(None)),
+        ("Some(true)", Ok(Some(true))),
+        ("Some(false)", Ok(Some(false))),
+        (
+            "true",
+            Err(NotText {
+                at: 0,
+                expected: Expected::Name,
+            }),
+        ),
+        (
+            "",
+            Err(NotText {
+                at: 0,
+                expected: Expected::Name,
+            }),
+        ),
+        (
+            "None ",
+            Err(NotText {
+                at: 4,
+                expected: Expected::End,
+            }),
+        ),
+        (
+            "Some(truth)",
+            Err(NotText {
+                at: 5,
+                expected: Expected::Name,
+            }),
+        ),
+        (
+            "Some(true",
+            Err(NotText {
+                at: 9,
+                expected: Expected::Punctuation,
+            }),
+        ),
+        (
+            "Some(true,)",
+            Err(NotText {
+                at: 9,
+                expected: Expected::Punctuation,
+            }),
+        ),
+        (
+            "Some(true))",
+            Err(NotText {
+                at: 10,
+                expected: Expected::End,
+            }),
+        ),
+        (
+            "Some(\n    true,\n)",
+            Err(NotText {
+                at: 5,
+                expected: Expected::Name,
+            }),
+        ),
+    ];
+    for (text, wanted) in rows {
+        same(&rt, parse((), text.as_bytes()), wanted, text);
+    }
+}
+
+#[test]
+fn structs_are_parsed_up_to_what_does_not_fit(rt: HostRuntime) {
+    let flags = Flags {
+        on: true,
+        off: false,
+    };
+    let rows = [
+        ("Flags { on: true, off: false }", Ok(flags)),
+        (
+            "Flag { on: true, off: false }",
+            Err(NotText {
+                at: 0,
+                expected: Expected::Name,
+            }),
+        ),
+        (
+            "Flags{ on: true, off: false }",
+            Err(NotText {
+                at: 5,
+                expected: Expected::Punctuation,
+            }),
+        ),
+        (
+            "Flags { off: true, on: false }",
+            Err(NotText {
+                at: 8,
+                expected: Expected::Name,
+            }),
+        ),
+        (
+            "Flags { on: true }",
+            Err(NotText {
+                at: 16,
+                expected: Expected::Punctuation,
+            }),
+        ),
+        (
+            "Flags { on: true,off: false }",
+            Err(NotText {
+                at: 16,
+                expected: Expected::Punctuation,
+            }),
+        ),
+        (
+            "Flags { on: true, off: 0 }",
+            Err(NotText {
+                at: 23,
+                expected: Expected::Name,
+            }),
+        ),
+        (
+            "Flags { on: true, off: false",
+            Err(NotText {
+                at: 28,
+                expected: Expected::Punctuation,
+            }),
+        ),
+        (
+            "Flags { on: true, off: false, }",
+            Err(NotText {
+                at: 28,
+                expected: Expected::Punctuation,
+            }),
+        ),
+        (
+            "Flags { on: true, off: false }x",
+            Err(NotText {
+                at: 30,
+                expected: Expected::End,
+            }),
+        ),
+    ];
+    for (text, wanted) in rows {
+        same(&rt, parse((), text.as_bytes()), wanted, text);
+    }
+}
+
+#[test]
+fn pretty_texts_are_parsed_with_their_indentation(rt: HostRuntime) {
+    let flags = Flags {
+        on: false,
+        off: true,
+    };
+    let text =
+        "Both(\n    Flags {\n        on: false,\n        off: true,\n    },\n    Some(\n        true,\n    ),\n)";
+    let less = "Both(\n    Flags {\n        on: false,\n       off: true,\n    },\n    None,\n)";
+    let rows = [
+        (text, Ok(Both(flags, Some(true)))),
+        (
+            less,
+            Err(NotText {
+                at: 37,
+                expected: Expected::Punctuation,
+            }),
+        ),
+        (
+            "Both(Flags { on: false, off: true }, None)",
+            Err(NotText {
+                at: 4,
+                expected: Expected::Punctuation,
+            }),
+        ),
+    ];
+    for (text, wanted) in rows {
+        same(&rt, parse_pretty((), text.as_bytes()), wanted, text);
+    }
+}
+
+#[test]
+fn a_command_line_is_parsed_from_a_fixed_buffer(rt: HostRuntime) {
+    let set = Set {
+        channel: 3,
+        level: -4,
+    };
+    let rows = [
+        ("Set { channel: 3, level: -4 }", Ok(set)),
+        (
+            "Set { channel: 300, level: -4 }",
+            Err(NotText {
+                at: 15,
+                expected: Expected::Number,
+            }),
+        ),
+        (
+            "Set { level: -4, channel: 3 }",
+            Err(NotText {
+                at: 6,
+                expected: Expected::Name,
+            }),
+        ),
+        (
+            "Set { channel: 3 }",
+            Err(NotText {
+                at: 16,
+                expected: Expected::Punctuation,
+            }),
+        ),
+    ];
+    for (text, wanted) in rows {
+        same(&rt, parse_command(text.as_bytes()), wanted, text);
+    }
+}
+
+#[test]
+fn a_measurement_with_long_names_is_parsed(rt: HostRuntime) {
+    let measurement = Measurement {
+        channel: 255,
+        celsius: -2147483648,
+    };
+    let rows = [
+        (
+            "Measurement { channel: 255, celsius: -2147483648 }",
+            Ok(measurement),
+        ),
+        (
+            "Measuremant { channel: 255, celsius: -2147483648 }",
+            Err(NotText {
+                at: 0,
+                expected: Expected::Name,
+            }),
+        ),
+        (
+            "Measurement { channel: 255, celsium: -2147483648 }",
+            Err(NotText {
+                at: 28,
+                expected: Expected::Name,
+            }),
+        ),
+        (
+            "Measurement { channel: 255, celsius: -2147483649 }",
+            Err(NotText {
+                at: 37,
+                expected: Expected::Number,
+            }),
+        ),
+    ];
+    for (text, wanted) in rows {
+        same(&rt, parse_measurement(text.as_bytes()), wanted, text);
+    }
+}

@@ -1,0 +1,101 @@
+//! Tests of values that are one piece in both modes, and of quoted texts, whose escapes are pieces.
+use super::asserts::{has_wanted_rows, same};
+use std::alloc::{AllocError, Global};
+use test_rows::printed::Displayed;
+use test_rows::rows::{Table, repeated};
+
+// Each escape is a piece, and so is each stretch between escapes.
+#[test]
+fn each_escape_of_a_quoted_leaf_is_a_piece(rt: HostRuntime) {
+    let mut table = Table::new(rt.alloc());
+    table.pieces(&"");
+    table.wants(r#""|"|"#);
+    table.pieces(&"a\"é b\n");
+    table.wants(r#""|a|\"|é b|\n|"|"#);
+    table.pieces(&"\n\n");
+    table.wants(r#""|\n|\n|"|"#);
+    table.pieces(&"\u{1b}");
+    table.wants(r#""|\u{1b}|"|"#);
+    table.pieces(&"a\u{1b}\u{7f}é\u{1}");
+    table.wants(r#""|a|\u{1b}|\u{7f}|é|\u{1}|"|"#);
+    table.pieces_of_made(String::from_str(rt.alloc(), "\0\t\n\r\\'"));
+    table.wants(r#""|\0|\t|\n|\r|\\|'|"|"#);
+    for (character, wanted) in [
+        ('é', "'|é|'|"),
+        ('🦀', "'|🦀|'|"),
+        ('\'', r#"'|\'|'|"#),
+        ('"', r#"'|"|'|"#),
+        ('\0', r#"'|\0|'|"#),
+        ('\t', r#"'|\t|'|"#),
+        ('\n', r#"'|\n|'|"#),
+        ('\r', r#"'|\r|'|"#),
+        ('\\', r#"'|\\|'|"#),
+        ('\u{1b}', r#"'|\u{1b}|'|"#),
+        ('\u{7f}', r#"'|\u{7f}|'|"#),
+    ] {
+        table.pieces(&character);
+        table.wants(wanted);
+    }
+    has_wanted_rows(&rt, &table);
+}
+
+// Whether a text of this length is one piece by both traits.
+fn is_one_piece(alloc: Global, length: usize) -> Result<bool, AllocError> {
+    let text = repeated(alloc, "", "x", length, "")?;
+    let mut table = Table::new(alloc);
+    table.pieces(&text.as_str());
+    table.pieces(&Displayed(text.as_str()));
+    let wanted = format!(in alloc; "\"|{text}|\"|;\n{text}|;\n")?;
+    Ok(table.text() == Some(wanted.as_str()))
+}
+
+#[test]
+fn a_long_text_is_one_piece(rt: HostRuntime) {
+    for length in [64, 65, 255, 256, 300] {
+        let given = is_one_piece(rt.alloc(), length);
+        same(&rt, (length, given), (length, Ok(true)), "a long text");
+    }
+}
+
+#[test]
+fn leaves_and_references_to_them_print_as_one_piece(rt: HostRuntime) {
+    let mut table = Table::new(rt.alloc());
+    table.pieces(&true);
+    table.wants("true|");
+    table.pieces(&false);
+    table.wants("false|");
+    table.pieces(&());
+    table.wants("()|");
+    table.pieces(&None::<i32>);
+    table.wants("None|");
+    let mut number = 2u8;
+    table.pieces(&&1i32);
+    table.wants("1|");
+    table.pieces(&&mut number);
+    table.wants("2|");
+    table.pieces(&Displayed(&1i32));
+    table.wants("1|");
+    table.pieces(&Displayed(&mut number));
+    table.wants("2|");
+    table.pieces_of_made(Box::new(rt.alloc(), 3u64));
+    table.wants("3|");
+    table.pieces_of_made(Box::new(rt.alloc(), 4u64).map(Displayed));
+    table.wants("4|");
+    table.pieces(&Displayed(true));
+    table.wants("true|");
+    table.pieces(&Displayed(false));
+    table.wants("false|");
+    table.pieces(&Displayed("a text"));
+    table.wants("a text|");
+    table.pieces(&Displayed(""));
+    table.wants("|");
+    table.pieces(&Displayed(String::new(rt.alloc())));
+    table.wants("|");
+    table.pieces_of_made(String::from_str(rt.alloc(), "a text").map(Displayed));
+    table.wants("a text|");
+    for (character, wanted) in [('a', "a|"), ('é', "é|"), ('€', "€|"), ('🦀', "🦀|")] {
+        table.pieces(&Displayed(character));
+        table.wants(wanted);
+    }
+    has_wanted_rows(&rt, &table);
+}

@@ -1,0 +1,556 @@
+//! Tests of the texts of std's shared values, queues, hashed collections, ranges and small types. They are those of
+//! core::fmt, but for the order of a hashed collection of several items. `tools/expected/show VALUE` prints them again.
+use super::asserts::{has_wanted_rows, same};
+use std::alloc::{AllocError, Global};
+use std::borrow::{Cow, CowSlice, CowStr};
+use std::boxed::{BoxedSlice, BoxedStr};
+use std::cell::{Cell, RefCell};
+use std::cmp::{Ordering, Reverse};
+use std::collections::{BinaryHeap, HashMap, HashSet, LinkedList, VecDeque};
+use std::num::{Saturating, Wrapping};
+use std::ops::{Bound, ControlFlow};
+use std::rc::{Rc, RcSlice, RcStr, Weak};
+use std::sync::{Arc, ArcSlice, ArcStr};
+use test_rows::rows::{Table, list};
+use ufmt::cells::{CellValue, RefCellValue};
+use ufmt::plain_text;
+
+fn shared_list(alloc: Global) -> Result<Vec<Rc<u8>>, AllocError> {
+    let mut list = Vec::new(alloc);
+    list.push(Rc::new(alloc, 1u8)?)?;
+    list.push(Rc::new(alloc, 2)?)?;
+    Ok(list)
+}
+
+#[test]
+fn what_is_shared_lent_or_borrowed_prints_as_by_core_fmt(rt: HostRuntime) {
+    let mut table = Table::new(rt.alloc());
+    table.texts_of_made(Rc::new(rt.alloc(), 1u8));
+    table.wants("1");
+    table.texts_of_made(shared_list(rt.alloc()));
+    table.wants(
+        "\
+[1, 2]~
+[
+    1,
+    2,
+]",
+    );
+    table.texts_of_made(Arc::new(rt.alloc(), Some(3u8)));
+    table.wants(
+        "\
+Some(3)~
+Some(
+    3,
+)",
+    );
+    table.texts(&Cow::Borrowed(&4u8));
+    table.wants("4");
+    table.texts(&Cow::Owned(5u8));
+    table.wants("5");
+    table.texts(&Some(Cow::Borrowed(&[6u8])));
+    table.wants(
+        "\
+Some([6])~
+Some(
+    [
+        6,
+    ],
+)",
+    );
+    table.texts(&Weak::<u8>::new());
+    table.wants("(Weak)");
+    table.texts(&CowStr::<Global>::Borrowed("a\"b\n"));
+    table.wants("\"a\\\"b\\n\"");
+    table.texts_of_made(String::from_str(rt.alloc(), "c'").map(|text| CowStr::Owned(text)));
+    table.wants("\"c'\"");
+    table.texts_of_made(RcStr::from_str(rt.alloc(), "é"));
+    table.wants("\"é\"");
+    table.texts_of_made(ArcStr::from_str(rt.alloc(), "\\"));
+    table.wants("\"\\\\\"");
+    table.texts_of_made(BoxedStr::from_str(rt.alloc(), "\0"));
+    table.wants("\"\\0\"");
+    table.texts(&CowSlice::<u8, Global>::Borrowed(&[1, 2]));
+    table.wants(
+        "\
+[1, 2]~
+[
+    1,
+    2,
+]",
+    );
+    table.texts_of_made(list(rt.alloc(), &[3u8]).map(|items| CowSlice::Owned(items)));
+    table.wants(
+        "\
+[3]~
+[
+    3,
+]",
+    );
+    table.texts_of_made(RcSlice::from_slice(rt.alloc(), &[4u8]));
+    table.wants(
+        "\
+[4]~
+[
+    4,
+]",
+    );
+    table.texts_of_made(ArcSlice::from_slice(rt.alloc(), &[5u8, 6]));
+    table.wants(
+        "\
+[5, 6]~
+[
+    5,
+    6,
+]",
+    );
+    table.texts_of_made(BoxedSlice::from_slice(rt.alloc(), &[7u8]));
+    table.wants(
+        "\
+[7]~
+[
+    7,
+]",
+    );
+    let mut items = [1u8, 2];
+    table.texts(&items.as_mut_slice());
+    table.wants(
+        "\
+[1, 2]~
+[
+    1,
+    2,
+]",
+    );
+    let cell = RefCell::new(Some(1u8));
+    table.texts_of_made(cell.try_borrow());
+    table.wants(
+        "\
+Some(1)~
+Some(
+    1,
+)",
+    );
+    table.texts_of_made(cell.try_borrow_mut());
+    table.wants(
+        "\
+Some(1)~
+Some(
+    1,
+)",
+    );
+    has_wanted_rows(&rt, &table);
+}
+
+// Adds a row while the value is borrowed to be read, and one while it is borrowed to be written.
+fn put_borrowed(table: &mut Table, cell: &RefCell<u8>) {
+    let Ok(reader) = cell.try_borrow() else {
+        return table.put_nothing();
+    };
+    table.texts(&RefCellValue::of(cell));
+    table.wants(
+        "\
+RefCell { value: 5 }~
+RefCell {
+    value: 5,
+}",
+    );
+    drop(reader);
+    let Ok(writer) = cell.try_borrow_mut() else {
+        return table.put_nothing();
+    };
+    table.texts(&RefCellValue::of(cell));
+    table.wants(
+        "\
+RefCell { value: <borrowed> }~
+RefCell {
+    value: <borrowed>,
+}",
+    );
+    drop(writer);
+}
+
+#[test]
+fn what_was_read_of_a_cell_prints_as_the_cell_and_stays(rt: HostRuntime) {
+    let mut table = Table::new(rt.alloc());
+    table.texts(&CellValue::of(&Cell::new(5u8)));
+    table.wants(
+        "\
+Cell { value: 5 }~
+Cell {
+    value: 5,
+}",
+    );
+    table.texts(&Some(CellValue::of(&Cell::new(Some(5u8)))));
+    table.wants(
+        "\
+Some(Cell { value: Some(5) })~
+Some(
+    Cell {
+        value: Some(
+            5,
+        ),
+    },
+)",
+    );
+    let cell = RefCell::new(5u8);
+    table.texts(&RefCellValue::of(&cell));
+    table.wants(
+        "\
+RefCell { value: 5 }~
+RefCell {
+    value: 5,
+}",
+    );
+    put_borrowed(&mut table, &cell);
+    // A cell is read at the call, and not where its value prints.
+    let cell = Cell::new(1u8);
+    let value = CellValue::of(&cell);
+    cell.set(2);
+    table.plain(&value);
+    table.wants("Cell { value: 1 }");
+    table.plain(&CellValue::of(&cell));
+    table.wants("Cell { value: 2 }");
+    has_wanted_rows(&rt, &table);
+}
+
+// A queue of 3, 4, 5 and 6, of which the last two are at the start of its memory.
+fn wrapped(alloc: Global) -> Result<VecDeque<u8>, AllocError> {
+    let mut queue = VecDeque::with_capacity(alloc, 4)?;
+    for item in [1, 2, 3, 4] {
+        queue.push_back(item)?;
+    }
+    queue.pop_front();
+    queue.pop_front();
+    queue.push_back(5)?;
+    queue.push_back(6)?;
+    Ok(queue)
+}
+
+fn nested_queue(alloc: Global) -> Result<Option<VecDeque<VecDeque<u8>>>, AllocError> {
+    let mut inner = VecDeque::new(alloc);
+    inner.push_back(1u8)?;
+    let mut queue = VecDeque::new(alloc);
+    queue.push_back(inner)?;
+    Ok(Some(queue))
+}
+
+pub fn linked_list(alloc: Global) -> Result<LinkedList<u8>, AllocError> {
+    let mut list = LinkedList::new(alloc);
+    list.push_back(2u8)?;
+    list.push_front(1)?;
+    Ok(list)
+}
+
+// The row above would show nothing of a queue in one slice.
+#[test]
+fn the_wrapped_queue_is_in_two_slices(rt: HostRuntime) {
+    let lengths = wrapped(rt.alloc()).map(|queue| {
+        let (front, back) = queue.as_slices();
+        (front.len(), back.len())
+    });
+    same(&rt, lengths, Ok((2, 2)), "slices");
+}
+
+pub fn hashed_set(alloc: Global, items: &[u8]) -> Result<HashSet<u8>, AllocError> {
+    let mut set = HashSet::new(alloc);
+    for item in items {
+        set.insert(*item)?;
+    }
+    Ok(set)
+}
+
+fn hashed_map(alloc: Global, keys: &[u8]) -> Result<HashMap<u8, Option<bool>>, AllocError> {
+    let mut map = HashMap::new(alloc);
+    for key in keys {
+        map.insert(*key, Some(true))?;
+    }
+    Ok(map)
+}
+
+#[test]
+fn queues_and_hashed_collections_print_as_by_core_fmt(rt: HostRuntime) {
+    let mut table = Table::new(rt.alloc());
+    table.texts(&VecDeque::<u8>::new(rt.alloc()));
+    table.wants("[]");
+    table.texts_of_made(wrapped(rt.alloc()));
+    table.wants(
+        "\
+[3, 4, 5, 6]~
+[
+    3,
+    4,
+    5,
+    6,
+]",
+    );
+    table.texts_of_made(nested_queue(rt.alloc()));
+    table.wants(
+        "\
+Some([[1]])~
+Some(
+    [
+        [
+            1,
+        ],
+    ],
+)",
+    );
+    table.texts(&LinkedList::<u8>::new(rt.alloc()));
+    table.wants("[]");
+    table.texts_of_made(linked_list(rt.alloc()));
+    table.wants(
+        "\
+[1, 2]~
+[
+    1,
+    2,
+]",
+    );
+    table.texts_of_made(BinaryHeap::from_array(rt.alloc(), [2u8, 3, 1]));
+    table.wants(
+        "\
+[3, 2, 1]~
+[
+    3,
+    2,
+    1,
+]",
+    );
+    table.texts_of_made(hashed_set(rt.alloc(), &[]));
+    table.wants("{}");
+    table.texts_of_made(hashed_set(rt.alloc(), &[1]));
+    table.wants(
+        "\
+{1}~
+{
+    1,
+}",
+    );
+    table.texts_of_made(hashed_map(rt.alloc(), &[]));
+    table.wants("{}");
+    table.texts_of_made(hashed_map(rt.alloc(), &[1]));
+    table.wants(
+        "\
+{1: Some(true)}~
+{
+    1: Some(
+        true,
+    ),
+}",
+    );
+    has_wanted_rows(&rt, &table);
+}
+
+// The map's plain text, by its iterator.
+fn text_by_iterator(alloc: Global, map: &HashMap<u8, Option<bool>>) -> Result<String, AllocError> {
+    let mut text = String::from_str(alloc, "{")?;
+    for (key, value) in map {
+        if text.len() > 1 {
+            text.push_str(", ")?;
+        }
+        text.push_str(plain_text(alloc, key)?.as_str())?;
+        text.push_str(": ")?;
+        text.push_str(plain_text(alloc, value)?.as_str())?;
+    }
+    text.push_str("}")?;
+    Ok(text)
+}
+
+fn prints_in_order(alloc: Global) -> Result<bool, AllocError> {
+    let map = hashed_map(alloc, &[9, 3, 200, 7, 1])?;
+    let wanted = text_by_iterator(alloc, &map)?;
+    Ok(plain_text(alloc, &map)?.as_str() == wanted.as_str())
+}
+
+#[test]
+fn a_hashed_map_prints_in_the_order_of_iteration(rt: HostRuntime) {
+    same(&rt, prints_in_order(rt.alloc()), Ok(true), "five entries");
+}
+
+#[test]
+fn ranges_print_as_by_core_fmt(rt: HostRuntime) {
+    let mut table = Table::new(rt.alloc());
+    table.texts(&(1u8..5));
+    table.wants("1..5");
+    table.texts(&(-1i8..=5));
+    table.wants("-1..=5");
+    table.texts(&(1u64..));
+    table.wants("1..");
+    table.texts(&(..5i32));
+    table.wants("..5");
+    table.texts(&(..=5u16));
+    table.wants("..=5");
+    table.texts(&(..));
+    table.wants("..");
+    table.texts(&('a'..'z'));
+    table.wants("'a'..'z'");
+    table.texts(&("a"..="z"));
+    table.wants("\"a\"..=\"z\"");
+    table.texts(&Some(1u8..5));
+    table.wants(
+        "\
+Some(1..5)~
+Some(
+    1..5,
+)",
+    );
+    table.texts(&[0usize..2, 2..4]);
+    table.wants(
+        "\
+[0..2, 2..4]~
+[
+    0..2,
+    2..4,
+]",
+    );
+    table.texts(&(Some(1u8)..None));
+    table.wants(
+        "\
+Some(1)..None~
+Some(
+    1,
+)..None",
+    );
+    table.texts(&(Some(1u8)..=Some(2)));
+    table.wants(
+        "\
+Some(1)..=Some(2)~
+Some(
+    1,
+)..=Some(
+    2,
+)",
+    );
+    table.texts(&(..Some(1u8)));
+    table.wants(
+        "\
+..Some(1)~
+..Some(
+    1,
+)",
+    );
+    table.texts(&(..=(1u8, 2u8)));
+    table.wants(
+        "\
+..=(1, 2)~
+..=(
+    1,
+    2,
+)",
+    );
+    table.texts(&((1u8,)..));
+    table.wants(
+        "\
+(1,)..~
+(
+    1,
+)..",
+    );
+    let mut range = 1u8..=2;
+    range.next();
+    table.texts(&range);
+    table.wants("2..=2");
+    range.next();
+    table.texts(&range);
+    table.wants("2..=2 (exhausted)");
+    range.next();
+    table.texts(&range);
+    table.wants("2..=2 (exhausted)");
+    let mut from_back = -1i8..=0;
+    from_back.next_back();
+    from_back.next_back();
+    table.texts(&from_back);
+    table.wants("-1..=-1 (exhausted)");
+    let mut last = u8::MAX..=u8::MAX;
+    last.next();
+    table.texts(&Some(last));
+    table.wants(
+        "\
+Some(255..=255 (exhausted))~
+Some(
+    255..=255 (exhausted),
+)",
+    );
+    let mut backward = 5u8..=1;
+    backward.next();
+    table.texts(&backward);
+    table.wants("5..=1");
+    has_wanted_rows(&rt, &table);
+}
+
+#[test]
+fn small_types_print_as_by_core_fmt(rt: HostRuntime) {
+    let mut table = Table::new(rt.alloc());
+    table.texts(&Wrapping(-1i8));
+    table.wants("-1");
+    table.texts(&Saturating(Some(2u8)));
+    table.wants(
+        "\
+Some(2)~
+Some(
+    2,
+)",
+    );
+    table.texts(&Reverse(3u8));
+    table.wants(
+        "\
+Reverse(3)~
+Reverse(
+    3,
+)",
+    );
+    table.texts(&Ordering::Less);
+    table.wants("Less");
+    table.texts(&Ordering::Equal);
+    table.wants("Equal");
+    table.texts(&Some(Ordering::Greater));
+    table.wants(
+        "\
+Some(Greater)~
+Some(
+    Greater,
+)",
+    );
+    table.texts(&Bound::Included(1u8));
+    table.wants(
+        "\
+Included(1)~
+Included(
+    1,
+)",
+    );
+    table.texts(&Bound::Excluded(2u8));
+    table.wants(
+        "\
+Excluded(2)~
+Excluded(
+    2,
+)",
+    );
+    table.texts(&(Bound::Unbounded::<u8>,));
+    table.wants(
+        "\
+(Unbounded,)~
+(
+    Unbounded,
+)",
+    );
+    table.texts(&ControlFlow::<u8, bool>::Continue(true));
+    table.wants(
+        "\
+Continue(true)~
+Continue(
+    true,
+)",
+    );
+    table.texts(&ControlFlow::<u8, bool>::Break(1));
+    table.wants(
+        "\
+Break(1)~
+Break(
+    1,
+)",
+    );
+    has_wanted_rows(&rt, &table);
+}

@@ -1,0 +1,609 @@
+//! Tests of a user's own types. `blocks` has pairs, tuples, and structs without fields.
+//! `tools/expected/show '{ #[derive(Debug)] struct A { x: i32 } A { x: 1 } }'` prints such texts by core::fmt.
+use super::asserts::{has_rows, has_wanted_rows};
+use example_print::{
+    Braces, I32, InPrettyMode, Json, Letter, Link, LinkEvent, Measurement, Message, Nested, Node,
+    Pair, Parens, Port, Ports, Scores, Session, Temperature, Tree, Tuple, Users, Window, X, Y, log,
+    print,
+};
+use std::alloc::{AllocError, Global};
+use std::borrow::CowStr;
+use std::collections::{BTreeMap, VecDeque};
+use std::rc::Rc;
+use test_rows::by_fields::S;
+use test_rows::rows::{Table, list, map};
+use test_rows::{by_builders, forwarded};
+use ufmt::{debug_into, pretty_into};
+
+fn node(alloc: Global) -> Result<Node, AllocError> {
+    let last = Node {
+        value: 0,
+        next: None,
+    };
+    Ok(Node {
+        value: 1,
+        next: Some(Box::new(alloc, last)?),
+    })
+}
+
+fn node_by_builders(alloc: Global) -> Result<by_builders::Node, AllocError> {
+    let last = by_builders::Node {
+        value: 0,
+        next: None,
+    };
+    Ok(by_builders::Node {
+        value: 1,
+        next: Some(Box::new(alloc, last)?),
+    })
+}
+
+fn settings(alloc: Global) -> Result<S<BTreeMap<u64, u64>, u64>, AllocError> {
+    let m = map(alloc, &[(1u64, 2u64)])?;
+    Ok(S { m, n: 3 })
+}
+
+fn settings_by_builders(
+    alloc: Global,
+) -> Result<by_builders::S<BTreeMap<i32, i32>, i32>, AllocError> {
+    let m = map(alloc, &[(1i32, 2i32)])?;
+    Ok(by_builders::S { m, n: 3 })
+}
+
+fn tree(alloc: Global) -> Result<Tree, AllocError> {
+    let mut children = Vec::new(alloc);
+    children.push(Tree {
+        size: 2,
+        children: Vec::new(alloc),
+    })?;
+    Ok(Tree { size: 1, children })
+}
+
+fn ports(alloc: Global) -> Result<Vec<Port<u8>>, AllocError> {
+    let mut ports = Vec::new(alloc);
+    ports.push(Port {
+        number: 80,
+        user: 7u8,
+    })?;
+    ports.push(Port {
+        number: 443,
+        user: 9u8,
+    })?;
+    Ok(ports)
+}
+
+#[test]
+fn log_and_print_write_into_a_buffer(rt: HostRuntime) {
+    let mut table = Table::new(rt.alloc());
+    let measurement = Measurement {
+        channel: 3,
+        celsius: -4,
+    };
+    for (length, wanted) in [
+        (
+            64,
+            "\
+Ok(59) Measurement { channel: 3, celsius: -4 } control 0x0000beef
+.....",
+        ),
+        (
+            59,
+            "\
+Ok(59) Measurement { channel: 3, celsius: -4 } control 0x0000beef
+.....",
+        ),
+        (
+            58,
+            "Err(Full) Measurement { channel: 3, celsius: -4 } control 0x0000beef......",
+        ),
+        (
+            20,
+            "Err(Full) Measurement { ..................................................",
+        ),
+    ] {
+        let mut buffer = [b'.'; 64];
+        let outcome = log(&mut buffer[..length], &measurement, 0xbeef);
+        table.put_outcome(outcome, &buffer);
+        table.wants(wanted);
+    }
+    let message = Message {
+        node: 2,
+        level: '!',
+        text: "valve is \"open\"",
+    };
+    for (length, wanted) in [
+        (
+            64,
+            "Ok(58) Message { node: 2, level: '!', text: \"valve is \\\"open\\\"\" }......",
+        ),
+        (
+            58,
+            "Ok(58) Message { node: 2, level: '!', text: \"valve is \\\"open\\\"\" }......",
+        ),
+        (
+            57,
+            "Err(Full) Message { node: 2, level: '!', text: \"valve is \\\"open\\\"\" .......",
+        ),
+        (
+            18,
+            "Err(Full) Message { node: 2...............................................",
+        ),
+    ] {
+        let mut buffer = [b'.'; 64];
+        let outcome = print(&mut buffer[..length], &message);
+        table.put_outcome(outcome, &buffer);
+        table.wants(wanted);
+    }
+    has_wanted_rows(&rt, &table);
+}
+
+fn pairs_of_a_list(alloc: Global) -> Result<Json, AllocError> {
+    let mut list = Vec::new(alloc);
+    list.push(Json::Number(-1))?;
+    let mut pairs = Vec::new(alloc);
+    pairs.push((String::from_str(alloc, "a")?, Json::Array(list)))?;
+    Ok(Json::Object(pairs))
+}
+
+fn pairs_of_a_table(alloc: Global) -> Result<Json, AllocError> {
+    let mut table = BTreeMap::new(alloc);
+    table.insert(7u8, Json::Null)?;
+    let mut pairs = Vec::new(alloc);
+    pairs.push((String::from_str(alloc, "b")?, Json::Table(table)))?;
+    Ok(Json::Object(pairs))
+}
+
+const SESSION: Session = Session { user: 7, key: 9 };
+
+// A struct that ends in dots, by itself and in other values, as `finish_non_exhaustive` of core::fmt prints it.
+#[test]
+fn structs_that_end_in_dots_print_as_by_core_fmt(rt: HostRuntime) {
+    let mut table = Table::new(rt.alloc());
+    table.texts(&SESSION);
+    table.wants(
+        "\
+Session { user: 7, .. }~
+Session {
+    user: 7,
+    ..
+}",
+    );
+    table.texts(&[SESSION]);
+    table.wants(
+        "\
+[Session { user: 7, .. }]~
+[
+    Session {
+        user: 7,
+        ..
+    },
+]",
+    );
+    table.texts(&Some(SESSION));
+    table.wants(
+        "\
+Some(Session { user: 7, .. })~
+Some(
+    Session {
+        user: 7,
+        ..
+    },
+)",
+    );
+    table.texts(&Pair {
+        x: SESSION,
+        y: SESSION,
+    });
+    table.wants(
+        "\
+Pair { x: Session { user: 7, .. }, y: Session { user: 7, .. } }~
+Pair {
+    x: Session {
+        user: 7,
+        ..
+    },
+    y: Session {
+        user: 7,
+        ..
+    },
+}",
+    );
+    table.texts(&Tuple(1u8, SESSION));
+    table.wants(
+        "\
+Tuple(1, Session { user: 7, .. })~
+Tuple(
+    1,
+    Session {
+        user: 7,
+        ..
+    },
+)",
+    );
+    table.texts(&[Some(Pair { x: SESSION, y: 0u8 })]);
+    table.wants(
+        "\
+[Some(Pair { x: Session { user: 7, .. }, y: 0 })]~
+[
+    Some(
+        Pair {
+            x: Session {
+                user: 7,
+                ..
+            },
+            y: 0,
+        },
+    ),
+]",
+    );
+    has_wanted_rows(&rt, &table);
+}
+
+// What doesn't fit is left out by whole pieces.
+#[test]
+fn structs_that_end_in_dots_print_into_a_buffer(rt: HostRuntime) {
+    let mut table = Table::new(rt.alloc());
+    for (length, wanted) in [
+        (24, "Ok(23) Session { user: 7, .. }_"),
+        (23, "Ok(23) Session { user: 7, .. }_"),
+        (22, "Err(Full) Session { user: 7, .. __"),
+        (21, "Err(Full) Session { user: 7, ..___"),
+        (20, "Err(Full) Session { user: 7_______"),
+    ] {
+        let mut buffer = [b'_'; 24];
+        let outcome = debug_into(&mut buffer[..length], &SESSION);
+        table.put_outcome(outcome, &buffer);
+        table.wants(wanted);
+    }
+    for (length, wanted) in [
+        (
+            32,
+            "\
+Ok(31) Session {
+    user: 7,
+    ..
+}_",
+        ),
+        (
+            31,
+            "\
+Ok(31) Session {
+    user: 7,
+    ..
+}_",
+        ),
+        (
+            30,
+            "\
+Err(Full) Session {
+    user: 7,
+    ..
+__",
+        ),
+        (
+            29,
+            "\
+Err(Full) Session {
+    user: 7,
+    _____",
+        ),
+        (
+            26,
+            "\
+Err(Full) Session {
+    user: 7,
+_________",
+        ),
+    ] {
+        let mut buffer = [b'_'; 32];
+        let outcome = pretty_into(&mut buffer[..length], &SESSION);
+        table.put_outcome(outcome, &buffer);
+        table.wants(wanted);
+    }
+    has_wanted_rows(&rt, &table);
+}
+
+// Each value is printed by `fields!` and by builders, to which a `Node` goes back by `begin_field` and
+// `end_field`. A derive of Rust's `Debug` prints the same.
+#[test]
+fn fields_and_builders_print_as_by_core_fmt(rt: HostRuntime) {
+    let mut table = Table::new(rt.alloc());
+    table.same_texts(&Braces {}, &by_builders::Braces {});
+    table.wants("Braces");
+    table.same_texts(&Parens(), &by_builders::Parens());
+    table.wants("Parens");
+    table.same_texts(&I32(0i32), &by_builders::I32(0u64));
+    table.wants(
+        "\
+I32(0)~
+I32(
+    0,
+)",
+    );
+    table.same_texts(&Tuple(0i32, 0u64), &by_builders::Tuple(0u64, 0i32));
+    table.wants(
+        "\
+Tuple(0, 0)~
+Tuple(
+    0,
+    0,
+)",
+    );
+    table.same_texts(
+        &Pair { x: 0i32, y: 0u64 },
+        &by_builders::Pair { x: 0u64, y: 0i32 },
+    );
+    table.wants(
+        "\
+Pair { x: 0, y: 0 }~
+Pair {
+    x: 0,
+    y: 0,
+}",
+    );
+    table.same_texts(
+        &Nested {
+            first: Pair { x: 0u64, y: 0u64 },
+            second: Pair { x: 0u64, y: 0u64 },
+        },
+        &by_builders::Nested {
+            first: by_builders::Pair { x: 0i32, y: 0i32 },
+            second: by_builders::Pair { x: 0i32, y: 0i32 },
+        },
+    );
+    table.wants(
+        "\
+Nested { first: Pair { x: 0, y: 0 }, second: Pair { x: 0, y: 0 } }~
+Nested {
+    first: Pair {
+        x: 0,
+        y: 0,
+    },
+    second: Pair {
+        x: 0,
+        y: 0,
+    },
+}",
+    );
+    table.same_texts(&Letter::A::<u64>, &by_builders::Letter::A::<i32>);
+    table.wants("A");
+    table.same_texts(&Letter::B(0i32, 1), &by_builders::Letter::B(0u64, 1));
+    table.wants(
+        "\
+B(0, 1)~
+B(
+    0,
+    1,
+)",
+    );
+    table.same_texts(
+        &Letter::C { x: 0u64, y: 1 },
+        &by_builders::Letter::C { x: 0i32, y: 1 },
+    );
+    table.wants(
+        "\
+C { x: 0, y: 1 }~
+C {
+    x: 0,
+    y: 1,
+}",
+    );
+    table.same_texts(&X(0i32), &by_builders::X(0u64));
+    table.wants(
+        "\
+X(0)~
+X(
+    0,
+)",
+    );
+    table.same_texts(&Y::Z(0i32), &by_builders::Y::Z(0u64));
+    table.wants(
+        "\
+Z(0)~
+Z(
+    0,
+)",
+    );
+    table.same_texts(&Y::W::<u64>, &by_builders::Y::W::<i32>);
+    table.wants("W");
+    table.same_texts_of_made(node(rt.alloc()), node_by_builders(rt.alloc()));
+    table.wants(
+        "\
+Node { value: 1, next: Some(Node { value: 0, next: None }) }~
+Node {
+    value: 1,
+    next: Some(
+        Node {
+            value: 0,
+            next: None,
+        },
+    ),
+}",
+    );
+    table.same_texts_of_made(settings(rt.alloc()), settings_by_builders(rt.alloc()));
+    table.wants(
+        "\
+S { m: {1: 2}, n: 3 }~
+S {
+    m: {
+        1: 2,
+    },
+    n: 3,
+}",
+    );
+    table.same_texts(
+        &[InPrettyMode(Some(1u64))],
+        &[by_builders::InPrettyMode(Some(1i32))],
+    );
+    table.wants(
+        "\
+[Some(
+    1,
+)]~
+[
+    Some(
+        1,
+    ),
+]",
+    );
+    has_wanted_rows(&rt, &table);
+}
+
+// A derive of Rust's `Debug` prints the same, and of ports and scores `debug_map` and `debug_list` of core::fmt.
+#[test]
+fn types_of_users_print_as_by_core_fmt(rt: HostRuntime) {
+    let mut table = Table::new(rt.alloc());
+    table.texts(&[
+        LinkEvent::DisconnectedByOtherSide,
+        LinkEvent::ReceivedAcknowledgement(7, Some(2)),
+        LinkEvent::ReconfiguredAfterPowerLoss {
+            temperature_in_celsius: -4,
+            time_without_connection: 60,
+        },
+    ]);
+    table.wants(
+        "\
+[DisconnectedByOtherSide, ReceivedAcknowledgement(7, Some(2)), ReconfiguredAfterPowerLoss { temperature_in_celsius: -4, time_without_connection: 60 }]~
+[
+    DisconnectedByOtherSide,
+    ReceivedAcknowledgement(
+        7,
+        Some(
+            2,
+        ),
+    ),
+    ReconfiguredAfterPowerLoss {
+        temperature_in_celsius: -4,
+        time_without_connection: 60,
+    },
+]",
+    );
+    table.texts(&forwarded::Y);
+    table.wants("X");
+    table.texts(&Temperature { celsius: 21 });
+    table.wants("21 °C");
+    table.texts(&[Temperature { celsius: -4 }]);
+    table.wants(
+        "\
+[-4 °C]~
+[
+    -4 °C,
+]",
+    );
+    table.texts_of_made(tree(rt.alloc()));
+    table.wants(
+        "\
+Tree { size: 1, children: [Tree { size: 2, children: [] }] }~
+Tree {
+    size: 1,
+    children: [
+        Tree {
+            size: 2,
+            children: [],
+        },
+    ],
+}",
+    );
+    table.texts_of_made(list(rt.alloc(), &[Some(1u64), None]).map(|scores| Scores { scores }));
+    table.wants(
+        "\
+[Some(1), None]~
+[
+    Some(
+        1,
+    ),
+    None,
+]",
+    );
+    table.texts_of_made(ports(rt.alloc()).map(|ports| Ports { ports }));
+    table.wants(
+        "\
+{80: 7, 443: 9}~
+{
+    80: 7,
+    443: 9,
+}",
+    );
+    table.texts_of_made(ports(rt.alloc()).map(|ports| Users { ports }));
+    table.wants(
+        "\
+[7, 9]~
+[
+    7,
+    9,
+]",
+    );
+    table.texts_of_made(window(rt.alloc()));
+    table.wants(
+        "\
+Window { name: \"main\", lines: 3..9, recent: [7, 8] }~
+Window {
+    name: \"main\",
+    lines: 3..9,
+    recent: [
+        7,
+        8,
+    ],
+}",
+    );
+    table.texts_of_made(chains_with_one_end(rt.alloc()));
+    table.wants(
+        "\
+[Link { id: 1, rest: Some(Link { id: 3, rest: None }) }, Link { id: 2, rest: Some(Link { id: 3, rest: None }) }]~
+[
+    Link {
+        id: 1,
+        rest: Some(
+            Link {
+                id: 3,
+                rest: None,
+            },
+        ),
+    },
+    Link {
+        id: 2,
+        rest: Some(
+            Link {
+                id: 3,
+                rest: None,
+            },
+        ),
+    },
+]",
+    );
+    table.plain_of_made(pairs_of_a_list(rt.alloc()));
+    table.wants("Object([(\"a\", Array([Number(-1)]))])");
+    table.plain_of_made(pairs_of_a_table(rt.alloc()));
+    table.wants("Object([(\"b\", Table({7: Null}))])");
+    has_wanted_rows(&rt, &table);
+}
+
+#[test]
+fn a_variant_without_fields_is_one_piece(rt: HostRuntime) {
+    let mut table = Table::new(rt.alloc());
+    table.pieces(&LinkEvent::DisconnectedByOtherSide);
+    has_rows(&rt, &table, "DisconnectedByOtherSide|;\n");
+}
+
+fn window(alloc: Global) -> Result<Window<'static>, AllocError> {
+    let mut recent = VecDeque::new(alloc);
+    recent.push_back(7)?;
+    recent.push_back(8)?;
+    Ok(Window {
+        name: CowStr::Borrowed("main"),
+        lines: 3..9,
+        recent,
+    })
+}
+
+fn chains_with_one_end(alloc: Global) -> Result<[Link; 2], AllocError> {
+    let end = Rc::new(alloc, Link { id: 3, rest: None })?;
+    let first = Link {
+        id: 1,
+        rest: Some(end.clone()?),
+    };
+    let second = Link {
+        id: 2,
+        rest: Some(end),
+    };
+    Ok([first, second])
+}

@@ -1,0 +1,117 @@
+//! Tests that call each law.
+use super::verdict::has_text;
+use super::{holds, same};
+use std::alloc::Global;
+use ufmt::class::Class;
+use ufmt::layout::Mode;
+use ufmt::uDebug;
+use ufmt_doc::doc::{DebugDoc, Doc};
+use ufmt_doc::laws::*;
+use ufmt_doc::{ReadError, read_debug, read_plain};
+
+// Texts that come back, each with the class of its document.
+const TEXTS: [(Class, Mode, &str); 4] = [
+    (Class::Token, Mode::Plain, "S { a: [x], b: {} }"),
+    (
+        Class::Token,
+        Mode::Pretty,
+        "S {\n    a: [\n        x,\n    ],\n    b: {},\n}",
+    ),
+    (Class::Debug, Mode::Plain, "S { a: [1.5], b: 0..5 }"),
+    (
+        Class::Debug,
+        Mode::Pretty,
+        "S {\n    a: [\n        1.5,\n    ],\n    b: 0..5,\n}",
+    ),
+];
+
+fn is_text<T: Drop>(outcome: Result<(T, String), ReadError>, text: &str) -> bool {
+    match outcome {
+        Ok((_, again)) => again.as_str() == text,
+        Err(_) => false,
+    }
+}
+
+#[test]
+fn texts_come_back(rt: HostRuntime) {
+    let alloc = rt.alloc();
+    for (class, mode, text) in TEXTS {
+        let again = text_again(alloc, class, mode, text.as_bytes());
+        holds(&rt, is_text(again, text), text);
+        let again = text_by_way_of_the_other(alloc, class, mode, text.as_bytes());
+        holds(&rt, is_text(again, text), text);
+    }
+}
+
+#[test]
+fn debug_texts_do_not_come_back_as_tokens(rt: HostRuntime) {
+    let alloc = rt.alloc();
+    for (class, mode, text) in TEXTS {
+        if matches!(class, Class::Debug) {
+            let refused = text_again(alloc, Class::Token, mode, text.as_bytes());
+            holds(&rt, matches!(refused, Err(ReadError::NotText)), text);
+            let refused = text_by_way_of_the_other(alloc, Class::Token, mode, text.as_bytes());
+            holds(&rt, matches!(refused, Err(ReadError::NotText)), text);
+        }
+    }
+}
+
+fn is_document<D: uDebug + Drop>(
+    alloc: Global,
+    outcome: Result<D, ReadError>,
+    plain: &[u8],
+) -> bool {
+    match outcome {
+        Ok(doc) => has_text(alloc, Mode::Plain, &doc, plain),
+        Err(_) => false,
+    }
+}
+
+// Whether a document comes back by its text in this mode.
+fn comes_back(alloc: Global, mode: Mode) -> Result<bool, ReadError> {
+    let plain = b"S { a: [x], b: {} }";
+    let doc = read_plain(alloc, plain)?;
+    let normal = normal_by_way_of_text(alloc, Class::Token, mode, &doc);
+    Ok(is_document(alloc, normal, plain))
+}
+
+// The same of a debug document that is no token document.
+fn debug_document_comes_back(alloc: Global, mode: Mode) -> Result<bool, ReadError> {
+    let plain = b"(1.5, S)";
+    let doc = read_debug(alloc, Mode::Plain, plain)?;
+    let normal = normal_by_way_of_text(alloc, Class::Debug, mode, &doc);
+    let refused = normal_by_way_of_text(alloc, Class::Token, mode, &doc);
+    Ok(is_document(alloc, normal, plain) && matches!(refused, Err(ReadError::NotText)))
+}
+
+#[test]
+fn documents_come_back(rt: HostRuntime) {
+    for mode in [Mode::Plain, Mode::Pretty] {
+        same(&rt, comes_back(rt.alloc(), mode), Ok(true), "a document");
+        let given = debug_document_comes_back(rt.alloc(), mode);
+        same(&rt, given, Ok(true), "a debug document");
+    }
+}
+
+// What comes back of a leaf that spells a struct with dots: whether it is that struct, and whether the
+// token reader refuses its text.
+fn dots_in_a_leaf(alloc: Global) -> Result<(bool, bool), ReadError> {
+    let leaf = Doc::Leaf(String::from_str(alloc, "S { .. }")?);
+    let normal = normal_by_way_of_text(alloc, Class::Debug, Mode::Plain, &leaf)?;
+    let ends_in_dots = matches!(&normal, DebugDoc::StructOf(name, _) if name.ends_in_dots);
+    let refused = normal_by_way_of_text(alloc, Class::Token, Mode::Plain, &leaf);
+    Ok((ends_in_dots, matches!(refused, Err(ReadError::NotText))))
+}
+
+#[test]
+fn a_leaf_that_spells_dots_comes_back_as_a_debug_document(rt: HostRuntime) {
+    let given = dots_in_a_leaf(rt.alloc());
+    same(&rt, given, Ok((true, true)), "dots in a leaf");
+}
+
+#[test]
+fn errors_have_codes(rt: HostRuntime) {
+    want_of_memory_is_one_error::<u8>();
+    let codes = (ReadError::NotText.code(), ReadError::OutOfMemory.code());
+    same(&rt, codes, (1, 2), "codes");
+}

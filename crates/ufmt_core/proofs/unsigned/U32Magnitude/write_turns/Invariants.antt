@@ -1,0 +1,8 @@
+use Rattle.ufmt_core.proofs.LastDigits.{IsCutFrom}
+use Rattle.ufmt_core.proofs.unsigned.U32Magnitude.write_turns.Given as goal
+
+abbrev pub invariant-loop-left : goal.invariant-loop-left
+invariant-loop-left l = IsCutFrom 2 l.self l.left l.start l.buffer
+
+abbrev pub decreases-loop-left : goal.decreases-loop-left
+decreases-loop-left l = l.left

@@ -1,6 +1,0 @@
-#![tactic(auto)]
-
-//! Tests of how values print, by public calls only.
-
-#[cfg(test)]
-mod tests;

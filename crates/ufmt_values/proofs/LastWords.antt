@@ -1,0 +1,189 @@
+-- The last word of a front, and where a value begins after it: a value with a name at that word, another at its bracket.
+use Rattle.std.proofs.Common.{◌≡◌, ◌⊎◌, inl, inr, ◌∙◌, refl, ap, sym, ℕ, suc, ◌+◌, ◌-◌, ◌<◌, ◌==◌, ◌&&◌, Bool, true, false, cond, List, [], ◌∷◌, ◌++◌, append_assoc, append-nil, drop, length, length-append, get_or, arith}
+use Rattle.std.proofs.Math.Seq.{drop-append-add, drop-append_seam, get_or-append_seam}
+use Rattle.std.proofs.lemmas.Bool.Decides.{nat_tests}
+use Rattle.std.proofs.lemmas.List.{get_or-append-add}
+use Rattle.std.specs.Prelude.{nat_le, nat_lt}
+use Rattle.ufmt.specs.Leaves.{IsDebugWord, begins_with, ends_in_colon, has_name_bytes, is_name_byte}
+use Rattle.ufmt_core.specs.declared.layout.Mode.{Mode}
+use Rattle.ufmt_core.specs.declared.layout.Mode.TheVariants.{Pretty}
+use Rattle.ufmt_grammar.proofs.DebugLeaves.{both}
+use Rattle.ufmt_values.specs.Fronts.{last_word}
+use Rattle.ufmt_values.specs.Values.{is_after_name, is_named, run_start, value_start}
+
+-- ---- runs of bytes of a name
+
+-- a run goes on before such a byte
+run_on : (text : List ℕ) (n : ℕ) → is_name_byte (get_or text n 0) ≡ true → run_start text 0 (suc n) ≡ run_start text 0 n
+run_on text n named =
+    let low : nat_le 0 n ≡ true = grind (arith, nat_tests) in
+    ap (λ b. cond (b && is_name_byte (get_or text n 0)) (run_start text 0 n) (suc n)) low ∙ ap (λ b. cond b (run_start text 0 n) (suc n)) named
+
+-- and begins after another
+run_begins : (text : List ℕ) (n : ℕ) → is_name_byte (get_or text n 0) ≡ false → run_start text 0 (suc n) ≡ suc n
+run_begins text n other =
+    let low : nat_le 0 n ≡ true = grind (arith, nat_tests) in
+    ap (λ b. cond (b && is_name_byte (get_or text n 0)) (run_start text 0 n) (suc n)) low ∙ ap (λ b. cond b (run_start text 0 n) (suc n)) other
+
+-- it goes on before such bytes
+run_through : (text front w u : List ℕ) → text ≡ front ++ (w ++ u) → has_name_bytes w ≡ true → run_start text 0 (length front + length w) ≡ run_start text 0 (length front)
+run_through text front [] u is named = let none : length front + 0 ≡ length front = omega arith in ap (run_start text 0) none
+run_through text front (c ∷ w) u is named =
+    let parts = both (is_name_byte c) (has_name_bytes w) named in
+    let size : length (front ++ c ∷ []) ≡ suc (length front) = length-append front (c ∷ []) ∙ omega arith in
+    let more : length front + suc (length w) ≡ length (front ++ c ∷ []) + length w = omega (arith, size) in
+    let byte : get_or text (length front) 0 ≡ c = ap (λ t. get_or t (length front) 0) is ∙ get_or-append_seam front c (w ++ u) 0 in
+    ap (run_start text 0) more
+    ∙ run_through text (front ++ c ∷ []) w u (is ∙ sym (append_assoc front (c ∷ []) (w ++ u))) parts.1
+    ∙ ap (run_start text 0) size ∙ run_on text (length front) (ap is_name_byte byte ∙ parts.0)
+
+-- ---- the last word
+
+-- a byte of no name is before the last word, or nothing is
+abbrev IsCut : List ℕ → List ℕ → Type 0
+IsCut front word = (front ≡ word) ⊎ ((y : List ℕ) × (c : ℕ) × (front ≡ (y ++ c ∷ []) ++ word) × (is_name_byte c ≡ false))
+
+-- the bytes of a name that come last
+cut_front : (front : List ℕ) → (word : List ℕ) × (has_name_bytes word ≡ true) × IsCut front word
+cut_front [] = ([], refl, inl refl)
+cut_front (c ∷ front) = go (cut_front front)
+  where
+    first : (b : Bool) → is_name_byte c ≡ b → (word : List ℕ) → has_name_bytes word ≡ true → front ≡ word → (word : List ℕ) × (has_name_bytes word ≡ true) × IsCut (c ∷ front) word
+    first true is word named whole = (c ∷ word, ap (λ b. b && has_name_bytes word) is ∙ named, inl (ap (λ t. c ∷ t) whole))
+    first false is word named whole = (word, named, inr ([], c, ap (λ t. c ∷ t) whole, is))
+
+    go : (word : List ℕ) × (has_name_bytes word ≡ true) × IsCut front word → (word : List ℕ) × (has_name_bytes word ≡ true) × IsCut (c ∷ front) word
+    go (word, named, inl whole) = first (is_name_byte c) refl word named whole
+    go (word, named, inr (y, b, is, other)) = (word, named, inr (c ∷ y, b, ap (λ t. c ∷ t) is, other))
+
+-- a front and its last word. From the word's end on, a run goes back to its start, whatever follows
+pub record LastWord (front : List ℕ) : Type 0 where
+  pub before : List ℕ
+  pub word : List ℕ
+  pub is : front ≡ before ++ word
+  pub named : has_name_bytes word ≡ true
+  pub starts : (x : List ℕ) → run_start (front ++ x) 0 (length front) ≡ length before
+
+pub last_word_of : (front : List ℕ) → LastWord front
+last_word_of front = go (cut_front front)
+  where
+    go : (word : List ℕ) × (has_name_bytes word ≡ true) × IsCut front word → LastWord front
+    go (word, named, inl whole) = record {
+      before = [];
+      word = word;
+      is = whole;
+      named = named;
+      starts = λ x.
+          let size : length front ≡ length {A = ℕ} [] + length word = omega (arith, ap length whole) in
+          ap (run_start (front ++ x) 0) size ∙ run_through (front ++ x) [] word x (ap (λ t. t ++ x) whole) named;
+    }
+    go (word, named, inr (y, c, is, other)) =
+        let before = y ++ c ∷ [] in
+        let size : length before ≡ suc (length y) = length-append y (c ∷ []) ∙ omega arith in
+        record {
+          before = y ++ c ∷ [];
+          word = word;
+          is = is;
+          named = named;
+          starts = λ x.
+              let whole : front ++ x ≡ before ++ (word ++ x) = ap (λ t. t ++ x) is ∙ append_assoc before word x in
+              let byte : get_or (front ++ x) (length y) 0 ≡ c = ap (λ t. get_or t (length y) 0) (whole ∙ append_assoc y (c ∷ []) (word ++ x)) ∙ get_or-append_seam y c (word ++ x) 0 in
+              ap (run_start (front ++ x) 0) (ap length is ∙ length-append before word)
+              ∙ run_through (front ++ x) before word x whole named
+              ∙ ap (run_start (front ++ x) 0) size ∙ run_begins (front ++ x) (length y) (ap is_name_byte byte ∙ other) ∙ sym size;
+        }
+
+-- it is the one of the definition
+pub last_word_is : (front : List ℕ) (h : LastWord front) → last_word front ≡ h.word
+last_word_is front h =
+    ap (λ n. drop n front) (ap (λ t. run_start t 0 (length front)) (sym (append-nil front)) ∙ h.starts [])
+    ∙ ap (drop (length h.before)) h.is ∙ drop-append_seam h.before h.word
+
+-- ---- where a value begins after a front
+
+-- the last byte of a name is no colon
+last_no_colon : (c : ℕ) (w u : List ℕ) → ends_in_colon (c ∷ w) ≡ false → (get_or ((c ∷ w) ++ u) (length w) 0 == 58) ≡ false
+last_no_colon c [] u none = none
+last_no_colon c (b ∷ w) u none = last_no_colon b w u none
+
+module _ (front : List ℕ) (h : LastWord front) (c : ℕ) (w : List ℕ) (is_word : IsDebugWord (c ∷ w)) (u : List ℕ) where
+  abbrev name : List ℕ
+  name = c ∷ w
+
+  abbrev text : List ℕ
+  text = front ++ (name ++ u)
+
+  -- where the name ends
+  abbrev end : ℕ
+  end = length front + length name
+
+  from_name : run_start text 0 end ≡ length h.before
+  from_name = run_through text front name u refl is_word.bytes ∙ h.starts (name ++ u)
+
+  byte_at : (i : ℕ) → get_or text (length front + i) 0 ≡ get_or (name ++ u) i 0
+  byte_at i = get_or-append-add front (name ++ u) i 0
+
+  before_front : length h.before < end
+  before_front = let size = ap length h.is ∙ length-append h.before h.word in omega (arith, size)
+
+  -- a name ends there
+  named_there : is_named text (run_start text 0 end) end ≡ true
+  named_there =
+      let some = before_front in
+      let less : nat_lt (length h.before) end ≡ true = grind (arith, nat_tests) in
+      let last : end - 1 ≡ length front + length w = omega arith in
+      let byte : (get_or text (end - 1) 0 == 58) ≡ false = ap (λ i. get_or text i 0 == 58) last ∙ ap (λ b. b == 58) (byte_at (length w)) ∙ last_no_colon c w u is_word.ends in
+      ap (λ n. is_named text n end) from_name ∙ rw (less, byte) refl
+
+-- a tuple with a name begins at the last word before it
+pub tuple_after : (to : Mode) (front : List ℕ) (h : LastWord front) (c : ℕ) (w : List ℕ) → IsDebugWord (c ∷ w) → (u : List ℕ)
+    → value_start to (front ++ ((c ∷ w) ++ 40 ∷ u)) 0 (length front + length (c ∷ w)) ≡ length h.before
+tuple_after to front h c w is_word u =
+    let t = front ++ ((c ∷ w) ++ 40 ∷ u) in
+    let end = length front + length (c ∷ w) in
+    let byte : get_or t end 0 ≡ 40 = byte_at front h c w is_word (40 ∷ u) (length (c ∷ w)) ∙ get_or-append_seam (c ∷ w) 40 u 0 in
+    let named = named_there front h c w is_word (40 ∷ u) in
+    rw (byte, named) (from_name front h c w is_word (40 ∷ u))
+
+-- so does a struct
+pub struct_after : (front : List ℕ) (h : LastWord front) (c : ℕ) (w : List ℕ) → IsDebugWord (c ∷ w) → (u : List ℕ)
+    → value_start Pretty (front ++ ((c ∷ w) ++ (32 ∷ 123 ∷ 32 ∷ u))) 0 (length front + length (c ∷ w) + 1) ≡ length h.before
+struct_after front h c w is_word u =
+    let after = 32 ∷ 123 ∷ 32 ∷ u in
+    let t = front ++ ((c ∷ w) ++ after) in
+    let end = length front + length (c ∷ w) in
+    let brace : get_or t (end + 1) 0 ≡ 123 =
+    ap (λ n. get_or t n 0) (omega arith) ∙ byte_at front h c w is_word after (length (c ∷ w) + 1) ∙ get_or-append-add (c ∷ w) after 1 0 in
+    let spaced : get_or t end 0 ≡ 32 = byte_at front h c w is_word after (length (c ∷ w)) ∙ get_or-append_seam (c ∷ w) 32 (123 ∷ 32 ∷ u) 0 in
+    let back : (end + 1) - 1 ≡ end = omega arith in
+    let less : nat_lt 0 (end + 1) ≡ true = grind (arith, nat_tests) in
+    let rest : drop ((end + 1) + 1) t ≡ 32 ∷ u =
+    ap (λ n. drop n t) (omega arith) ∙ drop-append-add front ((c ∷ w) ++ after) (length (c ∷ w) + 2) ∙ drop-append-add (c ∷ w) after 2 in
+    let inside : begins_with 32 (drop ((end + 1) + 1) t) ≡ true = ap (begins_with 32) rest in
+    let named = named_there front h c w is_word after in
+    rw (brace, less, inside, back, spaced, named) (from_name front h c w is_word after)
+
+-- a list begins at its bracket
+pub list_after : (to : Mode) (front u : List ℕ) → value_start to (front ++ 91 ∷ u) 0 (length front) ≡ length front
+list_after to front u = rw (get_or-append_seam front 91 u 0) refl
+
+-- so does a map or a set, in which no space comes first
+pub braces_after : (front u : List ℕ) → begins_with 32 u ≡ false → value_start Pretty (front ++ 123 ∷ u) 0 (length front) ≡ length front
+braces_after front u none =
+    let inside : begins_with 32 (drop (length front + 1) (front ++ 123 ∷ u)) ≡ false = ap (begins_with 32) (drop-append-add front (123 ∷ u) 1) ∙ none in
+    rw (get_or-append_seam front 123 u 0, inside) (go (is_after_name (front ++ 123 ∷ u) 0 (length front)))
+  where
+    go : (named : Bool) → cond (named && false) (run_start (front ++ 123 ∷ u) 0 (length front - 1)) (length front) ≡ length front
+    go true = refl
+    go false = refl
+
+-- and so does a tuple without a name, if no name ends before it
+pub tuple_unnamed : (to : Mode) (front : List ℕ) (h : LastWord front) → h.word ≡ [] → (u : List ℕ) → value_start to (front ++ 40 ∷ u) 0 (length front) ≡ length front
+tuple_unnamed to front h none u = rw (get_or-append_seam front 40 u 0) (go (is_named (front ++ 40 ∷ u) (run_start (front ++ 40 ∷ u) 0 (length front)) (length front)))
+  where
+    same : run_start (front ++ 40 ∷ u) 0 (length front) ≡ length front
+    same = let size = ap length h.is ∙ length-append h.before h.word in let starts = h.starts (40 ∷ u) in omega (arith, size, starts, ap length none)
+
+    go : (named : Bool) → cond named (run_start (front ++ 40 ∷ u) 0 (length front)) (length front) ≡ length front
+    go true = same
+    go false = refl

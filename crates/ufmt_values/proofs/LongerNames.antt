@@ -1,0 +1,113 @@
+-- A name with more bytes of names before it is a name.
+use Rattle.std.proofs.Common.{◌≡◌, ◌≢◌, ◌∙◌, refl, ap, sym, subst, ℕ, ◌==◌, ◌&&◌, ◌||◌, not, Bool, true, false, cond, List, [], ◌∷◌, ◌++◌, eqb-true, arith}
+use Rattle.std.proofs.lemmas.Str.{IsUtf8-append, IsUtf8-from_is_utf8, is_utf8-from_IsUtf8}
+use Rattle.std.specs.Str.{is_utf8}
+use Rattle.ufmt.specs.Document.{tuple_of, no_documents}
+use Rattle.ufmt.specs.Leaves.{EndsLeaf, IsDebugWord, begins_quote, ends_in_colon, has_name_bytes, is_debug_byte, is_in_word, is_name_byte, is_quote, is_spaced, outside}
+use Rattle.ufmt.specs.Token.{IsName}
+use Rattle.ufmt_grammar.proofs.ClassTokens.{tokens_are_debug}
+use Rattle.ufmt_grammar.proofs.DebugLeaves.{both, each_quote, from_beginning}
+use Rattle.ufmt_grammar.specs.declared.class.Class.{Class}
+use Rattle.ufmt_grammar.specs.declared.class.Class.TheVariants.{Token, Debug}
+use Rattle.ufmt_values.proofs.LastWords.{LastWord, last_word_is}
+use Rattle.ufmt_values.specs.Fronts.{MayNameFollow}
+
+-- ---- bytes of names
+
+name_no_space : (c : ℕ) → is_name_byte c ≡ true → (c == 32) ≡ false
+name_no_space c named = go (c == 32) refl
+  where
+    go : (b : Bool) → (c == 32) ≡ b → (c == 32) ≡ false
+    go false is = is
+    go true is = let at = subst (λ b. is_name_byte b ≡ true) (eqb-true c 32 is) named in absurd (cc)
+
+name_no_quote : (c : ℕ) → is_name_byte c ≡ true → is_quote c ≡ false
+name_no_quote c named = go (is_quote c) refl
+  where
+    go : (b : Bool) → is_quote c ≡ b → is_quote c ≡ false
+    go false is = is
+    go true is = let none = each_quote (λ b. is_name_byte b ≡ false) refl refl c is in absurd (cc (none, named))
+
+-- one that is no colon is of a word
+name_debug : (c : ℕ) → is_name_byte c ≡ true → (c == 58) ≡ false → is_debug_byte c ≡ true
+name_debug c named other = go (is_debug_byte c) (c == 58) named other
+  where
+    go : (word colon : Bool) → word || colon ≡ true → colon ≡ false → word ≡ true
+    go true colon h none = refl
+    go false true h none = absurd (cc)
+    go false false h none = absurd (cc)
+
+-- no space and no quote comes next
+record NoneAhead (t : List ℕ) : Type 0 where
+  unspaced : is_spaced t ≡ false
+  unquoted : begins_quote t ≡ false
+
+none_ahead : (t : List ℕ) → has_name_bytes t ≡ true → NoneAhead t
+none_ahead [] named = record { unspaced = refl; unquoted = refl }
+none_ahead (c ∷ t) named =
+    let parts = both (is_name_byte c) (has_name_bytes t) named in
+    record { unspaced = rw (name_no_space c parts.0) refl; unquoted = name_no_quote c parts.0 }
+
+-- so such a byte is in a word, but for a colon that is the last
+in_word : (c : ℕ) (t : List ℕ) → is_name_byte c ≡ true → NoneAhead t → is_in_word c t ≡ true
+in_word c t named ahead = go (c == 58) refl
+  where
+    quoted : (slash : Bool) → not (slash && false) ≡ true
+    quoted true = refl
+    quoted false = refl
+
+    go : (colon : Bool) → (c == 58) ≡ colon → is_in_word c t ≡ true
+    go true is = rw (is, ahead.unspaced) refl
+    go false is =
+        ap (λ b. cond b (not (is_spaced t)) (is_debug_byte c && not (c == 92 && begins_quote t))) is
+        ∙ ap (λ b. b && not (c == 92 && begins_quote t)) (name_debug c named is) ∙ ap (λ b. not (c == 92 && b)) ahead.unquoted ∙ quoted (c == 92)
+
+-- ---- names
+
+-- such bytes are a leaf
+name_ends : (w : List ℕ) → has_name_bytes w ≡ true → EndsLeaf outside w
+name_ends [] named = refl
+name_ends (c ∷ w) named =
+    let parts = both (is_name_byte c) (has_name_bytes w) named in
+    (outside, rw (in_word c w parts.0 (none_ahead w parts.1)) refl, name_ends w parts.1)
+
+bytes_append : (a b : List ℕ) → has_name_bytes a ≡ true → has_name_bytes b ≡ true → has_name_bytes (a ++ b) ≡ true
+bytes_append [] b first second = second
+bytes_append (c ∷ a) b first second =
+    let parts = both (is_name_byte c) (has_name_bytes a) first in
+    rw (parts.0, bytes_append a b parts.1 second) refl
+
+-- the last byte is that of the second
+ends_append : (a : List ℕ) (c : ℕ) (w : List ℕ) → ends_in_colon (a ++ c ∷ w) ≡ ends_in_colon (c ∷ w)
+ends_append [] c w = refl
+ends_append (b ∷ []) c w = refl
+ends_append (b ∷ d ∷ a) c w = ends_append (d ∷ a) c w
+
+some_append : (a : List ℕ) (c : ℕ) (w : List ℕ) → a ++ c ∷ w ≢ []
+some_append [] c w = λ none. absurd (cc)
+some_append (b ∷ a) c w = λ none. absurd (cc)
+
+longer_word : (a : List ℕ) (c : ℕ) (w : List ℕ) → has_name_bytes a ≡ true → is_utf8 a ≡ true → IsDebugWord (c ∷ w) → IsDebugWord (a ++ c ∷ w)
+longer_word a c w named utf8 h =
+    let bytes = bytes_append a (c ∷ w) named h.bytes in
+    record {
+      whole = record {
+        some = some_append a c w;
+        pieces = from_beginning (a ++ c ∷ w) (name_ends (a ++ c ∷ w) bytes);
+        utf8 = is_utf8-from_IsUtf8 (a ++ c ∷ w) (IsUtf8-append a (c ∷ w) (IsUtf8-from_is_utf8 a utf8) (IsUtf8-from_is_utf8 (c ∷ w) h.whole.utf8));
+      };
+      bytes = bytes;
+      ends = ends_append a c w ∙ h.ends;
+    }
+
+-- ---- after a front
+
+-- each name is one of a debug document
+pub debug_name : (class : Class) (w : List ℕ) → IsName class w → IsName Debug w
+debug_name Token w h = (tokens_are_debug (tuple_of w no_documents) (h, omega arith)).0
+debug_name Debug w h = h
+
+-- with the last word of a front before it, it is a name of the class
+pub longer_name : (class : Class) (front : List ℕ) (h : LastWord front) → MayNameFollow class front → (c : ℕ) (w : List ℕ) → IsName class (c ∷ w) → IsName class (h.word ++ c ∷ w)
+longer_name Token front h follows c w name = subst (λ t. IsName Token (t ++ c ∷ w)) (sym (sym (last_word_is front h) ∙ follows)) name
+longer_name Debug front h follows c w name = longer_word h.word c w h.named (ap is_utf8 (sym (last_word_is front h)) ∙ follows) name

@@ -1,0 +1,10 @@
+//! Laws, each as the contract of a function.
+ghost use Rattle.ufmt_values.specs.FieldLaws.{PrintedFieldsAreFound, PrintedFieldsArePlaced};
+
+/// A field that a struct prints, and that is a leaf, is found in the struct's text, at its place. Anything
+/// may follow the text, and before it may be any bytes without an opening bracket and a quotation mark. A
+/// word right before the struct's name is a part of the name.
+pub fn printed_fields_are_found()
+    ensures field { PrintedFieldsAreFound }
+    ensures place { PrintedFieldsArePlaced }
+{}

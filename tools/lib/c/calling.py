@@ -1,0 +1,135 @@
+"""Makes calls of the library by a program in C or in Rust, and compares what they return and leave."""
+import itertools
+import subprocess
+import sys
+
+from lib.c import cases
+from lib.top import TOP
+
+CRATE = TOP / "crates" / "ufmt_c"
+DATA = TOP / "tools" / "data" / "c"
+HEADER = CRATE / "include" / "ufmt.h"
+WARNINGS = ["-Wall", "-Wextra", "-Wconversion", "-Wpedantic", "-Werror"]
+FILL, DETAIL = 0xA5, 777
+# No bytes are at NULL in turn.
+NO_ROOM, NO_BYTES = itertools.cycle(("null", "0")), itertools.cycle(("-", "null"))
+SECONDS = 300
+
+
+class Faults:
+    def __init__(self):
+        self.count = 0
+
+    def say(self, text):
+        self.count += 1
+        if self.count <= 40:
+            print(text[:600])
+
+
+def run(words, **how):
+    """What a command printed; it must end with status 0, and soon."""
+    how = {"timeout": SECONDS, **how}
+    try:
+        ran = subprocess.run([str(word) for word in words], stdout=subprocess.PIPE, stderr=subprocess.STDOUT, **how)
+    except subprocess.TimeoutExpired:
+        sys.exit("more than %d seconds: %s" % (how["timeout"], " ".join(map(str, words))))
+    if ran.returncode:
+        said = ran.stdout.decode(errors="replace")
+        of_valgrind = "\n".join(line for line in said.splitlines() if line.startswith("=="))
+        sys.exit("status %d of %s\n%s" % (ran.returncode, " ".join(map(str, words)), of_valgrind[:3000] or said[-3000:]))
+    return ran.stdout.decode()
+
+
+def rooms(case):
+    """How long the buffers are with which a case is tried. None is no buffer."""
+    if case.length is not None:
+        return [None, 0, 1, 8, cases.FRONT]
+    if not cases.has_buffer(case):
+        return [0]
+    if case.text is None:
+        return [0, 9]
+    length = len(case.text)
+    return sorted({length + 3, length, max(length - 1, 0), length // 2, 0})
+
+
+def request(case, room):
+    """The line that asks tools/data/c/calls.c for this call."""
+    words = [case.call]
+    kinds = [kind for kind in cases.CALLS[case.call] if kind not in ("buffer", "number")]
+    if cases.has_buffer(case):
+        words.append("null" if room is None else str(room) if room or case.length is not None else next(NO_ROOM))
+    for kind, value in zip(kinds, case.arguments):
+        if kind == "bytes":
+            words.append(value.hex() or next(NO_BYTES))
+        elif kind in cases.STYLES:
+            words += map(str, value)
+        else:
+            words.append(str(int(value)))
+    return " ".join(words) + "\n"
+
+
+def outcome(wanted, result, detail, left):
+    return "wanted %s, got %d, detail %d, %r" % (wanted, result, detail, left)
+
+
+def wrong(case, room, result, detail, left):
+    """What is wrong with what a call returned and left, if anything is."""
+    room = room or 0
+    if cases.leaves_number(case):
+        room = cases.NUMBER_SIZE
+    if case.number is not None:
+        bits = (case.number % 2**64).to_bytes(room, "little")
+        return None if (result, detail, left) == (0, DETAIL, bits) else outcome("0, detail %d, %r" % (DETAIL, bits), result, detail, left)
+    if case.text is None:
+        stays = len(left) == room and (case.result == cases.NO_TEXT and cases.has_buffer(case) or left == bytes([FILL]) * room)
+        if (result, detail, stays) != (case.result, DETAIL if case.detail is None else case.detail, True):
+            return outcome("%d, detail %s, and the buffer as it was" % (case.result, case.detail), result, detail, left)
+        return None
+    length = len(case.text) if case.length is None else case.length
+    if detail != min(length, cases.SIZE_MAX):
+        return outcome("detail %d" % length, result, detail, left)
+    if result != (length if length <= room else cases.FULL):
+        return outcome("%d" % (length if length <= room else cases.FULL), result, detail, left)
+    if left != case.text[:room] + bytes([FILL]) * max(room - length, 0):
+        return outcome("%r" % case.text, result, detail, left)
+    return None
+
+
+def compare(faults, how, tried, answers):
+    """Compares each answer with what its case expects."""
+    for (case, room), (result, detail, left) in zip(tried, answers):
+        told = wrong(case, room, result, detail, left)
+        if told:
+            faults.say("%s: %s%r in %s bytes: %s" % (how, case.call, case.arguments, room, told))
+    return len(tried)
+
+
+def answer(line):
+    result, detail, left = line.split(" ")
+    return int(result), int(detail), bytes.fromhex(left)
+
+
+def by_program(faults, program, tried, before=(), how="C", seconds=SECONDS, words=()):
+    """Tries cases by the program in C, or the one in Rust."""
+    asked = "".join(request(case, room) for case, room in tried)
+    lines = run([*before, program, *words], input=asked.encode(), timeout=seconds).splitlines()
+    if len(lines) != len(tried):
+        sys.exit("%d answers to %d calls" % (len(lines), len(tried)))
+    return compare(faults, how, tried, map(answer, lines))
+
+
+def without_detail(faults, program, tried):
+    """Tries cases with a detail at NULL: the same is returned and left as with one elsewhere."""
+    asked = "".join(request(case, room) for case, room in tried).encode()
+    for (case, room), line, other in zip(tried, run([program, "null"], input=asked).splitlines(), run([program], input=asked).splitlines()):
+        (result, detail, left), (wanted, _, text) = answer(line), answer(other)
+        if (result, detail, left) != (wanted, DETAIL, text):
+            faults.say("a detail at NULL: %s%r in %s bytes: wanted %s, got %s" % (case.call, case.arguments, room, other, line))
+    return len(tried)
+
+
+def caller_in_c(room, library):
+    """The program that makes each call, of tools/data/c/calls.c."""
+    program = room / "calls"
+    run(["gcc", "-std=c11", "-D_GNU_SOURCE", *WARNINGS, "-O1", "-g", "-I", HEADER.parent, DATA / "calls.c", library, "-o", program])
+    return program

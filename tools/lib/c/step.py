@@ -1,0 +1,112 @@
+"""Calls the library for C from C, Rust and Python, and compares what comes out with tables.
+
+It is built with nothing proved, which takes half a minute and shows what its calls do (archive.py); `--proved` takes that of `rt lib` in
+crates/ufmt_c, which proves the libraries below first if nothing of them is kept, and `--program` one that is built. The calls are those of
+ufmt.h: each public call is made, with buffers that are longer than the text, as long, one byte shorter, half as long and empty, with
+inputs that are no texts and options that mean nothing (cases.py says where what they expect comes from).
+
+- tools/data/c/calls.c makes every call, also with a detail at NULL, and valgrind sees that it touches no byte outside of its arrays.
+- tools/data/c/calls.rs makes them all from Rust, and ctypes from Python, of the same library as a shared object.
+- Random inputs with random options and buffers go through every call, some of them under valgrind (random_cases.py).
+- Each option is tried up to the largest number, with buffers of 0 to 64 bytes. All of these calls together have so many seconds.
+- The steps and the stack of calls have bounds (costs.py).
+- The callers of crates/ufmt_c/examples, in C, Rust and Python, convert texts of each kind (callers.py).
+- ufmt.h is C and C++ without a warning, as is tools/data/c/literals.c, which includes it twice and passes each call string literals. It
+  has each exported call, and declares no other. What it declares, its macros, and how its structs are laid out, are in
+  tools/data/c/interface.txt (header.py).
+
+With `--write` it writes tools/data/c/rows.tsv again, by rustc and xxd, and interface.txt, and stops.
+"""
+import pathlib
+import shutil
+import tempfile
+
+from lib import measures
+from lib.c import archive, callers, cases, checked, costs, header, stored
+from lib.c import huge as huge_options
+from lib.c import leaves
+from lib.c.calling import CRATE, DATA, DETAIL, FILL, Faults, by_program, caller_in_c, compare, rooms, run, without_detail
+from lib.c.library import Library
+from lib.c.random_cases import RandomCases
+
+LEAST_CASES, LEAST_HUGE = 2_000, 5_000
+# What all calls with huge options may take together from C: they take less than one.
+HUGE_SECONDS = 20
+# Each of so many of these cases is counted, with these buffers.
+COUNTED_EACH, COUNTED_ROOMS = 3, (None, cases.FRONT, 4096)
+# So many random calls are made at least, by so many cases. Of each five, valgrind runs and counts one.
+RANDOM_CASES, LEAST_RANDOM, RANDOM_EACH = 44_000, 100_000, 5
+
+
+def at_random(faults, program, seed):
+    """Makes random calls, some of them under valgrind. Returns how many, and those whose steps are counted."""
+    made = RandomCases(seed)
+    tried = [(case, room) for case in made.made(RANDOM_CASES) for room in made.rooms(case)]
+    if len(tried) < LEAST_RANDOM or {case.call for case, _ in tried} != set(cases.CALLS) - {"version"}:
+        faults.say("only %d random calls, of %d names" % (len(tried), len({case.call for case, _ in tried})))
+    by_program(faults, program, tried, how="C, at random")
+    some = tried[::RANDOM_EACH]
+    if shutil.which("valgrind"):
+        by_program(faults, program, some, checked.VALGRIND, "C under valgrind, at random")
+    return len(tried), some
+
+
+def by_rust(faults, room, library, tried):
+    """Tries cases by the program in Rust."""
+    if not shutil.which("rustc"):
+        print("no rustc: no call is made from Rust")
+        return 0
+    program = room / "calls_rust"
+    run(["rustc", "--edition", "2024", "-D", "warnings", "-O", "-L", library.parent, DATA / "calls.rs", "-o", program])
+    return by_program(faults, program, tried, how="Rust")
+
+
+def built(room, given):
+    """The library to try, and which functions of a C library it may need."""
+    if given.proved:
+        run(["rt", "lib"], cwd=CRATE, timeout=3600)
+        return CRATE / "out" / "libufmt_c.a", ["memmove", "__udivti3"]
+    library = pathlib.Path(given.program).resolve() if given.program else archive.unproved(room)
+    return library, ["memmove", "memcpy", "memset", "__udivti3"]
+
+
+def cases_of_tables(faults):
+    """The cases of the tables, and those with huge options, each with its buffers; and the cases alone."""
+    made, huge = [*cases.all_cases(), *leaves.all_cases()], huge_options.huge_options()
+    missing = set(cases.CALLS) - {case.call for case in made}
+    if missing or len(made) < LEAST_CASES or len(huge) < LEAST_HUGE:
+        faults.say("only %d cases, %d with huge options, and none of %s" % (len(made), len(huge), sorted(missing)))
+    return made, huge, [(case, room) for case in made for room in rooms(case)], [(case, room) for case in huge for room in rooms(case)]
+
+
+def main(given):
+    if given.write:
+        stored.write_rows()
+        return 0
+    faults, is_ours = Faults(), not given.proved and not given.program
+    made, huge, tried, tried_huge = cases_of_tables(faults)
+    with tempfile.TemporaryDirectory(prefix="x-c-") as folder:
+        room = pathlib.Path(folder)
+        library, needed = built(room, given)
+        header.header(faults, library, needed)
+        header.by_literals(room, library)
+        program, shared = caller_in_c(room, library), room / "libufmt_c.so"
+        run(["gcc", "-shared", "-o", shared, "-Wl,--whole-archive", library, "-Wl,--no-whole-archive"])
+        # The calls that might never end come first.
+        by_program(faults, program, tried_huge, seconds=HUGE_SECONDS)
+        by_all = len(tried_huge) + by_program(faults, program, tried)
+        tried += tried_huge
+        randomly, some = at_random(faults, program, given.seed)
+        counted = [(case, size) for case in huge[::COUNTED_EACH] for size in COUNTED_ROOMS] + some
+        steps = costs.compared_steps(faults, program, counted, measures.Table("c") if is_ours else None)
+        if is_ours:
+            costs.stacks(faults, program)
+        by_all += without_detail(faults, program, tried[:: 1 if len(tried) < 1000 else 7])
+        from_rust = by_rust(faults, room, library, tried)
+        by_valgrind = checked.under_valgrind(faults, program, made + huge)
+        loaded = Library(shared)
+        compare(faults, "Python", tried, (loaded.make(case, size, FILL, DETAIL) for case, size in tried))
+        by_pages = callers.by_callers(faults, room, library, shared, made)
+    print("%d cases of %d calls: %d calls from C and as many from Python, %d from Rust, %d under valgrind, %d at random, the steps of %d, %d by the page's callers, %d faults"
+          % (len(made) + len(huge), len(cases.CALLS), by_all, from_rust, by_valgrind + len(some), randomly, steps, by_pages, faults.count))
+    return 1 if faults.count else 0

@@ -1,0 +1,96 @@
+"""Each public function and macro of the libraries is a call that a probe lists, or has a reason in tools/data/calls.txt.
+
+probe_memory, in which `x try memory` refuses each allocation, prints a line for each of its calls, which begins with the call's name:
+the function's, or its type's and its own. probe_model, whose results `x try texts` compares with a model, counts the calls of a text by
+names of their own, and its line of a text has names for what it compares. A reason may say which of these calls makes a function, as
+"`events` of probe_model", and name files of tests.
+
+A fault is a function that is neither listed nor has a reason, a reason for no function or for one that is listed, one that names a call
+that its probe doesn't list, and one that names a file in which the function isn't. `x list calls` prints each function with its call or
+its reason.
+"""
+import fnmatch
+import re
+
+from lib.contracts.functions import Exports, functions_of
+from lib.findings import ended
+from lib.top import TOP, libraries
+
+CRATES = TOP / "crates"
+REASONS = TOP / "tools" / "data" / "calls.txt"
+MACRO = re.compile(r"^#\[macro_export\]\n(?:#.*\n)*macro_rules! (\w+)", re.M)
+COUNTED = re.compile(r'count!\(\s*\w+,\s*"([^"]+)"')
+NAMED = re.compile(r"`([^`]+)` of (probe_\w+)")
+
+
+def sources(crate):
+    paths = sorted((CRATES / crate / "src").rglob("*.rt"))
+    return [path for path in paths if not {"tests", "tests.rt"} & set(path.parts)]
+
+
+def public_of(crate):
+    """The public functions, methods and macros of a library: `crate::name`, `crate::Type::name` or `crate::name!`."""
+    exports = Exports(CRATES / crate / "src")
+    for path in sources(crate):
+        for function in functions_of(path):
+            if exports.has(function):
+                yield "::".join(filter(None, (crate, function.owner and function.owner_name(), function.name)))
+        yield from ("%s::%s!" % (crate, name) for name in MACRO.findall(path.read_text()))
+
+
+def listed():
+    """The names of each probe's calls."""
+    printed = {probe: (CRATES / probe / "stdout").read_text() for probe in ("probe_memory", "probe_model")}
+    of_memory = set(re.findall(r"^([\w:]+)", printed["probe_memory"], re.M))
+    of_model = {name for path in sources("probe_model") for name in COUNTED.findall(path.read_text())}
+    compared = set(re.findall(r"[a-z]+(?: [a-z]+)*(?= (?:yes|no|\d|\[))", printed["probe_model"]))
+    return {"probe_memory": of_memory, "probe_model": of_model | compared}
+
+
+def called(functions, names):
+    """The functions whose own name is that of a call. A name without a type may be one function's only."""
+    own = [function.split("::")[-1].rstrip("!") for function in functions]
+    typed = ["::".join(function.split("::")[1:]) for function in functions]
+    return {one: name for one, name, whole in zip(functions, own, typed) if name in names and own.count(name) == 1 or whole in names}
+
+
+def reasons():
+    """Each reason with the functions that it is for, which can have stars, and the line where it stands."""
+    line = 1
+    for block in REASONS.read_text().split("\n\n"):
+        reason, *rows = block.strip("\n").split("\n")
+        if not reason.startswith("#"):
+            yield line, reason, [word for row in rows for word in row.split()]
+        line += block.count("\n") + 2
+
+
+def wrong(reason, function, names):
+    """What the reason says of the function that isn't so."""
+    for name, probe in NAMED.findall(reason):
+        if name not in names[probe]:
+            yield "%s lists no call `%s`" % (probe, name)
+    files = [TOP / file for file in re.findall(r"\S+\.rt", reason)]
+    word = r"\b" + re.escape(function.split("::")[-1])
+    if files and not any(file.is_file() and re.search(word, file.read_text()) for file in files):
+        yield "%s isn't in the files that its reason names" % function
+
+
+def main(arguments):
+    functions = [function for crate in libraries() for function in dict.fromkeys(public_of(crate))]
+    names, given, faults = listed(), {}, []
+    calls = called(functions, names["probe_memory"])
+    for line, reason, patterns in reasons():
+        for wanted in patterns:
+            found = fnmatch.filter(functions, wanted)
+            said = ["there is no function %s" % wanted] * (not found)
+            said += ["%s is a call of probe_memory" % one for one in found if one in calls]
+            said += [fault for one in found for fault in wrong(reason, one, names)]
+            faults += ["%s:%d: %s" % (REASONS.relative_to(TOP), line, fault) for fault in said]
+            given.update(dict.fromkeys(found, reason))
+    left = [one for one in functions if one not in calls and one not in given]
+    faults += ["%s:1: %s is no call of probe_memory, and has no reason" % (REASONS.relative_to(TOP), one) for one in left]
+    if arguments == ["--list"]:
+        for one in functions:
+            print("%s: %s" % (one, "`%s` of probe_memory" % calls[one] if one in calls else given.get(one)))
+    counts = len(functions), len(calls), len(given)
+    return ended(faults, "%d public functions and macros: %d are calls of probe_memory, %d have a reason" % counts)

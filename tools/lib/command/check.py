@@ -1,0 +1,110 @@
+"""Checks a crate of yours in minutes, with nothing proved before.
+
+It reads the libraries below the crate from their sources, and trusts them: of a library it checks what your functions call, and
+nothing else. So it names each wrong contract, `ghost` line and body of your crate, and its verdict is worth as much as the
+libraries' own proofs, which `rt check` makes first. With ITEMs, each a module or a function of the crate, it checks these
+alone. An ITEM is a path below the crate: `types` is a module, `types::write_to` a function, `types::Pair::swap` a method, and
+`types::PairuDebug::fmt` is `fmt` of `uDebug` for `Pair`. What it found is kept in the crate's `out/`, so the next run checks what
+changed.
+
+It runs at the top of a repository with a `crates.txt`, or below it; CRATE is a name in there. It needs the Rattle kit on the path.
+It prints what `rattle check` says, but for the lines of functions that are proved; its last line begins with `checked:` or with
+`not checked:`, and says that the libraries are trusted. The status is 0 if all is proved.
+"""
+import os
+import pathlib
+import re
+import shutil
+import signal
+import subprocess
+import sys
+
+from lib import needs, top
+
+CHECKER = shutil.which("rattle")
+PROVED = re.compile(r"^(?:fn|struct|enum|trait|impl) .*: proved$")
+ONLY = re.compile(r"^only=(\d+) proved=(\d+)")
+NOISE = ("logic ", "statements ", "library ", "crate ", "checked ", "so far: checked ")
+
+
+def below(crate, lines):
+    """The crates of the repository that this one stands on, each after those that it stands on itself."""
+    order = []
+
+    def visit(name):
+        for dependency in lines[name]:
+            if dependency in lines and dependency not in order:
+                visit(dependency)
+                order.append(dependency)
+
+    visit(crate)
+    return order
+
+
+def root_of(folder):
+    """The root file of a crate."""
+    main = folder / "src" / "main.rt"
+    return main if main.is_file() else folder / "src" / "lib.rt"
+
+
+def command(repository, crate, lines, paths, jobs, tests=False):
+    """The call of `rattle check`."""
+    folder = repository / "crates" / crate
+    kit = pathlib.Path(CHECKER).resolve().parent.parent
+    libraries = sorted({name for one in [crate, *below(crate, lines)] for name in lines[one] if name not in lines} | {"std"})
+    call = [CHECKER, "check", "--crate-name", crate, str(root_of(folder).relative_to(folder))]
+    for name in libraries:
+        call += ["--extern", "%s=%s" % (name, kit / "rlibs" / (name + ".rlib"))]
+    call += ["-L", "dependency=%s" % (kit / "rlibs"), "--antt-project", str(kit / "rattle/logic/antt-project.json")]
+    call += ["--logic-built", str(kit / "logic_built"), "--jobs", str(jobs)]
+    call += ["--incremental", str(folder / "out" / "trusting")]
+    for name in below(crate, lines):
+        call += ["--lib", "%s:%s=../%s/src/lib.rt" % (name, ",".join(["std"] + lines[name]), name)]
+    if tests:
+        call += ["--test"]
+    for path in paths:
+        call += ["--only", path]
+    return call
+
+
+def ended(run):
+    """Ends the checker and its processes, if this tool is ended."""
+    os.killpg(run.pid, signal.SIGTERM)
+    sys.exit("not checked: ended before the verdict")
+
+
+def add_arguments(parser):
+    parser.add_argument("crate", metavar="CRATE", help="a crate of crates.txt")
+    parser.add_argument("items", metavar="ITEM", nargs="*", help="a module or a function of it: then only these are checked")
+    parser.add_argument("--tests", action="store_true", help="check the crate with its tests: that each is safe, not that it passes")
+    parser.add_argument("--jobs", metavar="N", type=int, default=os.cpu_count() or 1, help="how many functions side by side, each with some memory (%(default)s)")
+
+
+def main(given):
+    repository = top.nearest()
+    if repository is None:
+        sys.exit("x check: no crates.txt here or above")
+    lines = top.listed(repository)
+    if given.crate not in lines:
+        sys.exit("x check: crates.txt names no crate %s" % given.crate)
+    if not CHECKER:
+        sys.exit("x check: %s" % needs.told("rattle"))
+    folder = repository / "crates" / given.crate
+    # The name of a crate stands for all of its functions.
+    paths = given.items or [given.crate]
+    (folder / "out" / "trusting").mkdir(parents=True, exist_ok=True)
+    run = subprocess.Popen(command(repository, given.crate, lines, paths, given.jobs, given.tests), cwd=folder, text=True, start_new_session=True,
+                           stdout=subprocess.PIPE, stderr=subprocess.STDOUT)
+    for number in (signal.SIGINT, signal.SIGTERM):
+        signal.signal(number, lambda _number, _frame: ended(run))
+    counts = None
+    for line in run.stdout:
+        counts = ONLY.match(line) or counts
+        if not (PROVED.match(line) or ONLY.match(line) or line.startswith(NOISE)):
+            print(line, end="", flush=True)
+    status = run.wait()
+    said = "%s of %s functions proved; " % (counts[2], counts[1]) if counts else ""
+    if status < 0:
+        said += "the checker was killed by signal %d%s; " % (-status, ", mostly for want of memory: fewer --jobs need less" if status == -signal.SIGKILL else "")
+    print("%s: %sthe libraries are trusted" % ("not checked" if status else "checked", said))
+    return 1 if status < 0 else status

@@ -1,0 +1,62 @@
+"""Runs everything: what `.ci/run` calls.
+
+First the steps of `x try` that only look at the sources, which take seconds. Then `rt ci`, which proves every crate and runs every test
+and program. Then the other steps of `x try`, some side by side. It ends early if the sources or `rt ci` fail, and last prints a table of
+steps, with the seconds of each and what it found. The status is 0 if nothing failed.
+"""
+import re
+import subprocess
+import time
+
+from lib import needs, running, steps, times, top
+from lib.command import trying
+
+# What `rt ci` says of a crate that it has checked, or need not check.
+ENDED = re.compile(r"rt: (\w+) (?:proved|NOT PROVED|is kept)")
+
+
+def add_arguments(parser):
+    parser.add_argument("--jobs", metavar="N", type=int, default=min(4, needs.processors()), help="how many steps side by side (%(default)s)")
+
+
+def proved():
+    """Runs `rt ci`, and shows what it prints, with how many crates are proved."""
+    began, last, count, whole = time.monotonic(), "nothing was said", 0, len(top.listed())
+    process = running.begun(["rt", "ci"], cwd=top.TOP, stdin=subprocess.DEVNULL, stdout=subprocess.PIPE, stderr=subprocess.STDOUT)
+    for line in running.lines_of(process):
+        if line is not None:
+            trying.say(line)
+            last = line.strip() or last
+        ended = ENDED.match(line or "")
+        count += bool(ended)
+        if ended or line is None:
+            trying.say("%d of %d crates%s, after %s" % (count, whole, ": " + ended[1] if ended else "", times.told(time.monotonic() - began)))
+    return trying.Result("rt ci", time.monotonic() - began, process.wait(), last)
+
+
+def groups(given):
+    """The results of each group of steps, one after another."""
+    cheap = [step for step in steps.STEPS if step.name in steps.CHEAP]
+    yield from (trying.all_of(cheap, [], given.jobs), iter_of(proved), trying.all_of([step for step in steps.STEPS if step not in cheap], [], given.jobs))
+
+
+def iter_of(made):
+    yield made()
+
+
+def main(given):
+    needs.require("ci", "rt")
+    trying.say_missing(steps.STEPS)
+    began, results = time.monotonic(), []
+    print(times.last("ci") or "no run here ended well yet", flush=True)
+    for group in groups(given):
+        results += list(group)
+        if any(result.status for result in results):
+            break
+    for result in results:
+        print("%-10s %-8s %6d s  %s" % (result.name, result.said(), result.seconds, result.found[:150]))
+    status = trying.closing(results)
+    if status:
+        return status
+    times.keep("ci", time.monotonic() - began)
+    return 0

@@ -1,0 +1,62 @@
+"""Tries the edits of crates/CRATE/more-edits.txt, or those of every crate that has some.
+
+The check must refuse each edit, as it must those of must-fail/. The gate leaves these edits out, because they take long. Run this on a
+crate before a change to it lands. It works on a clone of HEAD in a temporary folder: it tries only what is committed, and changes
+nothing here. It prints a line for each edit, and last `N refused, M not refused`. Its status is 1 if an edit is not refused, or can't be
+applied or read.
+"""
+import pathlib
+import shutil
+import subprocess
+import sys
+import tempfile
+
+from lib import running
+from lib.top import TOP
+
+SAYS = "rt: must-fail "
+
+
+def add_arguments(parser):
+    parser.add_argument("crates", metavar="CRATE", nargs="*", help="a crate with a file more-edits.txt")
+
+
+def clone(room, crates):
+    """A clone of HEAD, in which these crates have only the edits to try in must-fail/. Returns how many."""
+    from lib.pages import edits
+
+    subprocess.run(["git", "clone", "--quiet", str(TOP), str(room)], check=True)
+    count = 0
+    for crate in crates:
+        folder = room / "crates" / crate / "must-fail"
+        shutil.rmtree(folder, ignore_errors=True)
+        count += edits.write(room / "crates" / crate / "more-edits.txt", folder)
+    # Built libraries are copied. `rt` builds those anew whose files have changed.
+    for built in TOP.glob("crates/*/out/rlib"):
+        shutil.copytree(built, room / built.relative_to(TOP), symlinks=True)
+    return count
+
+
+def main(given):
+    having = sorted(path.parent.name for path in TOP.glob("crates/*/more-edits.txt"))
+    unknown = sorted(set(given.crates) - set(having))
+    if unknown:
+        sys.exit("x edits: there is no more-edits.txt of %s" % ", ".join(unknown))
+    crates, refused, said, last = given.crates or having, 0, 0, []
+    with tempfile.TemporaryDirectory(prefix="x-edits-") as folder:
+        room = pathlib.Path(folder) / "clone"
+        count = clone(room, crates)
+        process = running.begun(["rt", "must-fail", *crates], cwd=room, stdin=subprocess.DEVNULL, stdout=subprocess.PIPE, stderr=subprocess.STDOUT)
+        for line in running.lines_of(process):
+            last = [*last[-19:], line or ""]
+            if line is None:
+                print("%d of %d edits" % (said, count), flush=True)
+            elif line.startswith(SAYS):
+                print(line[len(SAYS):], flush=True)
+                said += 1
+                refused += line.split(":")[2].strip().startswith("refused")
+        process.wait()
+    if not said:
+        print("\n".join(last))
+    print("%d refused, %d not refused" % (refused, count - refused))
+    return 0 if refused == count else 1

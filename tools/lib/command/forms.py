@@ -1,0 +1,138 @@
+"""Shows that the check still refuses each form of docs/forms, in the words that its file quotes.
+
+Run it with a new kit: a form that is no longer refused can be had.
+
+NAME.rt.txt is src/lib.rt of a crate NAME, and NAME.antt.txt, where there is one, its specs/Lib.antt. The head comment of
+NAME.rt.txt has the wish, and then these lines:
+
+    //! says: WORDS      what the check says; there may be several such lines
+    //! uses: CRATES     the crates of this repository that the form is over; without this line, none
+    //! by: verdict      `rt verdict` refuses it, and not `rt check`
+
+It makes a repository in a temporary folder. With no argument it tries the forms that use no crate of this repository. The crates that
+forms use are copied, with what `rt check` and `rt lib` left in out/: what isn't there is proved first, which may take an hour. It needs
+`rt` on the path.
+
+It prints a line for each form that is no longer refused, or not in these words, with the last lines that were said; for
+each file that docs/DECISIONS.md doesn't name; and for each name there that has no file. The last line has counts. Its
+status is 1 if there was such a line.
+"""
+import pathlib
+import re
+import shutil
+import subprocess
+import sys
+import tempfile
+
+from lib.findings import ended
+from lib.top import TOP, listed
+
+FORMS = TOP / "docs" / "forms"
+PAGE = TOP / "docs" / "DECISIONS.md"
+HEAD = re.compile(r"^//! (says|uses|by): (.*)$", re.M)
+KEPT = ("src", "specs", "proofs", "out/incremental", "out/rlib")
+
+
+class Form:
+    """A form, and what its head comment says of it."""
+
+    def __init__(self, path):
+        self.path, self.name = path, path.name.removesuffix(".rt.txt")
+        self.says, self.uses, self.command = [], [], "check"
+        for key, value in HEAD.findall(path.read_text()):
+            if key == "says":
+                self.says.append(value)
+            elif key == "uses":
+                self.uses = value.split()
+            else:
+                self.command = value
+
+    def write(self, room):
+        crate = room / "crates" / self.name
+        (crate / "src").mkdir(parents=True)
+        shutil.copy(self.path, crate / "src" / "lib.rt")
+        spec = FORMS / (self.name + ".antt.txt")
+        if spec.exists():
+            (crate / "specs").mkdir()
+            shutil.copy(spec, crate / "specs" / "Lib.antt")
+
+    def fault(self, room):
+        """What is wrong with the form, or None."""
+        if not self.says:
+            return "no line `//! says:`"
+        ran = subprocess.run(["rt", self.command, "--jobs", "1"], cwd=room / "crates" / self.name, stdin=subprocess.DEVNULL,
+                             stdout=subprocess.PIPE, stderr=subprocess.STDOUT)
+        said = ran.stdout.decode(errors="replace")
+        if ran.returncode == 0:
+            return "not refused"
+        missing = [words for words in self.says if words not in said]
+        if missing:
+            return "nothing says `%s`; last was said:\n%s" % (missing[0], "\n".join(said.splitlines()[-20:]))
+        return None
+
+
+def crates_of(forms):
+    """The crates that the forms use and those below them, each with what it stands on."""
+    lines, found, left = listed(), {}, [crate for form in forms for crate in form.uses]
+    while left:
+        crate = left.pop()
+        if crate in lines and crate not in found:
+            found[crate] = lines[crate]
+            left += lines[crate]
+    return found
+
+
+def make_room(room, forms):
+    crates = crates_of(forms)
+    for crate in crates:
+        for part in KEPT:
+            if (TOP / "crates" / crate / part).is_dir():
+                shutil.copytree(TOP / "crates" / crate / part, room / "crates" / crate / part, symlinks=True)
+    rows = {**crates, **{form.name: form.uses for form in forms}}
+    (room / "crates.txt").write_text("".join("%s: %s\n" % (crate, " ".join(below)) for crate, below in rows.items()))
+    for form in forms:
+        form.write(room)
+
+
+def page_faults(forms):
+    """Forms without an entry on the page, and entries without a form."""
+    names = {form.name for form in forms}
+    on_page = set(re.findall(r"\(forms/(\w+)\.(?:rt|antt)\.txt\)", PAGE.read_text()))
+    for name in sorted(names - on_page):
+        yield "%s: docs/DECISIONS.md has no link to it" % name
+    for name in sorted(on_page - names):
+        yield "%s: docs/DECISIONS.md names it, and it isn't in docs/forms" % name
+
+
+def chosen(forms, given):
+    if given.all:
+        return forms
+    if not given.names:
+        return [form for form in forms if not form.uses]
+    unknown = set(given.names) - {form.name for form in forms}
+    if unknown:
+        sys.exit("x forms: no form is named %s" % ", ".join(sorted(unknown)))
+    return [form for form in forms if form.name in given.names]
+
+
+def add_arguments(parser):
+    parser.add_argument("names", metavar="NAME", nargs="*", help="a form of docs/forms")
+    parser.add_argument("--all", action="store_true", help="each form, also those over crates of this repository")
+
+
+def main(given):
+    forms = [Form(path) for path in sorted(FORMS.glob("*.rt.txt"))]
+    tried = chosen(forms, given)
+    if not tried:
+        sys.exit("x forms: docs/forms has no form to try")
+    faults = list(page_faults(forms))
+    refused = 0
+    with tempfile.TemporaryDirectory(prefix="x-forms-") as room:
+        room = pathlib.Path(room)
+        make_room(room, tried)
+        for number, form in enumerate(tried, 1):
+            fault = form.fault(room)
+            print("%d of %d: %s: %s" % (number, len(tried), form.name, "another answer" if fault else "refused"), flush=True)
+            refused += fault is None
+            faults += ["%s: %s" % (form.name, fault)] if fault else []
+    return ended(faults, "%d forms: %d tried, %d refused as they say" % (len(forms), len(tried), refused))

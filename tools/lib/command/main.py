@@ -1,0 +1,49 @@
+"""Reads the words of `./x`, and calls the command."""
+import argparse
+import importlib
+import signal
+import sys
+
+from lib import running
+
+# Each command is a module, with the text of its help, `add_arguments` and `main`.
+COMMANDS = {
+    "new": "lib.command.new", "update": "lib.command.update", "check": "lib.command.check", "test": "lib.command.test", "try": "lib.command.trying",
+    "ci": "lib.command.ci", "bench": "lib.command.bench", "measure": "lib.command.measure", "dist": "lib.command.dist", "install": "lib.command.install",
+    "uninstall": "lib.command.uninstall", "edits": "lib.command.edits", "clauses": "lib.command.clauses", "forms": "lib.command.forms",
+    "generate": "lib.command.generate", "list": "lib.command.listing", "rust": "lib.rust.command",
+}
+
+
+def interrupted(_number, _frame):
+    raise KeyboardInterrupt
+
+
+def module_of(command):
+    return importlib.import_module(COMMANDS[command])
+
+
+def parser():
+    made = argparse.ArgumentParser(prog="x", description="Checks, tests, measures and packages this repository.",
+                                   epilog="`x COMMAND --help` says more of a command. The status is 0 if nothing failed, 1 if something did, and 2 for words "
+                                          "that aren't understood.")
+    commands = made.add_subparsers(dest="command", required=True, metavar="COMMAND")
+    for command in COMMANDS:
+        module = module_of(command)
+        first, _, rest = module.__doc__.strip().partition("\n")
+        added = commands.add_parser(command, help=first.rstrip("."), description=first + "\n" + rest, formatter_class=argparse.RawDescriptionHelpFormatter)
+        module.add_arguments(added)
+    return made
+
+
+def main(words):
+    given = parser().parse_args(words)
+    for number in (signal.SIGINT, signal.SIGTERM, signal.SIGHUP):
+        signal.signal(number, interrupted)
+    try:
+        return module_of(given.command).main(given)
+    except KeyboardInterrupt:
+        print("x %s: ended" % given.command, file=sys.stderr)
+        return 130
+    finally:
+        running.end_all()

@@ -1,0 +1,82 @@
+"""Makes a crate of yours, over copies of the library crates that it needs.
+
+It runs at the top of a repository of yours, which may be an empty folder, or below. It copies the crates, with their licences, adds their
+lines to crates.txt, and writes a first file: a struct that is printed, with a test; with `parse` it is parsed too. A second run with
+another `--with` adds what is missing. A file that you changed is never replaced, and what was copied is kept in `ufmt/COPIED` of the
+crates.
+
+    parse      a value from its text
+    values     a field in a line of a log, without memory
+    snapshot   a value compared with a stored text
+    doc        a text read as a document, and a field of it
+"""
+import re
+import sys
+
+from lib import top
+
+# What the line of a crate has for each, and the folder of a library of this repository.
+NEEDS = {"parse": ("ufmt_parse", "ufmt", "ufmt_core"), "values": ("ufmt_values", "ufmt"), "snapshot": ("ufmt_snapshot", "ufmt"), "doc": ("ufmt_doc", "ufmt")}
+
+
+def features(text):
+    found = [word for word in text.split(",") if word]
+    unknown = [word for word in found if word not in NEEDS]
+    if unknown:
+        raise ValueError(", ".join(unknown))
+    return found
+
+
+def add_arguments(parser):
+    parser.add_argument("name", metavar="NAME", help="the crate's name, as my_types")
+    parser.add_argument("--with", dest="features", metavar="WHAT", type=features, default=[], help="one or several of parse,values,snapshot,doc")
+    parser.add_argument("--program", action="store_true", help="a program, in place of a library")
+
+
+def line_of(wanted):
+    """The line of a crate that does all this."""
+    return list(dict.fromkeys([name for feature in wanted for name in NEEDS[feature]] + ["ufmt"]))
+
+
+def refuse(name, repository):
+    """Ends where there can be no such crate."""
+    if not re.fullmatch(r"[a-z][a-z0-9_]*", name):
+        sys.exit("x new: %s is no name of a crate: small letters, digits and `_`" % name)
+    if name in top.listed() and name in copied_from_here(repository):
+        sys.exit("x new: %s is a crate of the library" % name)
+
+
+def copied_from_here(repository):
+    from lib.copies import copying
+
+    return set(top.listed()) if repository != top.TOP else set(copying.closure([name for names in NEEDS.values() for name in names]))
+
+
+def main(given):
+    from lib.copies import copying, first
+
+    repository = copying.repository_here("new")
+    refuse(given.name, repository)
+    copies, is_here = copying.Copies(repository), repository == top.TOP
+    older = copies.older()
+    if older:
+        sys.exit("x new: the copies are of %s, and this is another version: call `x update` first" % copies.kept.version)
+    there = copies.lines.below(given.name)
+    line = list(dict.fromkeys([*(there or []), *line_of(given.features)]))
+    if not is_here:
+        copies.take(copying.closure(line_of(given.features)), given.name)
+    if line != there:
+        copies.lines.put(given.name, line)
+    written = first.write(repository, copies.crates / given.name, given.features, given.program)
+    if is_here:
+        copies.lines.write()
+    else:
+        copies.end()
+        print("%d files of %d crates copied to %s" % (copies.count, len(copies.names()), copies.crates))
+    print("crates.txt: %s: %s" % (given.name, " ".join(line)))
+    for path in written or []:
+        print("%s: written" % path.relative_to(repository))
+    if not written:
+        print("%s: stays as it is" % (copies.crates / given.name).relative_to(repository))
+    print("next: (cd %s && rt fmt && rt try --test), then %s check %s" % (copies.crates / given.name, top.X, given.name))
+    return 0

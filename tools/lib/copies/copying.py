@@ -1,0 +1,151 @@
+"""Copies crates of this repository into a user's repository, and brings what was copied up to date."""
+import os
+import pathlib
+import shutil
+import sys
+
+from lib import top
+from lib.copies.crates_txt import CratesTxt
+from lib.copies.kept import COPIED, Kept, sum_of
+
+# What a user needs of a crate. Wrong bodies and what tells of them stay here.
+PARTS = ("src", "specs", "proofs", "CALLING.md")
+LICENCES = ("LICENSE-APACHE", "LICENSE-MIT")
+# What `rt` keeps of a crate that it proved. It is taken along, so that nothing is proved twice.
+PROVED = ("out/incremental", "out/rlib", "out/rlibs")
+
+
+def closure(names):
+    """These crates of this repository and those below them, lowest first."""
+    listed, found = top.listed(), []
+
+    def add(name):
+        for below in listed[name]:
+            if below in listed and below not in found:
+                add(below)
+        if name not in found:
+            found.append(name)
+
+    for name in names:
+        add(name)
+    return found
+
+
+def files_of(crate):
+    """The files of a crate that are copied, by their paths below the folder of crates."""
+    folder, found = top.TOP / "crates" / crate, {}
+    for part in PARTS:
+        paths = [folder / part] if (folder / part).is_file() else sorted((folder / part).rglob("*"))
+        found.update(("%s/%s" % (crate, path.relative_to(folder)), path) for path in paths if path.is_file())
+    if crate == "ufmt":
+        found.update(("ufmt/" + name, top.TOP / name) for name in LICENCES)
+    return found
+
+
+class Copies:
+    """The copies in a repository: `crates` is its folder of crates. `said` collects what was left as it is, and why."""
+
+    def __init__(self, repository):
+        self.repository = repository
+        self.lines = CratesTxt(repository)
+        is_flat = self.lines.rows and not (repository / "crates").is_dir()
+        self.crates = repository if is_flat else repository / "crates"
+        self.kept, self.said, self.count = Kept(self.crates), [], 0
+
+    def names(self):
+        """The crates that were copied."""
+        return sorted(self.kept.lines)
+
+    def older(self):
+        """Files that are as they were copied, and are different here now."""
+        now = {file: path for crate in self.names() if crate in top.listed() for file, path in files_of(crate).items()}
+        return [file for file, path in now.items() if (self.crates / file).is_file() and self.kept.is_ours(self.crates, file) and sum_of(path) != self.kept.sums[file]]
+
+    def take(self, crates, before=None):
+        """Copies these crates, which are lowest first, and writes their lines before that of another crate."""
+        for crate in crates:
+            is_new = not (self.crates / crate).exists()
+            for file, path in files_of(crate).items():
+                self.take_file(file, path)
+            if is_new:
+                self.take_proved(crate)
+            self.take_line(crate, top.listed()[crate], before)
+
+    def take_file(self, file, path):
+        """Copies a file, unless another one is there that isn't ours."""
+        to, wanted = self.crates / file, sum_of(path)
+        if os.path.lexists(to) and not to.is_file():
+            self.said.append("%s: stays: it isn't a file" % to.relative_to(self.repository))
+            return
+        if to.exists() and sum_of(to) != wanted:
+            if not self.kept.is_ours(self.crates, file):
+                self.said.append("%s: stays: it was changed here" % to.relative_to(self.repository))
+                return
+            to.unlink()
+        if not to.exists():
+            to.parent.mkdir(parents=True, exist_ok=True)
+            shutil.copyfile(path, to)
+            self.count += 1
+        self.kept.sums[file] = wanted
+
+    def take_proved(self, crate):
+        for part in PROVED:
+            if (top.TOP / "crates" / crate / part).is_dir():
+                shutil.copytree(top.TOP / "crates" / crate / part, self.crates / crate / part, symlinks=True)
+
+    def take_line(self, crate, below, before):
+        there = self.lines.below(crate)
+        if there is not None and there not in (below, self.kept.lines.get(crate)):
+            self.said.append("crates.txt: %s: stays: its line was changed here" % crate)
+            return
+        if there != below:
+            self.lines.put(crate, below, before)
+        self.kept.lines[crate] = below
+
+    def drop(self, crates):
+        """Removes files that were copied, are as they were, and aren't in these crates any more."""
+        wanted = {file for crate in crates for file in files_of(crate)}
+        for file in sorted(set(self.kept.sums) - wanted):
+            path = self.crates / file
+            if path.is_file() and not self.kept.is_ours(self.crates, file):
+                self.said.append("%s: stays: it was changed here, and is gone from the library" % path.relative_to(self.repository))
+            elif path.is_file():
+                path.unlink()
+                self.remove_empty(path.parent)
+                self.count += 1
+            del self.kept.sums[file]
+        for crate in set(self.kept.lines) - set(crates):
+            self.said.append("crates.txt: %s: stays: the library has no such crate any more" % crate)
+            del self.kept.lines[crate]
+
+    def remove_empty(self, folder):
+        while folder != self.crates and not any(folder.iterdir()):
+            folder.rmdir()
+            folder = folder.parent
+
+    def end(self):
+        """Writes what is kept and crates.txt, and says what stays as it is."""
+        self.kept.version = version()
+        (self.crates / COPIED).parent.mkdir(parents=True, exist_ok=True)
+        self.kept.write()
+        self.lines.write()
+        for line in self.said:
+            print(line)
+
+
+def version():
+    """The version of all crates, and the commit."""
+    from lib.packaging import folder
+
+    return "%s, commit %s" % (folder.version(), folder.commit())
+
+
+def repository_here(command):
+    """The repository in which the command is called: the nearest with a crates.txt, or this folder."""
+    found = top.nearest()
+    if found is None:
+        here = pathlib.Path.cwd()
+        if any((here / name).exists() for name in ("BUILD.bazel", "MODULE.bazel")):
+            sys.exit("x %s: the crates of %s are listed in BUILD.bazel: move their lines to a crates.txt first" % (command, here))
+        return here
+    return found

@@ -1,0 +1,71 @@
+"""Tries small crates over the libraries: their tests must pass or fail, or they mustn't compile.
+
+It writes these crates into a temporary folder, beside copies of the libraries, and runs `rt try` on each, a few side by
+side. So it proves nothing: the assertions are what counts. It needs `rt` on the path, and runs from anywhere.
+
+tools/data/crates/tests has the files of one crate of tests. tools/lib/crates/grammar.py adds one, with each form of each macro.
+A test must fail if `// fails:` stands before it, with the lines after that as its message; any other test must pass. The
+allocation of each test that has the number REFUSED is refused. Rows that say which values a call prints must name each
+implementation and each public call that prints a value of another type, as tools/lib/crates/printers.py finds them.
+
+tools/data/crates/refused has lines that must not compile, each with its messages. The compiler shows twenty errors at a time,
+so they are in several crates; those in its folder `last` are in a crate of their own, since the compiler looks for some errors
+only where it has found no others. With `--full` it also tries tools/data/crates/refused/more, and each number of fields up to 25.
+"""
+import pathlib
+import shutil
+import sys
+import tempfile
+from concurrent.futures import ThreadPoolExecutor
+
+from lib.crates import grammar, printers, refused, tests, tried
+from lib.findings import ended
+from lib.top import TOP
+
+CRATES = TOP / "tools" / "data" / "crates"
+
+
+def make_room(room):
+    """Copies the libraries, without their work."""
+    lines = (TOP / "crates.txt").read_text().splitlines()
+    (room / "crates.txt").write_text("".join(line + "\n" for line in lines if line.split(":")[0] in tried.LIBRARIES))
+    for crate in tried.LIBRARIES:
+        for part in ("src", "specs", "proofs"):
+            if (TOP / "crates" / crate / part).is_dir():
+                shutil.copytree(TOP / "crates" / crate / part, room / "crates" / crate / part)
+
+
+def missing_rows(files):
+    """What prints a value of another type and has no row, and rows of what isn't there."""
+    text = "".join(files.values())
+    named = set(printers.named_in(text))
+    found = printers.printers(TOP)
+    for name in sorted(found - named):
+        yield "no row of tools/data/crates/tests says how often %s prints a value" % name
+    for name in sorted(named - found):
+        yield "a row of tools/data/crates/tests names %s, which prints no value or isn't there" % name
+    if not found:
+        yield "no implementation was found that prints another type's value"
+
+
+def main(given):
+    is_all = given.full
+    files = tests.read(CRATES / "tests")
+    if not files or not list((CRATES / "refused").glob("*.txt")):
+        sys.exit("tools/data/crates/tests or tools/data/crates/refused has no file")
+    faults = list(missing_rows(files))
+    files["grammar"] = grammar.source(is_all)
+    folders = [CRATES / "refused"] + [CRATES / "refused" / "more"] * is_all
+    with tempfile.TemporaryDirectory(prefix="x-macros-") as room:
+        room = pathlib.Path(room)
+        make_room(room)
+        crates = [tests.Tests(room, files)]
+        crates += refused.crates(room, [path for folder in folders for path in sorted(folder.glob("*.txt"))])
+        crates += refused.crates(room, sorted((CRATES / "refused" / "last").glob("*.txt")), "last")
+        with ThreadPoolExecutor(3) as pool:
+            for found in pool.map(lambda crate: crate.faults(), crates):
+                faults += found
+    passing, failing = crates[0].counts()
+    return ended(faults, "%d crates: %d tests that pass, %d that fail, %d lines that don't compile" % (
+        len(crates), passing, failing, sum(len(crate.snippets) for crate in crates[1:])))
+

@@ -1,0 +1,30 @@
+"""What a step found, in one form: a line for each fault, as `file:line: what` or `case: wanted .., got ..`, and last a line of counts."""
+
+# So many faults are printed.
+MOST = 50
+
+
+def case(name, wanted, got):
+    return "%s: wanted %s, got %s" % (name, wanted, got)
+
+
+def most(name, bound, got, what):
+    """A count that is past its bound."""
+    return case(name, "at most %d %s" % (bound, what), got)
+
+
+def over(name, counts, allowed):
+    """A line with the first count that is more than allowed, by its name, or None."""
+    past = ((what, bound) for what, bound in allowed.items() if getattr(counts, what) > bound)
+    return next((most(name, bound, getattr(counts, what), what) for what, bound in past), None)
+
+
+def ended(faults, counts):
+    """Prints the faults and the counts, and returns the status."""
+    faults = list(faults)
+    for fault in faults[:MOST]:
+        print(fault)
+    if len(faults) > MOST:
+        print("and %d more" % (len(faults) - MOST))
+    print("%s, %d faults" % (counts, len(faults)))
+    return 1 if faults else 0

@@ -1,0 +1,71 @@
+"""Compares the texts of floats with those that rustc prints.
+
+Both programs print floats as Debug and as Display do, and with 0 to 1,100 decimals: each exponent of both formats with significands at its
+ends, subnormals, powers of ten and their neighbours, published hard cases for shortest digits, each with both signs, and random bit
+patterns of each format. Floats in the middle between two texts with decimals, for each number of decimals that a format has, and their
+neighbours too. One program is built over copies of ufmt_float and ufmt_fixed with nothing proved (tools/lib/bench/build.py), the other by
+rustc.
+
+Then ufmt prints usual floats and large ones, also with decimals, and the steps of each call are compared with their bounds by
+tools/data/measured/floats.txt, where there is valgrind. The stack of such a call, and what of it is in its caller's frame, are compared with
+their bounds in tools/lib/floats/stack.py, where there is objdump.
+
+With `--every-f32` it compares all `f32`s by digests, each for 2^24 patterns, in an hour and a half of a processor. The rows of
+src/tests/rows.rt of both crates must be what rustc prints; `--write` writes them.
+"""
+import pathlib
+import subprocess
+import tempfile
+
+from lib.findings import case, ended
+from lib.floats import patterns, programs, rows, stack, steps
+from lib.top import TOP
+
+COUNT = 20_000
+
+
+def compare_every(first):
+    """Compares the digests of all `f32`s, block by block."""
+    faults = 0
+    with tempfile.TemporaryDirectory(prefix="x-floats-") as room:
+        both = programs.ours(pathlib.Path(room)), programs.theirs(pathlib.Path(room))
+        for block in range(first, 256):
+            ends = ["%x" % (it << 24) for it in (block, block + 1)]
+            said = [subprocess.run([program, *ends], stdout=subprocess.PIPE, text=True, check=True).stdout for program in both]
+            faults += said[0] != said[1]
+            print("%d %s" % (block, said[0] if said[0] == said[1] else "%s, and by rustc %s" % tuple(said)), flush=True)
+    print("%d blocks of 2^24 floats, %d differences" % (256 - first, faults))
+    return 1 if faults else 0
+
+
+def write():
+    with tempfile.TemporaryDirectory(prefix="x-floats-") as room:
+        rows.write(programs.theirs(pathlib.Path(room)))
+    return 0
+
+
+def compare(count, seed):
+    """Compares so many random floats, and others."""
+    with tempfile.TemporaryDirectory(prefix="x-floats-") as room:
+        room = pathlib.Path(room)
+        text = patterns.lines(count, seed)
+        rustc = programs.theirs(room)
+        said = [rows.printed(program, text) for program in (programs.ours(room / "ours"), rustc)]
+        by_ufmt = programs.by_ufmt(room / "by_ufmt")
+        counts = steps.counted(by_ufmt)
+        past = steps.faults(counts) + stack.faults(by_ufmt)
+        wrong = rows.wrong(rustc)
+    different = [it for it in zip(text.splitlines(), *said) if it[1] != it[2]]
+    faults = [case(bits, wanted, found) for bits, found, wanted in different] + past
+    faults += ["%s:1: not as rustc prints: `x try floats --write` writes it" % path.relative_to(TOP) for path in wrong]
+    if len(said[0]) != len(said[1]):
+        faults.append(case("lines", len(said[1]), len(said[0])))
+    return ended(faults, "%d floats, %d differences; %d calls counted, %d past their bounds of steps or stack" % (len(said[1]), len(different), len(counts), len(past)))
+
+
+def main(given):
+    if given.write:
+        return write()
+    if given.every_f32 is not None:
+        return compare_every(given.every_f32)
+    return compare(COUNT if given.count is None else given.count, given.seed)

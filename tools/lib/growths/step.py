@@ -1,0 +1,125 @@
+"""Whether code makes an error of memory, in place of passing one on from a growth.
+
+A contract lets a call fail for want of memory at any time, and a test sees it only where the call then fails. So this is a rule. In the
+sources of the libraries, programs and examples, each line that rule.py finds must be in tools/data/growths.txt, with its reason. A growth's
+error that is changed or dropped isn't looked for: a clause refuses what comes of it, or the refused growths of the steps `costs` and
+`memory` show it.
+
+`--write` writes the table anew: a line that is new has the reason of the same line elsewhere, or `?`, in whose place a reason is then written.
+
+It also puts each wrong body of wrong_bodies.py into its source, in memory, and a wrong line into each function: one that isn't found is a
+fault. The crates of tests and the probes aren't looked at, since what they write is compared; nor are `ufmt_c`, whose library names no
+allocator, and `ufmt_float` and `ufmt_fixed`, which have none to pass.
+"""
+import collections
+import re
+
+from lib.findings import ended
+from lib.growths import rule
+from lib.growths.wrong_bodies import ANYWHERE_PUT, CHANGED, PUT
+from lib.top import TOP, is_ours
+
+CRATES = TOP / "crates"
+TABLE = TOP / "tools" / "data" / "growths.txt"
+TOLD, UNKNOWN = TABLE.relative_to(TOP), "?"
+LEFT_OUT = {"ufmt_float", "ufmt_fixed", "ufmt_c", "example_print_program", "example_parse_program"}
+TESTS = {"tests", "tests.rt", "testing.rt"}
+
+
+def is_looked_at(path):
+    crate = path.relative_to(CRATES).parts[0]
+    is_library_or_example = is_ours(crate) or crate.startswith("example_")
+    return is_library_or_example and crate not in LEFT_OUT and not TESTS & set(path.parts)
+
+
+def sources():
+    """The text of each source by its name below crates/."""
+    return {str(path.relative_to(CRATES)): path.read_text() for path in sorted(CRATES.glob("*/src/**/*.rt")) if is_looked_at(path)}
+
+
+def table():
+    """How often each line may be there, and its reason."""
+    rows, reasons = collections.Counter(), {}
+    for block in TABLE.read_text().split("\n\n")[1:]:
+        reason, *lines = block.strip("\n").split("\n")
+        for line in lines:
+            rows[line.strip()] += 1
+            reasons[line.strip()] = reason
+    return rows, reasons
+
+
+def open_tests(text):
+    """The lines by which a module of tests would be more than that."""
+    lines = text.split("\n")
+    for number, line in enumerate(lines, 1):
+        if re.match(r"\s*(pub(\(.*\))? )?mod tests\b|\s*#\[path", line) and "cfg(test)" not in lines[number - 2]:
+            yield number
+
+
+def new_places(name, text, rows):
+    """The places of a source that aren't in the table, or not so often."""
+    left = collections.Counter(rows)
+    for number, told in rule.places(text):
+        row = "%s: %s" % (name, told)
+        left[row] -= 1
+        if left[row] < 0:
+            yield number, told
+
+
+def wrong_places(texts, rows):
+    for name, text in texts.items():
+        yield from ("crates/%s:%d: no test, but in a module of tests" % (name, number) for number in open_tests(text))
+        yield from ("crates/%s:%d: no reason in %s: %s" % (name, number, TOLD, told) for number, told in new_places(name, text, rows))
+    there = collections.Counter("%s: %s" % (name, told) for name, text in texts.items() for _, told in rule.places(text))
+    yield from ("%s:1: no such line: %s" % (TOLD, row) for row in (rows - there).elements())
+
+
+def wrong_text(text, pattern, put, keeps):
+    """The source with the wrong body, or None if the pattern is nowhere in it."""
+    found = re.search(pattern, text, re.DOTALL)
+    return found and text[: found.end() if keeps else found.start()] + put + text[found.end() :]
+
+
+def with_wrong_lines(text):
+    """The source with a wrong line at the start of each function, and the numbers of these lines."""
+    lines, numbers = [], []
+    for line in text.split("\n"):
+        lines.append(line)
+        if re.match(r" *\{$| *(pub(\(\w+\))? )?(const )?(unsafe )?fn .*\{$", line):
+            lines.append(ANYWHERE_PUT[len(numbers) % len(ANYWHERE_PUT)])
+            numbers.append(len(lines))
+    return "\n".join(lines), numbers
+
+
+def unfound(texts, rows):
+    """The wrong bodies and lines that pass."""
+    for name, text in texts.items():
+        changed, numbers = with_wrong_lines(text)
+        named = {number for number, _ in new_places(name, changed, rows)}
+        yield from ("crates/%s:%d: a wrong line there isn't found" % (name, number) for number in numbers if number not in named)
+    for keeps, bodies in ((True, PUT), (False, CHANGED)):
+        for what, name, pattern, put in bodies:
+            text = wrong_text(texts.get(name, ""), pattern, put, keeps)
+            if text is None or not list(new_places(name, text, rows)):
+                yield "crates/%s:1: %s: %s" % (name, "no place to put" if text is None else "not found", what)
+
+
+def anew(texts, reasons):
+    """The table for the sources as they are. A line that is new has the reason of the same line elsewhere, or `?`."""
+    elsewhere, groups = {row.split(": ", 1)[1]: reason for row, reason in reasons.items()}, {reason: [] for reason in reasons.values()}
+    for name, text in texts.items():
+        for _, told in rule.places(text):
+            row = "%s: %s" % (name, told)
+            groups.setdefault(reasons.get(row) or elsewhere.get(told, UNKNOWN), []).append(row)
+    blocks = ["%s\n%s" % (reason, "\n".join("    " + row for row in sorted(rows))) for reason, rows in groups.items() if rows]
+    return "\n\n".join([TABLE.read_text().split("\n\n")[0], *blocks]) + "\n"
+
+
+def main(given):
+    texts, (rows, reasons) = sources(), table()
+    if given.write:
+        TABLE.write_text(anew(texts, reasons))
+        rows, reasons = table()
+    lines = sum(len(with_wrong_lines(text)[1]) for text in texts.values())
+    return ended([*wrong_places(texts, rows), *unfound(texts, rows), *("%s:1: no reason: %s" % (TOLD, row) for row, reason in reasons.items() if reason == UNKNOWN)],
+                 "%d sources, %d places, %d wrong bodies, %d wrong lines" % (len(texts), sum(rows.values()), len(PUT) + len(CHANGED), lines))

@@ -1,0 +1,146 @@
+"""Makes random logs, runs ufmt_lines on each with and without `--plain`, and compares each of its reads and writes with those of a model,
+which shares no code with the project.
+
+The built ufmt_lines is crates/ufmt_lines/out/ufmt_lines, which `rt ci` leaves there. The logs that come first with each seed are followed by
+random ones. They are also run by ufmt_lines.by-rattle, if it is there. Then memory is measured on long logs of each shape, reads and
+writes are counted, and with valgrind, if there is one, steps.
+
+A log of 200 lines has its values marked: those that are wanted are laid out, and each line comes back. On 100 times as many logs of
+nasty pieces the model is held to its laws: a log that `--plain` leaves as it is comes back, at three limits, and cuts of groups
+change no output.
+
+Last the built ufmt_conv reads texts in chunks, and each of its reads and writes is compared too.
+"""
+import concurrent.futures
+import pathlib
+import sys
+import tempfile
+
+from lib.findings import ended
+from lib.log_model import devices, law, log_costs, log_model, logs, marked
+from lib.model import verdicts
+from lib.top import TOP
+
+sys.setrecursionlimit(20_000)
+
+# How many logs there are, how many a process runs, and how many texts ufmt_conv reads.
+COUNT = 60
+BATCH = 25
+TEXTS = 40
+ARGUMENTS = {"pretty": [], "plain": ["--plain"]}
+COMMANDS = ("lengths", "pretty", "plain")
+
+
+def sent(mode, log, chunks):
+    """The chunks, and what is written after each. Chunks are halved if a write of theirs is too long for a message."""
+    rounds = log_model.writes(mode, log, chunks)
+    while max((len(text) for texts in rounds for text in texts), default=0) > devices.LONGEST and len(chunks) < len(log):
+        chunks = [half for chunk in chunks for half in (chunk[: len(chunk) // 2], chunk[len(chunk) // 2 :]) if half]
+        rounds = log_model.writes(mode, log, chunks)
+    return chunks, rounds
+
+
+def wrong_runs(paths, batch):
+    """The faults of runs of the programs on these logs."""
+    faults = []
+    programs = [devices.Program(path) for path in paths]
+    for log, chunks in batch:
+        for mode in log_model.MODES:
+            pieces, rounds = sent(mode, log, chunks)
+            for program in programs:
+                fault = devices.fault(program, ARGUMENTS[mode], pieces, rounds)
+                if fault:
+                    faults.append("%s, to %s, a log of %d bytes: %s" % (program.path.name, mode, len(log), fault))
+    return faults
+
+
+def wrong_texts(path, seed):
+    """The faults of runs of ufmt_conv, which waits for the end of its input and writes its output at once.
+
+    Its reads take a long text in chunks of 64 KiB: one that is in the middle of them takes only their rest.
+    """
+    maker = logs.Maker(seed)
+    program = devices.Program(path)
+    faults = []
+    given = [(text, maker.chunks(text)) for text in (maker.text() for _ in range(TEXTS)) if len(text) < logs.CHUNK]
+    given += [(b"a" * 150_000, logs.whole(b"a" * 150_000)), (b"".join(logs.each_first_byte()), logs.each_first_byte()),
+              (b"".join(logs.each_last_byte()), logs.each_last_byte())]
+    for text, chunks in given:
+        for command in COMMANDS:
+            status, output, line = verdicts.outcome(command, text)
+            last = [output.encode()] if output else []
+            fault = devices.fault(program, [command], chunks, [[] for _ in chunks] + [last], status, line.encode())
+            if fault:
+                faults.append("%s %s of %s: %s" % (path.name, command, devices.shown(text), fault))
+    return faults
+
+
+def wrong_marks(paths):
+    """The faults of the marked log: of the model's, and of runs of the programs on it."""
+    faults, count = marked.faults()
+    return faults + wrong_runs(paths, [(marked.log(), logs.whole(marked.log()))]), count
+
+
+def steps_of_nothing(path):
+    with tempfile.TemporaryDirectory() as room:
+        return log_costs.Meter(devices.Program(path), ARGUMENTS, pathlib.Path(room)).steps_of_nothing()
+
+
+def wrong_costs(paths, number, nothing):
+    """What is wrong with the costs of one shape. Steps are counted of the first program, unless there is no valgrind."""
+    shape = log_costs.SHAPES[number]
+    faults = []
+    with tempfile.TemporaryDirectory() as room:
+        for path in paths:
+            meter = log_costs.Meter(devices.Program(path), ARGUMENTS, pathlib.Path(room))
+            found = [log_costs.wrong_calls(meter, shape), log_costs.wrong_memory(meter, shape)]
+            if nothing is not None and path == paths[0]:
+                found.append(log_costs.wrong_steps(meter, shape, nothing))
+            faults += ["%s, %s" % (path.name, fault) for fault in found if fault]
+    return faults
+
+
+def batches(pairs):
+    batch = []
+    for pair in pairs:
+        batch.append(pair)
+        if len(batch) == BATCH:
+            yield batch
+            batch = []
+    yield batch
+
+
+def both(path):
+    """The program, and what the other compiler made of it."""
+    return [path for path in (path, path.with_name(path.name + ".by-rattle")) if path.exists()]
+
+
+def built(program):
+    """What is tried: both builds of ufmt_lines, or the one that is named, and of ufmt_conv."""
+    program = pathlib.Path(program or TOP / "crates/ufmt_lines/out/ufmt_lines").resolve()
+    beside = program.with_name("ufmt_conv")
+    found = both(program), both(beside if beside.exists() else TOP / "crates/ufmt_conv/out/ufmt_conv")
+    if not all(found):
+        sys.exit("ufmt_lines or ufmt_conv isn't there: `rt ci` builds them, and so does `rt run` in their crates")
+    return found
+
+
+def main(given):
+    count = COUNT if given.count is None else given.count
+    paths, converters = built(given.program)
+    tried, faults = 0, []
+    with concurrent.futures.ProcessPoolExecutor() as pool:
+        nothing = steps_of_nothing(paths[0])
+        jobs = [pool.submit(wrong_costs, paths, number, nothing) for number in range(len(log_costs.SHAPES))]
+        jobs += [pool.submit(wrong_texts, path, str(given.seed)) for path in converters]
+        jobs.append(pool.submit(law.faults, count * 100, str(given.seed)))
+        marks, values = wrong_marks(paths)
+        faults += marks
+        for batch in batches(logs.logs(count, str(given.seed))):
+            tried += len(batch)
+            jobs.append(pool.submit(wrong_runs, paths, batch))
+        for job in jobs:
+            faults += job.result()
+    names = ", ".join(path.name for path in paths + converters)
+    print("%d values of %s are laid out" % (values, marked.PATH.name))
+    return ended(faults, "%d logs with seed %s, costs of %d shapes, by %s" % (tried, given.seed, len(log_costs.SHAPES), names))

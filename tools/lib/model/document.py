@@ -1,0 +1,147 @@
+"""Documents of the model: their layout in both modes, and their leaves in quotes."""
+import functools
+import re
+from typing import NamedTuple
+
+# How deep blocks with entries are nested at most.
+DEEPEST = 255
+INDENT = "    "
+
+
+class Block(NamedTuple):
+    """A list, a set, a map, a struct, an open struct or a tuple. An open struct ends in two dots.
+
+    An entry is a pair: what is before the colon, and a document. Before the colon a map has a document, and
+    a struct of either kind has a name. The other kinds have None.
+    """
+
+    kind: str
+    name: str
+    entries: list
+
+
+# ---- The layout of blocks. A row has what opens the block after its name, and what closes it.
+
+PLAIN_FRAMES = {
+    "list": ("[", "]"),
+    "set": ("{", "}"),
+    "map": ("{", "}"),
+    "struct": (" { ", " }"),
+    "open struct": (" { ", ", .. }"),
+    "tuple": ("(", ")"),
+}
+PRETTY_FRAMES = {
+    "list": ("[\n", "]"),
+    "set": ("{\n", "}"),
+    "map": ("{\n", "}"),
+    "struct": (" {\n", "}"),
+    "open struct": (" {\n", "}"),
+    "tuple": ("(\n", ")"),
+}
+# The kinds of blocks with a name before each value.
+STRUCTS = ("struct", "open struct")
+# What a block without entries has after its name.
+EMPTY = {"list": "[]", "map": "{}", "open struct": " { .. }"}
+DOTS_LINE = "..\n"
+
+
+def plain(document):
+    """The plain text. Entries have a comma and a space between them."""
+    out = []
+    add_plain(document, out)
+    return "".join(out)
+
+
+def add_plain(document, out):
+    if isinstance(document, str):
+        out.append(document)
+        return
+    kind, name, entries = document
+    if not entries:
+        out.append(name + EMPTY[kind])
+        return
+    opening, closing = PLAIN_FRAMES[kind]
+    out.append(name + opening)
+    for number, (before, value) in enumerate(entries):
+        if number > 0:
+            out.append(", ")
+        if before is not None:
+            add_plain(before, out)
+            out.append(": ")
+        add_plain(value, out)
+    if kind == "tuple" and name == "" and len(entries) == 1:
+        out.append(",")
+    out.append(closing)
+
+
+def pretty(document):
+    """The pretty text. An entry begins on a line of its own, indented, and a comma comes after it, but none after dots."""
+    out = []
+    add_pretty(document, 0, out)
+    return "".join(out)
+
+
+def add_pretty(document, depth, out):
+    if isinstance(document, str):
+        out.append(document)
+        return
+    kind, name, entries = document
+    if not entries:
+        out.append(name + EMPTY[kind])
+        return
+    opening, closing = PRETTY_FRAMES[kind]
+    out.append(name + opening)
+    for before, value in entries:
+        out.append(INDENT * (depth + 1))
+        if before is not None:
+            add_pretty(before, depth + 1, out)
+            out.append(": ")
+        add_pretty(value, depth + 1, out)
+        out.append(",\n")
+    if kind == "open struct":
+        out.append(INDENT * (depth + 1) + DOTS_LINE)
+    out.append(INDENT * depth + closing)
+
+
+# ---- Quoted leaves. The first rule that fits a character is its only spelling.
+
+
+def spelled(character, quote):
+    """A character as it is written between these quotes."""
+    short = {"\0": r"\0", "\t": r"\t", "\n": r"\n", "\r": r"\r", "\\": "\\\\", quote: "\\" + quote}
+    if character in short:
+        return short[character]
+    if character < " " or character == "\x7f":
+        return "\\u{%x}" % ord(character)
+    return character
+
+
+# How each ASCII character is written between these quotes. Every other character is written as it is.
+SPELLED = {quote: {code: spelled(chr(code), quote) for code in range(128)} for quote in "\"'"}
+
+
+def quoted(text, quote='"'):
+    return quote + text.translate(SPELLED[quote]) + quote
+
+
+WORD = re.compile(r"[A-Za-z0-9_-]+")
+CODE = r"\\u\{(?:[1-8bcef]|1[0-9a-f]|7f)\}"
+QUOTED_TEXT = re.compile(r'"(?:[^"\\\x00-\x1f\x7f]|\\[0tnr\\"]|' + CODE + r')*"')
+QUOTED_CHARACTER = re.compile(r"'(?:[^'\\\x00-\x1f\x7f]|\\[0tnr\\']|" + CODE + r")'")
+ESCAPE = re.compile(r"\\u\{([0-9a-f]+)\}|\\(.)")
+
+
+# Each type with such a leaf asks for its text.
+@functools.lru_cache(maxsize=64)
+def unquoted(leaf):
+    """The text between the quotes of a leaf, without escapes. None if a token document has no such leaf in quotes."""
+    if leaf[0] not in "\"'" or not (QUOTED_TEXT.fullmatch(leaf) or QUOTED_CHARACTER.fullmatch(leaf)):
+        return None
+    letters = {"0": "\0", "t": "\t", "n": "\n", "r": "\r"}
+
+    def decoded(found):
+        if found[1] is not None:
+            return chr(int(found[1], 16))
+        return letters.get(found[2], found[2])
+
+    return ESCAPE.sub(decoded, leaf[1:-1])

@@ -1,0 +1,170 @@
+"""Makes random texts, passes each to every call of the library, and compares the results with those of a model, which shares no code with the
+project. Values that no text makes are printed by random options. What is compared also has the pieces that a writer is passed.
+
+The built probe_model makes the calls: crates/probe_model/out/probe_model, which `rt ci` leaves there. The built ufmt_conv is
+run too, on some of the texts. Each text is passed to the calls on token texts and to those on debug texts. The texts that come first fill
+each cell of the table of shapes, tools/lib/model/coverage.py: a cell that no text fills is a fault. They are followed by random ones, and by half as many from debug documents. With 3000 or more,
+each character there is comes in apostrophes too.
+
+Then each call is made by itself on a text of each shape, and its allocations, its memory and its steps are compared with the bounds in
+tools/lib/model/bounds.py. Steps are counted on short texts, and on those long ones where a call was slow. So are those of calls with widths
+and rows up to the largest number, on a buffer that is too small. So are those of ufmt_conv, and of ufmt_lines for each line of a log. Both
+programs are run on texts of 16 MiB and on a million lines. Memory is counted if there is a C compiler, and steps if there is valgrind too.
+
+With `--full` it only passes texts of 16 MiB, and one of 1,500,000 words, to every call of the library, in some minutes.
+"""
+import concurrent.futures
+import pathlib
+import subprocess
+import sys
+import tempfile
+
+from lib.findings import case, ended
+from lib.model import asked, characters, commands, costs, counter, coverage, documents, first_texts, large, verdicts
+from lib.programs import cases
+from lib.top import TOP
+
+sys.setrecursionlimit(20_000)
+
+# How many bytes of texts a run of the program takes. ufmt_conv is run on one of so many texts.
+BATCH_BYTES = 2_000_000
+CONVERTED_EACH = 40
+COMMANDS = ("lengths", "pretty", "plain")
+# So many random texts there are. From BULK on the run takes minutes, and has all texts that there are.
+COUNT, BULK = 1000, 3000
+
+
+def shown(data):
+    return repr(data if len(data) <= 80 else data[:60] + b".." + data[-20:])
+
+
+def batches(texts):
+    batch, size = [], 0
+    for text in texts:
+        batch.append(text)
+        size += len(text) + 1000
+        if size > BATCH_BYTES:
+            yield batch
+            batch, size = [], 0
+    if batch:
+        yield batch
+
+
+def wrong_lines(program, texts):
+    """The faults of a run of the program on these texts, and the cells that these fill."""
+    lines, faults = cases.answers(program, texts)
+    cells = set()
+    for text, line in zip(texts, lines):
+        wanted, found = verdicts.verdict(text)
+        cells |= found
+        if line != wanted:
+            faults.append(case(shown(text), wanted, line))
+    return faults, cells
+
+
+def wrong_outcomes(program, texts):
+    """The faults of runs of ufmt_conv on some of the texts, with each command."""
+    faults = []
+    for text in texts[::CONVERTED_EACH]:
+        for command in COMMANDS:
+            ran = cases.run([program, command], text)
+            given = ran.status, ran.output.decode(), ran.error.decode()
+            wanted = verdicts.outcome(command, text)
+            if given != wanted:
+                faults.append(case("%s of %s" % (command, shown(text)), str(wanted)[:200], str(given)[:200]))
+    return faults
+
+
+def judged(program, converter, texts):
+    faults, cells = wrong_lines(program, texts)
+    return faults + wrong_outcomes(converter, texts), cells
+
+
+def made(count, seed):
+    makers = documents.Maker(seed), documents.DebugMaker(seed)
+    yield from first_texts.first_texts(seed)
+    yield from asked.made(seed)
+    if count >= BULK:
+        yield from (text.encode() for text in characters.each_by_itself())
+    for number in range(count):
+        yield makers[0].data()
+        # Half as many debug texts.
+        if number % 2 == 0:
+            yield makers[1].data()
+
+
+def text_jobs(pool, programs, count, seed):
+    """How many texts are judged, and the jobs that judge them."""
+    tried, jobs = 0, []
+    for batch in batches(made(count, seed)):
+        tried += len(batch)
+        jobs.append(pool.submit(judged, programs["probe_model"], programs["ufmt_conv"], batch))
+    return tried, jobs
+
+
+def cost_jobs(pool, programs, meter):
+    """The jobs that count, and those that run the commands on large texts."""
+    jobs = [pool.submit(large.faults, programs, number) for number in range(large.PARTS)]
+    if meter.library is None:
+        return jobs
+    for is_counted in (True, False) if meter.valgrind else (False,):
+        for number in range(costs.PARTS):
+            jobs.append(pool.submit(costs.part_faults, meter, programs["probe_model"], number, is_counted))
+        jobs.append(pool.submit(costs.request_faults, meter, programs["probe_model"], is_counted))
+    jobs.append(pool.submit(commands.conv_faults, meter, programs["ufmt_conv"]))
+    jobs.append(pool.submit(commands.short_read_faults, meter, programs))
+    for is_plain in (False, True):
+        jobs.append(pool.submit(commands.line_faults, meter, programs["ufmt_lines"], is_plain))
+    return jobs
+
+
+def result_of(job):
+    """The faults of a job and how many costs it counted. A run that ends by itself or takes too long is a fault."""
+    try:
+        return job.result()
+    except (subprocess.SubprocessError, ValueError) as error:
+        return ["a run that is counted: %s" % error], 0
+
+
+def counted(meter, number):
+    """A message with what was counted."""
+    if meter.library is None:
+        return "%d costs counted: none of memory and steps, for want of a C compiler" % number
+    if not meter.valgrind:
+        return "%d costs counted, of memory; no steps, for want of valgrind" % number
+    return "%d costs counted, of memory and steps" % number
+
+
+def programs_of(program):
+    """The built programs by their names."""
+    program = pathlib.Path(program or TOP / "crates/probe_model/out/probe_model").resolve()
+    found = {name: TOP / "crates" / name / "out" / program.name.replace("probe_model", name) for name in ("ufmt_conv", "ufmt_lines")}
+    return dict(found, probe_model=program)
+
+
+def main_large(program):
+    """Passes texts of 16 MiB, and one of 1,500,000 words, to every call of the library."""
+    wrong, count = large.run_faults(programs_of(program), large.verdict_runs())
+    return ended(wrong, "%d texts of 16 MiB" % count)
+
+
+def main(given):
+    if given.full:
+        return main_large(given.program)
+    programs = programs_of(given.program)
+    faults, cells, costs_counted = [], set(), 0
+    with tempfile.TemporaryDirectory() as room, concurrent.futures.ProcessPoolExecutor() as pool:
+        meter = counter.Counter(pathlib.Path(room))
+        costing = cost_jobs(pool, programs, meter)
+        tried, judging = text_jobs(pool, programs, COUNT if given.count is None else given.count, given.seed)
+        for job in judging:
+            wrong, found = job.result()
+            faults += wrong
+            cells |= found
+        faults += ["no text fills the cell: " + cell for cell in coverage.empty(cells)]
+        for job in costing:
+            wrong, number = result_of(job)
+            faults += wrong
+            costs_counted += number
+    texts = "%d texts with seed %s fill %d cells" % (tried, given.seed, len(cells))
+    return ended(faults, "%s, %s" % (texts, counted(meter, costs_counted)))

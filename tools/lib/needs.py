@@ -1,0 +1,39 @@
+"""The programs that commands call, and the Debian package of each."""
+import os
+import shutil
+import sys
+
+from lib.top import TOP
+
+PACKAGES = {"valgrind": "valgrind", "cc": "gcc", "gcc": "gcc", "g++": "g++", "rustc": "rustc", "cargo": "cargo", "objdump": "binutils", "nm": "binutils",
+            "readelf": "binutils", "man": "man-db", "pkg-config": "pkgconf", "xxd": "xxd", "setarch": "util-linux", "git": "git", "clippy-driver": "rust-clippy"}
+
+
+def missing(names):
+    """The names of programs that this machine hasn't."""
+    return [name for name in names if not shutil.which(name)]
+
+
+def told(name):
+    """A program that isn't there, with what brings it."""
+    package = PACKAGES.get(name)
+    return "no %s on the path (%s)" % (name, "Debian has it in %s" % package if package else "the Rattle kit has it")
+
+
+def require(command, *names):
+    """Ends a command that can do nothing without these programs."""
+    for name in missing(names):
+        sys.exit("x %s: %s" % (command, told(name)))
+
+
+def built(name):
+    """The built program of a crate."""
+    path = TOP / "crates" / name / "out" / name
+    if not os.access(path, os.X_OK):
+        sys.exit("%s isn't there: `rt ci` builds it, and so does `rt run` in its crate" % path.relative_to(TOP))
+    return path
+
+
+def processors():
+    """How many processors this process may use."""
+    return len(os.sched_getaffinity(0))
