@@ -3,7 +3,7 @@ from typing import NamedTuple
 
 from lib import findings, measures
 from lib.model import asked, bounds, shapes
-from lib.model.features import Features, features, indentation, past_ascii
+from lib.model.features import DOC, Features, features, indentation, past_ascii
 from lib.model.model import DEBUG, PlainReader, PrettyReader, plain, pretty
 
 # Of texts whose steps are counted, and of those whose memory is. Of these, steps are counted where a call was slow.
