@@ -4,8 +4,8 @@ DIR is made, or is empty. It is laid out as a prefix: bin/ has ufmt_conv and ufm
 pkgconfig/ufmt_c.pc, include/ has ufmt.h, and share/ has the manual pages and the licences. DIR/BUILD has the version, the kit, the
 commit and `proved: yes` or `proved: no`. `x install` copies it all to a prefix.
 
-Without `--proved` nothing is proved, and the programs have no checks at run time. That takes seven minutes of a processor of the machine
-that README.md names, in three builds beside each other. It needs `rt` on the path, and gcc.
+Without `--proved` nothing is proved, and the programs have no checks at run time. It makes three builds
+beside each other, and needs `rt` on the path, and gcc. tools/README.md says how long that takes.
 """
 import pathlib
 import subprocess
