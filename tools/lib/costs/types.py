@@ -9,6 +9,7 @@ from lib import data
 from lib.top import TOP
 
 IMPLEMENTATION = re.compile(r"uParse<\w+>\s+for\s+([^{]+?)\s*\{")
+TABLES = data.parts("costs/types.txt")
 
 
 class Parsed(NamedTuple):
@@ -54,41 +55,17 @@ def number(value):
     return "%d" % (100 + value % 100)
 
 
-def long_number(value):
-    return "184467440737%08d" % value
-
-
-def entry(value):
-    return '"%06d": Some(7)' % value
-
-
-def pretty_entry(value):
-    return '"%06d": Some(\n        7,\n    )' % value
+def short_text(value):
+    return '"%d"' % value
 
 
 def array(size, item):
     """A list as long as the array, one with an item less, and one with an item more."""
-    return lambda _size: ["[%s]" % ", ".join(map(item, range(count))) for count in (size, size - 1, size + 1)]
-
-
-def tuple_of(count):
-    """A tuple, one with a field more, and one whose last field is wrong."""
-    fields = ["255", "true"] * count
-    end = ",)" if count == 1 else ")"
-    return plainly("(%s%s" % (", ".join(fields[:count]), end), "(%s)" % ", ".join(fields[: count + 1]), "(%s)" % ", ".join([*fields[: count - 1], "?"]))
-
-
-def fields_type(count):
-    return "(%s)" % ", ".join((["u8", "bool"] * count)[:count]) if count > 1 else "(u8,)"
-
-
-def letters(count):
-    return "(%s)" % ", ".join("ABCDEFGHIJKL"[:count]) if count > 1 else "(A,)"
+    return plainly(*("[%s]" % ", ".join(map(item, range(count))) for count in (size, size - 1, size + 1)))
 
 
 def trees(size):
-    one = "Tree { size: 1, children: [] }"
-    whole = "Tree { size: 2, children: [%s] }" % ", ".join([one] * size)
+    whole = "Tree { size: 2, children: [%s] }" % ", ".join(["Tree { size: 1, children: [] }"] * size)
     return [whole, whole[:-1]]
 
 
@@ -99,51 +76,45 @@ def nodes(size):
     return [node, node[:-1]]
 
 
-def small_types():
-    """Those of tools/data/costs/types.txt, and two whose texts have a size."""
-    for row in data.parts("costs/types.txt")["small"]:
-        implementation, name, *texts = row.split(" => ")
-        yield Parsed(implementation, name, plainly(*map(data.text_of, texts)))
-    yield Parsed("Result<T, E>", "Result<String, char>", lambda size: ["Ok(%s)" % it for it in quoted(size)] + ["Err('a')", "Err(a)"])
-    yield Parsed("ControlFlow<B, C>", "ControlFlow<u8, String>", lambda size: ["Break(1)"] + ["Continue(%s)" % it for it in quoted(size)])
+# The texts by a size, as the table names them.
+BY_SIZE = {
+    "a text": quoted,
+    "a result": lambda size: ["Ok(%s)" % it for it in quoted(size)] + ["Err('a')", "Err(a)"],
+    "a control flow": lambda size: ["Break(1)"] + ["Continue(%s)" % it for it in quoted(size)],
+    "a list of numbers": listed(number),
+    "a list of long numbers": listed("184467440737{:08d}".format),
+    "a list of texts": listed(short_text),
+    "a list of lists": listed("[1, 2]".format),
+    "a set of numbers": sorted_keys(str),
+    "a set of texts": sorted_keys('"{:06d}"'.format),
+    "a map of options": sorted_keys('"{:06d}": Some(7)'.format, '"{:06d}": Some(\n        7,\n    )'.format),
+    "a map of lists": sorted_keys("{}: [1, 2]".format),
+    "a tree": trees,
+    "nodes in a row": nodes,
+}
 
 
-def holders():
-    yield Parsed("String<A>", "String", quoted)
-    yield Parsed("CowStr<'a, A>", "CowStr<'static, Global>", quoted)
-    yield Parsed("BoxedStr<A>", "BoxedStr<Global>", quoted)
-    yield Parsed("RcStr<A>", "RcStr<Global>", quoted)
-    yield Parsed("ArcStr<A>", "ArcStr<Global>", quoted)
-    yield Parsed("Cow<'a, T>", "Cow<'static, String>", quoted)
-    yield Parsed("Box<T, A>", "Box<String>", quoted)
-    yield Parsed("Rc<T, A>", "Rc<String>", quoted)
-    yield Parsed("Arc<T, A>", "Arc<String>", quoted)
-    yield Parsed("Vec<T, A>", "Vec<u64>", listed(long_number))
-    yield Parsed("Vec<T, A>", "Vec<String>", listed(lambda value: '"%d"' % value))
-    yield Parsed("Vec<T, A>", "Vec<Vec<u8>>", listed(lambda _value: "[1, 2]"))
-    yield Parsed("VecDeque<T, A>", "VecDeque<u8>", listed(number))
-    yield Parsed("LinkedList<T, A>", "LinkedList<u8>", listed(number))
-    for holder in ("BoxedSlice", "RcSlice", "ArcSlice"):
-        yield Parsed(holder + "<T, A>", holder + "<i16, Global>", listed(number))
-        yield Parsed(holder + "<T, A>", holder + "<String, Global>", listed(lambda value: '"%d"' % value))
-    yield Parsed("CowSlice<'a, T, A>", "CowSlice<'static, u8, Global>", listed(number))
-    for size in (1, 3, 16):
-        yield Parsed("[T; N]", "[u16; %d]" % size, array(size, number))
-    yield Parsed("[T; N]", "[String; 4]", array(4, lambda value: '"%d"' % value))
+def tuple_of(count):
+    """A tuple, one with a field more, and one whose last field is wrong."""
+    fields = ["255", "true"] * count
+    end = ",)" if count == 1 else ")"
+    texts = plainly("(%s%s" % (", ".join(fields[:count]), end), "(%s)" % ", ".join(fields[: count + 1]), "(%s)" % ", ".join([*fields[: count - 1], "?"]))
+    return Parsed(in_parentheses("ABCDEFGHIJKL"[:count]), in_parentheses((["u8", "bool"] * count)[:count]), texts)
 
 
-def keyed():
-    yield Parsed("BTreeSet<T, A>", "BTreeSet<u16>", sorted_keys(lambda value: "%d" % value))
-    yield Parsed("BTreeSet<T, A>", "BTreeSet<String>", sorted_keys(lambda value: '"%06d"' % value))
-    yield Parsed("BTreeMap<K, V, A>", "BTreeMap<String, Option<u8>>", sorted_keys(entry, pretty_entry))
-    yield Parsed("BTreeMap<K, V, A>", "BTreeMap<u32, Vec<u8>>", sorted_keys(lambda value: "%d: [1, 2]" % value))
+def in_parentheses(names):
+    return "(%s)" % ", ".join(names) if len(names) > 1 else "(%s,)" % names[0]
 
 
 def types():
     """Each type once."""
-    found = [*small_types(), *holders(), *keyed()]
-    found += [Parsed(letters(count), fields_type(count), tuple_of(count)) for count in range(1, 13)]
-    return found + [Parsed("Tree", "Tree", trees), Parsed("Node", "Node", nodes)]
+    for implementation, name, *texts in (row.split(" => ") for row in TABLES["small"]):
+        yield Parsed(implementation, name, plainly(*map(data.text_of, texts)))
+    for implementation, name, texts in (row.split(" => ") for row in TABLES["by size"]):
+        yield Parsed(implementation, name, BY_SIZE[texts])
+    yield from (Parsed("[T; N]", "[u16; %d]" % size, array(size, number)) for size in (1, 3, 16))
+    yield Parsed("[T; N]", "[String; 4]", array(4, short_text))
+    yield from map(tuple_of, range(1, 13))
 
 
 def implementations():
@@ -157,9 +128,8 @@ def implementations():
 
 def missing():
     """A line for each implementation that no type here has."""
-    named = {one.implementation for one in types()}
     found = implementations()
     if len(found) < 60:
         yield "only %d implementations of uParse are found" % len(found)
-    for name in sorted(found - named):
-        yield "no type of tools/lib/costs/types.py is for uParse of %s" % name
+    for name in sorted(found - {one.implementation for one in types()}):
+        yield "no type of tools/data/costs/types.txt is for uParse of %s" % name

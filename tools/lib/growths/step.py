@@ -7,16 +7,16 @@ error that is changed or dropped isn't looked for: a clause refuses what comes o
 
 `--write` writes the table anew: a line that is new has the reason of the same line elsewhere, or `?`, in whose place a reason is then written.
 
-It also puts each wrong body of wrong_bodies.py into its source, in memory, and a wrong line into each function: one that isn't found is a
-fault. The crates of tests and the probes aren't looked at, since what they write is compared; nor are `ufmt_c`, whose library names no
+It also puts each wrong body of tools/data/wrong_growths.txt into its source, in memory, and a wrong line into each function: one that isn't
+found is a fault. The crates of tests and the probes aren't looked at, since what they write is compared; nor are `ufmt_c`, whose library names no
 allocator, and `ufmt_float` and `ufmt_fixed`, which have none to pass.
 """
 import collections
 import re
 
+from lib import data
 from lib.findings import ended
 from lib.growths import rule
-from lib.growths.wrong_bodies import ANYWHERE_PUT, CHANGED, PUT
 from lib.top import TOP, is_ours
 
 CRATES = TOP / "crates"
@@ -24,6 +24,9 @@ TABLE = TOP / "tools" / "data" / "growths.txt"
 TOLD, UNKNOWN = TABLE.relative_to(TOP), "?"
 LEFT_OUT = {"ufmt_float", "ufmt_fixed", "ufmt_c", "example_print_program", "example_parse_program"}
 TESTS = {"tests", "tests.rt", "testing.rt"}
+PUT, CHANGED, ANYWHERE = data.parts("wrong_growths.txt").values()
+# What a row's short patterns stand for.
+PLACES = {"body": r"fn %s\b.*?\n *\{\n|fn %s\b[^{;]*\{\n", "parses": r"impl<A: Copy> uParse<A> for %s \{.*?fn parse_from<[^{]*\{"}
 
 
 def is_looked_at(path):
@@ -74,9 +77,10 @@ def wrong_places(texts, rows):
     yield from ("%s:1: no such line: %s" % (TOLD, row) for row in (rows - there).elements())
 
 
-def wrong_text(text, pattern, put, keeps):
-    """The source with the wrong body, or None if the pattern is nowhere in it."""
-    found = re.search(pattern, text, re.DOTALL)
+def wrong_text(text, place, put, keeps):
+    """The source with the wrong body, or None if the place is nowhere in it."""
+    word, _, name = place.partition(" ")
+    found = re.search(PLACES[word].replace("%s", name) if word in PLACES else place, text, re.DOTALL)
     return found and text[: found.end() if keeps else found.start()] + put + text[found.end() :]
 
 
@@ -86,7 +90,7 @@ def with_wrong_lines(text):
     for line in text.split("\n"):
         lines.append(line)
         if re.match(r" *\{$| *(pub(\(\w+\))? )?(const )?(unsafe )?fn .*\{$", line):
-            lines.append(ANYWHERE_PUT[len(numbers) % len(ANYWHERE_PUT)])
+            lines.append(ANYWHERE[len(numbers) % len(ANYWHERE)])
             numbers.append(len(lines))
     return "\n".join(lines), numbers
 
@@ -97,9 +101,10 @@ def unfound(texts, rows):
         changed, numbers = with_wrong_lines(text)
         named = {number for number, _ in new_places(name, changed, rows)}
         yield from ("crates/%s:%d: a wrong line there isn't found" % (name, number) for number in numbers if number not in named)
-    for keeps, bodies in ((True, PUT), (False, CHANGED)):
-        for what, name, pattern, put in bodies:
-            text = wrong_text(texts.get(name, ""), pattern, put, keeps)
+    for keeps, rows_of_bodies in ((True, PUT), (False, CHANGED)):
+        for row in rows_of_bodies:
+            what, name, place, put = map(data.text_of, row.split(" => "))
+            text = wrong_text(texts.get(name, ""), place, put, keeps)
             if text is None or not list(new_places(name, text, rows)):
                 yield "crates/%s:1: %s: %s" % (name, "no place to put" if text is None else "not found", what)
 

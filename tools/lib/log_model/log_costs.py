@@ -10,11 +10,11 @@ import subprocess
 import tempfile
 from typing import Callable, NamedTuple
 
-from lib import findings
+from lib import data, findings
 from lib.log_model import log_model, devices
-from lib.log_model.log_model import Block, plain, pretty, quoted
 from lib.log_model.logs import CHUNK
 from lib.measures import FACTOR
+from lib.model.document import Block, pretty
 
 SIZE = 32 * 1024
 # How much longer a log is whose reads and writes are counted, and that must pass in the memory of one half as long.
@@ -28,18 +28,6 @@ KEPT_ONCE = 0.5
 PAGE = 16 * 1024
 # A run that takes longer is a fault.
 SECONDS = 120
-DEEP = "x"
-for _ in range(250):
-    DEEP = Block("list", "", [(None, DEEP)])
-# Nearly all of its pretty text is indentation.
-INDENTED = Block("list", "", [(None, "x")] * 60)
-for _ in range(60):
-    INDENTED = Block("list", "", [(None, INDENTED)])
-READING = Block("struct", "Reading", [("channel", "3"), ("text", quoted("a [b]"))])
-REQUEST = Block("struct", "Request", [("from", "10.0.0.7:80"), ("path", quoted("/items/[7]")), ("took", "1.5ms"), ("state", READING)])
-ESCAPED = Block("struct", "Reading", [("channel", "3"), ("text", quoted('a "b" [c]')), ("took", "1.5ms")])
-LOCK = Block("open struct", "Mutex", [("data", "7"), ("poisoned", "false"), ("owner", quoted("a worker"))])
-ONLY_DOTS = Block("open struct", "Once", [])
 
 
 class Shape(NamedTuple):
@@ -52,106 +40,38 @@ class Shape(NamedTuple):
     memory: float = MEMORY
 
 
-def line(name, mode, steps, piece):
-    """One line, or a log of lines: the piece as often as it fits."""
-    return Shape(name, mode, steps, lambda size: piece * (size // len(piece)))
+def repeated(row):
+    """A piece, as often in a row as it says."""
+    count, star, piece = row.partition("*")
+    return data.data_of(piece) * int(count) if star and count.isdigit() else data.data_of(row)
 
 
-def kept_once(name, steps, piece):
-    """One line without a bracket."""
-    return line(name, "pretty", steps, piece)._replace(memory=KEPT_ONCE)
+def table_shapes():
+    """Those of tools/data/logs/shapes.txt."""
+    for part, rows in data.parts("logs/shapes.txt").items():
+        mode, form = part.split(", ")
+        for name, steps, *pieces in (row.split(" => ") for row in rows):
+            first, piece, last = map(data.data_of, pieces) if form == "between" else (b"", b"".join(map(repeated, pieces)), b"")
+            yield Shape(name, mode, int(steps), lambda size, row=(first, piece, last): in_a_row(*row, size), KEPT_ONCE if form == "kept once" else MEMORY)
 
 
-def listed(name, mode, steps, printed):
-    return Shape(name, mode, steps, lambda size: printed(Block("list", "", [(None, "12345")] * (size // 12))).encode())
+def in_a_row(first, piece, last, size):
+    return first + piece * (size // len(piece)) + last
 
 
-def closed(name, steps, first, piece, last):
-    """One line: the piece as often as it fits, between a start and an end."""
-    return Shape(name, "pretty", steps, lambda size: first + piece * (size // len(piece)) + last)
+def indented():
+    """A list whose pretty text is nearly all indentation."""
+    document = Block("list", "", [(None, "x")] * 60)
+    for _ in range(60):
+        document = Block("list", "", [(None, document)])
+    return pretty(document).encode() + b"\n"
 
 
-def group(name, steps, first, piece):
-    return Shape(name, "plain", steps, lambda size: first + piece * (size // len(piece)))
-
-
-LONG_LINES = (
-    kept_once("a long word", 3, b"a"),
-    kept_once("a line of words", 3, b"a "),
-    kept_once("a line of spaces", 3, b" "),
-    line("a line of brackets", "pretty", 4, b"[ "),
-    line("brackets in brackets", "pretty", 4, b"["),
-    line("a line of lists", "pretty", 130, b"[1] "),
-    kept_once("a line of quotes", 3, b'"a '),
-    kept_once("a line of bytes that aren't UTF-8", 3, b"\xff "),
-    listed("a long list", "pretty", 37, plain),
-    line("a line of only dots", "pretty", 63, b"S { .. } "),
-    line("a line of open tuples", "pretty", 4, b"(a, "),
-    line("a line of calls", "pretty", 79, b"f()"),
-    closed("calls in parentheses", 93, b"(", b"f()", b" )"),
-    closed("a list of calls that ends in a space", 103, b"[", b"f(), ", b" ]"),
-    line("a line of words in parentheses", "pretty", 127, b"(w)a "),
-    line("a line of addresses", "pretty", 103, b"[v]:a "),
-    closed("brackets in brackets, and one that closes", 494, b"", b"[", b"]"),
-    closed("a line of open tuples, and a bracket", 265, b"", b"(a, ", b")"),
+SHAPES = (
+    *table_shapes(),
     Shape("a line of open tuples, a bracket, and words", "pretty", 68, lambda size: b"(a, " * (size // 16) + b")" + b"word " * (3 * size // 20)),
-    listed("a pretty list", "plain", 32, pretty),
-    group("a group without an end", 20, b"got [\n", b"    12345,\n"),
-    group("lines of brackets", 314, b"", b"[\n"),
-    group("a group of spaces", 4, b"[\n", b" " * 63 + b"\n"),
+    Shape("groups of indented lines", "plain", 5, lambda size: in_a_row(b"", indented(), b"", size)),
 )
-# Blocks that are open where a try stops: at the end of the line, or at a piece that doesn't fit. They aren't tried again, unless the try
-# stops for depth. The first tries of a line read to its end.
-OPEN_LINES = (
-    line("lines of open tuples", "pretty", 46, b"(a, " * 250 + b"\n"),
-    line("lines of open structs", "pretty", 17, b"S { a: " * 250 + b"\n"),
-    line("lines of open tuples, and a bracket", "pretty", 392, b"(a, " * 250 + b")\n"),
-    line("lines of open tuples of quotes", "pretty", 241, b'("a", ' * 250 + b")\n"),
-    line("lines of tuples, and a bracket", "pretty", 144, b"(a, " * 120 + b"a" + b")" * 120 + b" )\n"),
-    line("lines of open tuples of escapes", "pretty", 452, b'("\\"", ' * 250 + b")\n"),
-    line("lines of open tuples of characters", "pretty", 502, b"('a', " * 250 + b")\n"),
-    line("lines of tuples with brackets in quotes", "pretty", 315, b'("(", ' * 250 + b")\n"),
-    line("lines of tuples with tuples in quotes", "pretty", 287, b'("(a, (", ' * 250 + b")\n"),
-    line("lines of tuples with a fault in the innermost", "pretty", 314, b"(a, " * 250 + b"," + b")" * 250 + b"\n"),
-    line("lines of tuples with tuples and a fault", "pretty", 330, b"(a, (b, c), " * 120 + b"," + b")" * 120 + b"\n"),
-    line("lines of tuples that are too deep", "pretty", 2981, b"(" * 500 + b"a," + b")," * 500 + b"\n"),
-    line("lines of brackets of which each may be it", "pretty", 249, b"(\\' " * 250 + b"', )\n"),
-    line("lines of open maps, and a bracket", "pretty", 332, b"{a: " * 250 + b")\n"),
-    line("lines of open structs, and a bracket", "pretty", 167, b"S { a: " * 250 + b")\n"),
-    line("lines of open tuples with structs", "pretty", 250, b"(S { b: c }, " * 100 + b")\n"),
-    line("lines of open tuples with tuples of one", "pretty", 419, b"((b,), " * 180 + b")\n"),
-    line("lines of open tuples with structs that end in dots", "pretty", 189, b"(S { a: 1, .. }, " * 80 + b")\n"),
-    line("lines of open tuples with structs of dots", "pretty", 166, b"(S { .. }, " * 120 + b")\n"),
-    line("lines of open tuples with named tuples", "pretty", 285, b"(Some(b), " * 180 + b")\n"),
-    line("lines of open tuples with long names", "pretty", 126, b"(Transition { message: Nothing }, " * 60 + b")\n"),
-    line("lines of open named tuples", "pretty", 122, b"Unbounded(a, " * 120 + b")\n"),
-    line("lines of open structs with long names", "pretty", 82, b"Transition { message: " * 60 + b")\n"),
-    line("lines of open tuples with long names and only dots", "pretty", 126, b"(Transition { .. }, " * 80 + b")\n"),
-    line("lines of open tuples with empty lists", "pretty", 261, b"([], " * 250 + b")\n"),
-    # One read of such a line is as the next one from its second quote on.
-    line("lines of brackets in and out of quotes", "pretty", 3214, b"]('\"'a\"" * 150 + b"\n"),
-)
-MANY_LINES = (
-    line("empty lines", "pretty", 2, b"\n"),
-    line("lines without a value", "pretty", 2, b"2026-11-27T12:00:00Z INFO server: accepted connection 17 from 10.0.0.7, 3 are open\n"),
-    line("lines that end with a bracket", "pretty", 16, b"12:00 INFO took 3 ms (cached, see the second table)\n"),
-    line("short lines", "pretty", 2, b"a word\n"),
-    line("lines of short texts", "pretty", 16, b"12:00 INFO got " + plain(READING).encode() + b"\n"),
-    line("lines of texts", "pretty", 33, b"12:00 INFO got " + plain(REQUEST).encode() + b"\n"),
-    line("lines with a text in the middle", "pretty", 31, b"12:00 INFO request=" + plain(REQUEST).encode() + b", 3 are open\n"),
-    line("lines of texts with escapes", "pretty", 39, b"12:00 INFO got " + plain(ESCAPED).encode() + b"\n"),
-    line("lines of words with escapes", "pretty", 18, b'12:00 INFO said "a \\"b\\" c" (cached "x\\n")\n'),
-    line("lines of locks", "pretty", 30, b"12:00 INFO got " + plain(LOCK).encode() + b"\n"),
-    line("lines of only dots", "pretty", 24, b"12:00 INFO got " + plain(ONLY_DOTS).encode() + b"\n"),
-    line("lines of deep texts", "pretty", 44, plain(DEEP).encode() + b"\n"),
-    line("short lines, made plain", "plain", 53, b"a word\n"),
-    line("groups", "plain", 44, b"12:00 INFO got " + pretty(READING).encode() + b"\n"),
-    line("groups of requests", "plain", 33, b"12:00 INFO got " + pretty(REQUEST).encode() + b", 3 are open\n"),
-    line("groups of locks", "plain", 37, b"12:00 INFO got " + pretty(LOCK).encode() + b"\n"),
-    line("groups of a bracket", "plain", 240, b"[\n]\n"),
-    line("groups of indented lines", "plain", 5, pretty(INDENTED).encode() + b"\n"),
-)
-SHAPES = LONG_LINES + OPEN_LINES + MANY_LINES
 
 
 class Meter:
