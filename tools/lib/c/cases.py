@@ -15,7 +15,8 @@ sys.setrecursionlimit(20_000)
 from lib import data as tables  # noqa: E402
 from lib.expected import rows as expected_rows  # noqa: E402
 from lib.log_model import log_model  # noqa: E402
-from lib.model.model import DEBUG, TOKEN, PlainReader, PrettyReader, plain, pretty  # noqa: E402
+from lib.model.document import plain, pretty  # noqa: E402
+from lib.model.reading import DEBUG, TOKEN, PlainReader, PrettyReader  # noqa: E402
 from lib.top import TOP
 
 NO_TEXT, FULL, NOT_UTF8, BAD_OPTION = -1, -2, -3, -4

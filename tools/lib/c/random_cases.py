@@ -7,7 +7,8 @@ from lib.c.cases import BAD_OPTION, NOT_UTF8, SIZE_MAX, Case, style
 from lib.model import floats
 from lib.model.characters import any_character
 from lib.model.documents import DebugMaker, Maker
-from lib.model.model import DEBUG, TOKEN, quoted
+from lib.model.document import quoted
+from lib.model.reading import DEBUG, TOKEN
 
 # Inputs are cut at so many bytes, so that many are tried. What happens to long ones is in the tables.
 LONGEST, LONGEST_QUOTED = 200, 60

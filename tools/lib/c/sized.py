@@ -4,7 +4,7 @@ The buffer has room for the whole text, or for half of it, or none."""
 from lib.c import cases
 from lib.c.cases import DEBUG, TOKEN, style
 from lib.model import floats
-from lib.model.model import Block, plain, pretty, quoted
+from lib.model.document import Block, plain, pretty, quoted
 
 SIZES = (80, 160)
 FLOAT, LARGE, SMALL = 0x400921FB54442D18, 0x7FE1CCF385EBC8A0, 1

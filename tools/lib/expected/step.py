@@ -16,7 +16,8 @@ import time
 from lib.expected import edges, rows
 from lib.findings import case, ended
 from lib.model import verdicts
-from lib.model.model import DEBUG, TOKEN, PlainReader, PrettyReader, plain, pretty
+from lib.model.document import plain, pretty
+from lib.model.reading import DEBUG, TOKEN, PlainReader, PrettyReader
 from lib.programs import cases
 from lib.top import TOP
 

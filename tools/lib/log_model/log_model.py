@@ -4,7 +4,8 @@ A mode is the name of the texts that are written: "pretty", or "plain" for `--pl
 """
 import re
 
-from lib.model.model import DEBUG, STRUCTS, TOKEN, Block, PlainReader, PrettyReader, plain, pretty, quoted  # noqa: E402, F401
+from lib.model.document import STRUCTS, plain, pretty
+from lib.model.reading import DEBUG, TOKEN, PlainReader, PrettyReader
 
 MODES = ("pretty", "plain")
 # The readers of texts, and what prints their documents in the other mode.

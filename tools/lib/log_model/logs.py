@@ -1,7 +1,7 @@
 """Random logs, and how they are cut into chunks. One seed makes the same ones each time."""
 import itertools
 
-from lib.log_model.log_model import Block, plain, pretty, quoted
+from lib.model.document import Block, plain, pretty, quoted
 from lib.model.documents import DebugMaker
 
 # What is between words, or next to a text. A text begins only after a space or a line feed.

@@ -1,6 +1,6 @@
 """Characters of each class, byte order marks and other encodings, in each place of a text."""
 from lib import data
-from lib.model.model import Block, plain, pretty, quoted
+from lib.model.document import Block, plain, pretty, quoted
 
 TABLES = data.parts("texts/characters.txt")
 ENDS = [int(end, 16) for row in TABLES["ends"] for ends in row.split() for end in ends.split("-")]

@@ -7,7 +7,7 @@ from lib.log_model import log_model
 from lib.model import bounds, shapes
 from lib.model.costs import SECONDS, rough
 from lib.model.features import features, indentation
-from lib.model.model import plain, pretty
+from lib.model.document import plain, pretty
 
 # A text has a document of each shape, of so many bytes or of some times that. Steps are not counted of texts that have
 # more bytes besides their indentation.

@@ -4,7 +4,8 @@ from typing import NamedTuple
 from lib import findings, measures
 from lib.model import asked, bounds, shapes
 from lib.model.features import DOC, Features, features, indentation, past_ascii
-from lib.model.model import DEBUG, PlainReader, PrettyReader, plain, pretty
+from lib.model.document import plain, pretty
+from lib.model.reading import DEBUG, PlainReader, PrettyReader
 
 # Of texts whose steps are counted, and of those whose memory is. Of these, steps are counted where a call was slow.
 COUNTED_SIZE = 4 * 1024

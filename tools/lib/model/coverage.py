@@ -5,7 +5,8 @@ A cell is a tuple. It begins with the name of its table, and ends with the mode 
 from lib.model import characters, debug_refused, types
 from lib.model.debug_leaves import SHAPES, shape
 from lib.model.features import is_of_tokens
-from lib.model.model import STRUCTS, Block, is_debug_name, unquoted
+from lib.model.document import STRUCTS, Block, unquoted
+from lib.model.reading import is_debug_name
 
 MODES = ("plain", "pretty")
 PLACES = ("entry of a list", "entry of a set", "key", "value", "field of a struct", "field of a tuple", "field without names")
@@ -116,14 +117,14 @@ class Walk:
                 self.add("character in quotes", position(number, len(text)), ord(character))
 
 
-def cells(data, document, mode):
-    """The cells that these bytes fill, which were read as this debug document in the mode, or as no text."""
+def cells(data, document, mode, judged):
+    """The cells that these bytes fill, which were read as this debug document in the mode, or as no text, and judged by types."""
     if document is None:
         reasons = {("refused", debug_refused.REASON_OF[data], mode)} if data in debug_refused.REASON_OF else set()
         return {("bytes of no text", power(len(data)), mode)} | reasons
     found = Walk(mode).walk(document) | {("bytes of a text", power(len(data)), mode)}
-    found |= {("type", letter, mode) for letter in types.letters(document)}
-    return found | {("shape", number, mode) for number in types.shapes(document)}
+    stops, shapes = judged
+    return found | {("type", letter, mode) for letter in stops if stops[letter] is None} | {("shape", number, mode) for number in shapes}
 
 
 def pairs(*lists):
@@ -145,7 +146,7 @@ def wanted():
     yield "character in apostrophes", pairs(characters.CODES)
     yield "character in quotes", pairs(POSITIONS, characters.CODES)
     yield "type", pairs(types.TYPES)
-    yield "shape", pairs(range(types.SHAPE_COUNT))
+    yield "shape", pairs(range(len(types.SHAPES)))
     yield "refused", pairs(debug_refused.ROWS)
     yield "bytes of a text", pairs(powers(131072))
     yield "bytes of no text", pairs([0, *powers(131072)])

@@ -1,6 +1,6 @@
 """Documents that fill each cell of the table of coverage. What a cell leaves open is chosen at random."""
 from lib.model.coverage import BLOCKS, DEPTHS, EXACT_ENTRIES, EXACT_LENGTH, LEAVES, MANY, PLACES, powers
-from lib.model.model import DEEPEST, Block, quoted
+from lib.model.document import DEEPEST, Block, quoted
 
 KIND_OF_PLACE = {
     "entry of a list": "list",

@@ -1,7 +1,7 @@
 """Documents that fill each cell of the table of debug texts. What a cell leaves open is chosen at random."""
 from lib.model.coverage import BLOCKS, DEBUG_PLACES, EXACT_ENTRIES, EXACT_LENGTH, LEAVES, OPEN_STRUCTS, powers
 from lib.model.debug_leaves import ESCAPED, SHAPES
-from lib.model.model import DEEPEST, STRUCTS, Block
+from lib.model.document import DEEPEST, STRUCTS, Block
 
 DOTS = ".."
 NAME_SHAPES = ("p", "u", "Cp", "pCu", "wCw", "uCw")

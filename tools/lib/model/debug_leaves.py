@@ -10,7 +10,8 @@ import re
 
 from lib import data
 from lib.model import characters
-from lib.model.model import CONTROLS, IN_QUOTES, LIFETIME, QUOTED_CHARACTER, QUOTED_TEXT, START, UNIT, WORD, WORD_BYTES, quoted
+from lib.model.document import QUOTED_CHARACTER, QUOTED_TEXT, WORD, quoted
+from lib.model.reading import CONTROLS, IN_QUOTES, LIFETIME, START, UNIT, WORD_BYTES
 
 WORDS, QUOTES, COLONS, UNITS, LIFETIMES, STARTS = "wpu", "tco", "C", "U", "L", "WA"
 PIECE = re.compile("(%s)|(%s)|(:+)|%s|%s" % (WORD_BYTES, "|".join(IN_QUOTES), LIFETIME, UNIT))

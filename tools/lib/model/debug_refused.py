@@ -1,6 +1,6 @@
 """Texts that are no debug texts, by the reason why: those of tools/data/texts/refused.txt, and long ones."""
 from lib import data
-from lib.model.model import DEEPEST, STRUCTS, Block, plain, pretty
+from lib.model.document import DEEPEST, STRUCTS, Block, plain, pretty
 
 # What each of these in a row stands for.
 EACH = {

@@ -145,3 +145,11 @@ def unquoted(leaf):
         return letters.get(found[2], found[2])
 
     return ESCAPE.sub(decoded, leaf[1:-1])
+
+
+def depth_of(document):
+    """How deep blocks with entries are nested."""
+    if isinstance(document, str) or not document.entries:
+        return 0
+    inside = [each for before, value in document.entries for each in ((before, value) if document.kind == "map" else (value,))]
+    return 1 + max(map(depth_of, inside))

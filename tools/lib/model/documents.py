@@ -5,7 +5,7 @@ import random
 from lib import data
 from lib.model import characters, types
 from lib.model.debug_leaves import PRINTED, LeafMaker
-from lib.model.model import DEEPEST, STRUCTS, Block, plain, pretty, quoted
+from lib.model.document import DEEPEST, STRUCTS, Block, plain, pretty, quoted
 
 LETTERS = "abcxyzABCXYZ0189_-"
 # Characters of one to four bytes, the ends of these ranges, and characters that have an escape.

@@ -2,7 +2,8 @@
 import collections
 from typing import NamedTuple
 
-from lib.model.model import PIECE, STRUCTS, TOKEN
+from lib.model.document import STRUCTS
+from lib.model.reading import PIECE, TOKEN
 
 # What an entry takes in memory besides its texts, a pair of a key and a value, and a field.
 DOC, PAIR, FIELD = 56, 112, 80

@@ -5,7 +5,7 @@ from lib.model.covering import Covering
 from lib.model.debug_covering import DebugCovering
 from lib.model.debug_leaves import PRINTED
 from lib.model.documents import CHARACTERS, KINDS_OF_CHARACTERS, LENGTHS, DebugMaker, Maker
-from lib.model.model import DEEPEST, Block, plain, pretty, quoted
+from lib.model.document import DEEPEST, Block, plain, pretty, quoted
 
 
 def in_both_modes(documents):
@@ -46,7 +46,7 @@ def first_texts(seed):
     debug_covering = DebugCovering(debug_maker, Covering(debug_maker, DEBUG_PLACES))
     yield from (b"", b"\n", b"()", b"[]", b"{}", b'""', b"''", b"x\n")
     yield from pieces.first_texts()
-    yield from in_both_modes(types.first_texts(maker.random))
+    yield from in_both_modes(types.first_documents(maker.random))
     yield from in_both_modes(too_deep(maker))
     yield from in_both_modes(too_deep(debug_maker))
     yield from in_both_modes(covering.documents())

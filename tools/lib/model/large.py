@@ -2,7 +2,7 @@
 import resource
 import subprocess
 
-from lib.model.model import Block
+from lib.model.document import Block
 from lib.model.verdicts import half, leaf_verdict
 
 SIZE = 16 * 1024 * 1024

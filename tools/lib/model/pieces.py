@@ -25,7 +25,7 @@ import functools
 import re
 import zlib
 
-from lib.model.model import EMPTY, STRUCTS, Block, plain, pretty, quoted
+from lib.model.document import EMPTY, STRUCTS, Block, plain, pretty, quoted
 
 END = b"\xff"
 INDENT = "    "

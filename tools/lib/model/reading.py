@@ -237,3 +237,8 @@ class PrettyReader(Reader):
 
     def after_entry(self, text, at):
         return at + 2 if text.startswith(",\n", at) else None
+
+
+def document_of(text):
+    """The document of a plain debug text."""
+    return PlainReader(DEBUG).read(text)

@@ -24,7 +24,7 @@ from typing import NamedTuple
 
 from lib.model import floats
 from lib.model.dumps import dump
-from lib.model.model import Block, add_pretty, plain, pretty, quoted
+from lib.model.document import Block, add_pretty, plain, pretty, quoted
 from lib.model.pieces import by_character, by_text, digest, of_value, printed, with_zeros
 
 REQUEST_PREFIX = b"\0pieces "

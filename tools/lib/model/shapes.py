@@ -1,6 +1,6 @@
 """Documents of each shape, token documents and debug documents, and texts of no token document, in any size."""
 from lib import data
-from lib.model.model import STRUCTS, Block, plain, quoted
+from lib.model.document import STRUCTS, Block, plain, quoted
 
 PLACES = ("list", "set", "key", "value", "struct", "tuple", "unnamed")
 TREE = Block("struct", "Tree", [("size", "1"), ("children", Block("list", "", []))])

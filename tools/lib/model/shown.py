@@ -1,10 +1,52 @@
-"""What the leaves and the fields of a document show, in the order and the form in which the program notes it."""
+"""What the calls say of a document, in the order and the form in which the program notes it."""
 import string
 
-from lib.model.model import STRUCTS, unquoted
+from lib.model.document import STRUCTS, unquoted
 
 # How many fields of a struct are asked for, besides its last.
 MOST_FIELDS = 8
+EVENTS = {"list": "l", "set": "b", "map": "b", "struct": "s", "open struct": "s", "tuple": "t"}
+PARTS = {"list": "l", "set": "b", "map": "m", "struct": "s", "open struct": "d", "tuple": "t"}
+
+
+def events(document, out):
+    """The events that a scan emits: signs for each event, and its text. Dots come after `Next`, and end their struct."""
+    if isinstance(document, str):
+        out.append("=" + document + " ")
+        return
+    kind, name, entries = document
+    letter = EVENTS[kind] if name or kind != "tuple" else "u"
+    if not entries:
+        out.append("ed" + name + " " if kind == "open struct" else "e" + letter + " ")
+        return
+    out.append("o" + letter + name + " ")
+    for number, (before, value) in enumerate(entries):
+        if number > 0:
+            out.append(", ")
+        if kind in STRUCTS:
+            out.append("." + before + " ")
+        elif kind == "map":
+            events(before, out)
+            out.append(": ")
+        events(value, out)
+    out.append(", cd " if kind == "open struct" else "c" + letter + ("1 " if len(entries) == 1 else "2 "))
+
+
+def parts(document, out):
+    """The parts of a document: a letter and a name for each block, and its entries in parentheses."""
+    if isinstance(document, str):
+        inside = unquoted(document)
+        out.append("=" + document + (" " if inside is None else "~" + inside + " "))
+        return
+    kind, name, entries = document
+    out.append(PARTS[kind] + name + "(")
+    for before, value in entries:
+        if kind in STRUCTS:
+            out.append(before + ":")
+        elif kind == "map":
+            parts(before, out)
+        parts(value, out)
+    out.append(")")
 
 
 def text_of(document):
@@ -17,12 +59,8 @@ def text_of(document):
 
 def field_text(document, name):
     """The text of a struct's first field with this name. None if there is none, or if it is a block."""
-    if isinstance(document, str) or document.kind not in STRUCTS:
-        return None
-    for other, value in document.entries:
-        if other == name:
-            return text_of(value)
-    return None
+    fields = [] if isinstance(document, str) or document.kind not in STRUCTS else document.entries
+    return next((text_of(value) for other, value in fields if other == name), None)
 
 
 def noted(text):

@@ -1,18 +1,32 @@
-"""The types that the program parses, each by its letter in tools/data/texts/types.txt: their values' documents, and random ones.
+"""The types that the program parses, each by its letter in tools/data/texts/types.txt, and structs, tuples and an enum that are parsed by
+the calls and the macros for a user's types; and texts of their values and near them.
 
 The program prints the letter of a type if a value of it has the text.
 """
 from lib import data
 from lib.model import values
-from lib.model.model import Block, plain, quoted
-from lib.model.values import BYTE, CHARACTER, INTEGERS, ORDERING, TEXT, Choice, Decimal, Fields, Float, Keyed, List, Number, Reversed, Word
+from lib.model.document import plain
+from lib.model.places import Texts, stop
+from lib.model.reading import document_of
+from lib.model.values import Choice, Decimal, Fields, Float, Keyed, List, Number, Quoted, Reversed, Word
 
-PLAIN = {**INTEGERS, "f32": Float(32), "f64": Float(64), "Decimal": Decimal(), "bool": Word("false", "true"), "char": CHARACTER, "String": TEXT, "()": Word("()"),
-         "Ordering": ORDERING, "RangeFull": Word(".."), "Tree": values.Tree(), "Node": values.Node()}
+
+def integers():
+    """Each type of integers by its name."""
+    for name, bits in (("8", 8), ("16", 16), ("32", 32), ("64", 64), ("128", 128), ("size", 64)):
+        low, high = -(2 ** (bits - 1)), 2 ** (bits - 1)
+        yield from {"u" + name: Number(0, 2 * high - 1), "i" + name: Number(low, high - 1)}.items()
+        yield from {"NonZeroU" + name: Number(1, 2 * high - 1, False), "NonZeroI" + name: Number(low, high - 1, False)}.items()
+
+
+PLAIN = {**dict(integers()), "f32": Float(32), "f64": Float(64), "Decimal": Decimal(), "bool": Word("false", "true"), "char": Quoted("'"),
+         "String": Quoted('"'), "()": Word("()"), "Ordering": Word("Less", "Equal", "Greater", is_whole=True), "RangeFull": Word(".."),
+         "Tree": values.Tree(), "Node": values.Node()}
+BYTE, CHARACTER, TEXT = PLAIN["u8"], PLAIN["char"], PLAIN["String"]
 # What each makes of its parameters.
 GENERIC = {
-    "Option": lambda value: Choice("None", Some=value),
-    "Result": lambda value, error: Choice(None, Ok=value, Err=error),
+    "Option": values.option,
+    "Result": lambda value, error: Choice(None, ("Err",), Ok=value, Err=error),
     "Bound": lambda value: Choice("Unbounded", Included=value, Excluded=value),
     "ControlFlow": lambda stop, value: Choice(None, Continue=value, Break=stop),
     "Cell": lambda value: Fields("struct", "Cell", [("value", value)]),
@@ -47,10 +61,6 @@ def type_of(text):
 
 
 TYPES = {row[0]: type_of(row[2:]) for row in data.parts("texts/types.txt")["types"]}
-
-
-# ---- Structs, tuples and an enum that are parsed by the calls and the macros for a user's types.
-
 NAMES = "abcdefghijkl"
 
 
@@ -60,92 +70,66 @@ def mixed(kind, name, count):
     return Fields(kind, name, [(name, CHARACTER if number % 2 else BYTE) for number, name in enumerate(names)])
 
 
-TWELVE = Fields("struct", "Twelve", [(name, BYTE) for name in NAMES[:11]] + [("l", TEXT)])
-ONE = Fields("tuple", "One", [(None, TEXT)])
-SHAPES = [mixed(kind, name, count) for kind, name in (("struct", "S"), ("tuple", "T")) for count in (1, 2, 3, 12)]
-SAID = Fields("tuple", "Said", [(None, BYTE), (None, TEXT)])
-LOST = Fields("struct", "Lost", [("since", BYTE), ("peers", List(BYTE))])
-SIGNALS = (Word("Started"), SAID, LOST, Word("Ended"))
-KINDS_OF_SHAPES = (*SHAPES, TWELVE, ONE, *SIGNALS)
-SHAPE_COUNT = len(KINDS_OF_SHAPES)
+# Each struct, tuple and variant of a user's types, and how its fields are printed: of its first, its last, all but that, or all in a row.
+SHAPES = [(mixed(kind, name, count), kind[0] + ("{first};" if count == 1 else "({row});"))
+          for kind, name in (("struct", "S"), ("tuple", "T")) for count in (1, 2, 3, 12)]
+SHAPES += [
+    (Fields("struct", "Twelve", [(name, BYTE) for name in NAMES[:11]] + [("l", TEXT)]), "w(({others}), {last});"),
+    (Fields("tuple", "One", [(None, TEXT)]), "o{first};"),
+    (Word("Started"), "e(0, None, None);"),
+    (Fields("tuple", "Said", [(None, BYTE), (None, TEXT)]), "e(1, Some(({row})), None);"),
+    (Fields("struct", "Lost", [("since", BYTE), ("peers", List(BYTE))]), "e(2, None, Some(({row})));"),
+    (Word("Ended"), "e(3, None, None);"),
+]
+KINDS = [*TYPES.values(), *(kind for kind, _form in SHAPES)]
 
 
-def shapes(document):
-    """The numbers of these types that have a value with this document."""
-    return [number for number, kind in enumerate(KINDS_OF_SHAPES) if kind.has(document)]
+def judged(data, is_pretty):
+    """Where the text stops for each type, by its letter, and None for a type that has a value; and the numbers of the shapes that have one."""
+    texts = Texts(data, is_pretty)
+    return {letter: stop(kind, texts) for letter, kind in TYPES.items()}, [number for number, (kind, _) in enumerate(SHAPES) if stop(kind, texts) is None]
 
 
-def unnamed(values):
-    return Block("tuple", "", [(None, value) for value in values])
-
-
-def some(value):
-    return Block("tuple", "Some", [(None, value)])
-
-
-def values_of(document):
-    return [value for _name, value in document.entries]
-
-
-def fields(document):
-    """The fields of a document of one of these types, as the program prints them."""
-    if document in ("Started", "Ended"):
-        return "e(%d, None, None);" % (3 if document == "Ended" else 0)
-    if isinstance(document, str):
+def fields(document, shapes):
+    """The fields of a document of one of these shapes, as the program prints them."""
+    if not shapes:
         return ""
-    if any(shape.has(document) for shape in SHAPES):
-        found = values_of(document)
-        found = found[0] if len(found) == 1 else unnamed(found)
-        return document.kind[0] + plain(found) + ";"
-    if TWELVE.has(document):
-        found = values_of(document)
-        return "w" + plain(unnamed([unnamed(found[:11]), found[11]])) + ";"
-    if ONE.has(document):
-        return "o" + plain(values_of(document)[0]) + ";"
-    if SAID.has(document):
-        return "e" + plain(unnamed(["1", some(unnamed(values_of(document))), "None"])) + ";"
-    if LOST.has(document):
-        return "e" + plain(unnamed(["2", "None", some(unnamed(values_of(document)))])) + ";"
-    return ""
+    texts = [] if isinstance(document, str) else [plain(value) for _name, value in document.entries]
+    parts = {"first": texts[0], "last": texts[-1], "others": ", ".join(texts[:-1]), "row": ", ".join(texts)} if texts else {}
+    return SHAPES[shapes[0]][1].format(**parts)
 
 
-def first_texts(random):
+# ---- Texts of values and near them.
+
+NAMED = ("None", "Some", "Ok", "Err", "Maybe")
+SINGLE = ("1", "-129", "'a'", '"a"', "[]")
+KEYS = ("1, 2", "2, 1", "1, 1", "-1, 1", "-1, -2", "1, 128", '"a", "b"')
+TEXTS = ("0", "-0", "00", "-1", "01", "-01", "None", "Some", "true", "True", "Tree", "Node", "Tree { children: [], size: 1 }", "Tree { size: 1, children: None }",
+         "Node { value: 1, next: 1 }", '{"": Some(255), "a": Some(255)}', '{"b": Some(255), "a": Some(255)}', '{"a": Some(255), "a": Some(255)}',
+         '{"z": Some(255), "\u00e9": Some(255)}', '{"\u20ac": Some(255), "\U0001f980": Some(255)}')
+
+
+def first_documents(random):
     """Values of each type. The values at each number type's bounds, and one past them; and what is nearly a value."""
-    for kind in (*TYPES.values(), *KINDS_OF_SHAPES):
+    for kind in KINDS:
         yield from (surely(kind, random) for _ in range(3))
         yield kind.made(random)
-    bounds = {(kind.low, kind.high) for kind in TYPES.values() if isinstance(kind, Number)}
-    for low, high in sorted(bounds):
+    for low, high in sorted({(kind.low, kind.high) for kind in TYPES.values() if isinstance(kind, Number)}):
         yield from (str(number) for number in (low - 1, low, high, high + 1))
-    yield from ("0", "-0", "00", "-1", "01", "-01", "None", "Some", "true", "True", "Tree", "Node")
-    for name in ("None", "Some", "Ok", "Err", "Maybe"):
-        for value in ("1", "-129", "'a'", quoted("a"), Block("list", "", [])):
-            yield Block("tuple", name, [(None, value)])
-            yield Block("struct", name, [("value", value)])
-    for keys in (("1", "2"), ("2", "1"), ("1", "1"), ("-1", "1"), ("-1", "-2"), ("1", "128"), (quoted("a"), quoted("b"))):
-        yield Block("set", "", [(None, key) for key in keys])
-        yield Block("list", "", [(None, key) for key in keys])
-        yield Block("map", "", [(key, "None") for key in keys])
-    for keys in (("", "a"), ("b", "a"), ("a", "a"), ("z", "\u00e9"), ("\u20ac", "\U0001f980")):
-        yield Block("map", "", [(quoted(key), Block("tuple", "Some", [(None, "255")])) for key in keys])
-    yield Block("struct", "Tree", [("children", Block("list", "", [])), ("size", "1")])
-    yield Block("struct", "Tree", [("size", "1"), ("children", "None")])
-    yield Block("struct", "Node", [("value", "1"), ("next", "1")])
+    yield from map(document_of, TEXTS)
+    yield from (document_of(form % (name, value)) for name in NAMED for value in SINGLE for form in ("%s(%s)", "%s { value: %s }"))
+    for keys in KEYS:
+        yield from map(document_of, ("{%s}" % keys, "[%s]" % keys, "{%s: None}" % keys.replace(",", ": None,")))
 
 
 def surely(kind, random):
     """A value of the type."""
     while True:
         document = kind.made(random)
-        if kind.has(document):
+        if values.has(kind, document):
             return document
-
-
-def letters(document):
-    """The letters of the types that have a value with this document."""
-    return "".join(letter for letter, kind in TYPES.items() if kind.has(document))
 
 
 def made(random):
     """A value of one of the types, or what is nearly one."""
-    return random.choice([*TYPES.values(), *KINDS_OF_SHAPES]).made(random)
+    return random.choice(KINDS).made(random)

@@ -1,13 +1,19 @@
-"""Kinds of types: which documents are their values', and random values of them. types.py has the types that the program parses."""
+"""Kinds of types: where a text of a value ends, the order of keys, and random values. types.py has the types that the program parses.
+
+Each kind takes its text from a place in `Texts` of places.py, which says where what is around entries ends.
+"""
+import itertools
 import re
 
 from lib.model import floats
-from lib.model.model import Block, quoted, unquoted
+from lib.model.document import Block, plain, quoted, unquoted
+from lib.model.places import Stop, Texts, stop
 
-NUMBER = re.compile(r"0|-?[1-9][0-9]*")
+DIGITS = re.compile(rb"[0-9]*")
 # A sign, the digits of the whole number, and those after a point.
 DECIMAL = re.compile(r"(-?)(0|[1-9][0-9]*)(?:\.([0-9]+))?")
-MOST_PLACES = 255
+DECIMAL_BYTES, FLOAT_BYTES = re.compile(rb"-?[0-9]*(?:\.[0-9]*)?"), re.compile(rb"[-.0-9eNainf]*")
+MOST_PLACES, LONGEST_FLOAT = 255, 400
 # No number of a type has more digits.
 LONGEST = 40
 
@@ -16,10 +22,14 @@ class Number:
     def __init__(self, low, high, has_zero=True):
         self.low, self.high, self.has_zero = low, high, has_zero
 
-    def has(self, document):
-        if not isinstance(document, str) or len(document) > LONGEST or not NUMBER.fullmatch(document):
-            return False
-        return self.low <= int(document) <= self.high and (self.has_zero or document != "0")
+    def taken(self, texts, at, _blocks):
+        minus = self.low < 0 and texts.data[at : at + 1] == b"-"
+        digits = DIGITS.match(texts.data, at + minus)[0]
+        is_written = digits and (digits == b"0" or digits[:1] != b"0") and len(digits) <= LONGEST
+        number = int(digits) if is_written else 0
+        if not is_written or (minus and not number) or not (number or self.has_zero) or not self.low <= (-number if minus else number) <= self.high:
+            raise Stop(at, "Number")
+        return at + minus + len(digits)
 
     def order(self, document):
         return int(document)
@@ -39,12 +49,24 @@ class Number:
         return max(self.low, min(self.high, random.randrange(size, 10 * size)))
 
 
-class Float:
+class Spelled:
+    """A number whose text has these bytes: `is_text` says whether it is one."""
+
+    def taken(self, texts, at, _blocks):
+        text = self.bytes.match(texts.data, at)[0].decode()
+        if not self.is_text(text):
+            raise Stop(at, "Number")
+        return at + len(text)
+
+
+class Float(Spelled):
+    bytes = FLOAT_BYTES
+
     def __init__(self, width):
         self.width = width
 
-    def has(self, document):
-        return isinstance(document, str) and floats.reads(document, self.width) is not None
+    def is_text(self, text):
+        return 0 < len(text) <= LONGEST_FLOAT and floats.reads(text, self.width) is not None
 
     def made(self, random):
         """A float of the type, or what is nearly one."""
@@ -58,16 +80,16 @@ class Float:
         return random.choice(("4", "4.50", "+4.5", "1E5", "1e5", "-NaN", "nan", "infinity", "-0", ".5", "4."))
 
 
-class Decimal:
+class Decimal(Spelled):
     """A signed number of 64 bits, with a point before its last digits, if there is one."""
 
-    def has(self, document):
-        if not isinstance(document, str) or len(document) > LONGEST + MOST_PLACES:
-            return False
-        found = DECIMAL.fullmatch(document)
+    bytes = DECIMAL_BYTES
+
+    def is_text(self, text):
+        found = len(text) <= LONGEST + MOST_PLACES and DECIMAL.fullmatch(text)
         if not found or len(found[3] or "") > MOST_PLACES:
             return False
-        value = int(document.replace(".", ""))
+        value = int(text.replace(".", ""))
         return -(2**63) <= value < 2**63 and (value != 0 or not found[1])
 
     def made(self, random):
@@ -91,11 +113,16 @@ def decimal_text(value, places):
 
 
 class Word:
-    def __init__(self, *words):
-        self.words = words
+    """One of these words. `()` and `..` are punctuation. A truth value is found by its letters, and an ordering by its whole name."""
 
-    def has(self, document):
-        return document in self.words
+    def __init__(self, *words, is_whole=False):
+        self.words, self.is_whole = words, is_whole
+
+    def taken(self, texts, at, _blocks):
+        for word in map(str.encode, self.words):
+            if texts.is_named(word, at) if self.is_whole else texts.data.startswith(word, at):
+                return at + len(word)
+        raise Stop(at, "Name" if self.words[0].isalpha() else "Punctuation")
 
     def order(self, document):
         return self.words.index(document)
@@ -105,31 +132,39 @@ class Word:
 
 
 class Quoted:
-    def __init__(self, quote, characters):
-        self.quote, self.characters = quote, characters
+    def __init__(self, quote):
+        self.quote = quote
 
-    def has(self, document):
-        return isinstance(document, str) and document[0] == self.quote and unquoted(document) is not None
+    def taken(self, texts, at, _blocks):
+        end = texts.quoted_end(self.quote.encode(), at)
+        if end is None:
+            raise Stop(at, "Text" if self.quote == '"' else "Character")
+        return end
 
     def order(self, document):
         return unquoted(document).encode()
 
     def made(self, random):
         count = 1 if self.quote == "'" else random.randrange(4)
-        return quoted("".join(random.choices(self.characters, k=count)), self.quote)
+        return quoted("".join(random.choices("ab\"'\\\n\x1b\u00e9\u20ac\U0001f980", k=count)), self.quote)
 
 
 class Choice:
-    """A leaf, or one of some tuples with a value: `None`, `Some(x)`, `Ok(x)`, `Err(x)`."""
+    """A leaf, or one of some tuples with a value: `None`, `Some(x)`, `Ok(x)`, `Err(x)`. Those names are found by their letters alone
+    that are listed, and others if they are over there."""
 
-    def __init__(self, leaf, **variants):
-        self.leaf, self.variants = leaf, variants
+    def __init__(self, leaf, by_letters=(), **variants):
+        self.leaf, self.by_letters, self.variants = leaf, by_letters, variants
 
-    def has(self, document):
-        if isinstance(document, str):
-            return document == self.leaf
-        kind, name, entries = document
-        return kind == "tuple" and name in self.variants and len(entries) == 1 and self.variants[name].has(entries[0][1])
+    def taken(self, texts, at, blocks):
+        for name in ([self.leaf] if self.leaf else []) + list(self.variants):
+            data = name.encode()
+            if not (texts.data.startswith(data, at) if name in self.by_letters else texts.is_named(data, at)):
+                continue
+            if name == self.leaf:
+                return at + len(data)
+            return texts.fields(Fields("tuple", name, [(None, self.variants[name])]), at, blocks)
+        raise Stop(at, "Name")
 
     def order(self, document):
         if isinstance(document, str):
@@ -148,7 +183,7 @@ class Reversed(Choice):
     """`Reverse(n)` of numbers, in the opposite order."""
 
     def __init__(self, number):
-        super().__init__(None, Reverse=number)
+        super().__init__(None, ("Reverse",), Reverse=number)
 
     def order(self, document):
         return -self.variants["Reverse"].order(document.entries[0][1])
@@ -160,11 +195,11 @@ class List:
     def __init__(self, value, length=None):
         self.value, self.length = value, length
 
-    def has(self, document):
-        if isinstance(document, str) or document.kind != "list":
-            return False
-        is_long_enough = self.length is None or len(document.entries) == self.length
-        return is_long_enough and all(self.value.has(value) for _none, value in document.entries)
+    def taken(self, texts, at, blocks):
+        count, end = texts.entries("list", lambda at, inner: self.value.taken(texts, at, inner), at, blocks)
+        if self.length is not None and count != self.length:
+            raise Stop(at, "Count")
+        return end
 
     def order(self, document):
         return [self.value.order(value) for _none, value in document.entries]
@@ -182,12 +217,8 @@ class Fields:
     def __init__(self, kind, name, fields):
         self.kind, self.name, self.fields = kind, name, fields
 
-    def has(self, document):
-        if isinstance(document, str) or document.kind != self.kind or document.name != self.name:
-            return False
-        names = [name for name, _value in document.entries]
-        are_values = all(kind.has(value) for (_, kind), (_, value) in zip(self.fields, document.entries))
-        return names == [name for name, _kind in self.fields] and are_values
+    def taken(self, texts, at, blocks):
+        return texts.fields(self, at, blocks)
 
     def made(self, random):
         fields = [(name, kind.made(random)) for name, kind in self.fields]
@@ -204,55 +235,33 @@ class Keyed:
     def __init__(self, key, value=None):
         self.key, self.value = key, value
 
-    def has(self, document):
-        if isinstance(document, str):
-            return False
-        kind, _name, entries = document
-        if kind == "map" and (self.value or not entries):
-            keys = [key for key, _value in entries]
-            are_values = all(self.value.has(value) for _key, value in entries)
-        elif kind == "set" and not self.value:
-            keys = [key for _none, key in entries]
-            are_values = True
-        else:
-            return False
-        if not are_values or not all(self.key.has(key) for key in keys):
-            return False
-        orders = [self.key.order(key) for key in keys]
-        return all(before < after for before, after in zip(orders, orders[1:]))
+    def taken(self, texts, at, blocks):
+        orders = []
 
-    def ascending(self, keys):
-        """The keys in order, each once."""
-        out = []
-        for key in sorted(keys, key=self.key.order):
-            if not out or self.key.order(out[-1]) != self.key.order(key):
-                out.append(key)
-        return out
+        def entry(at, inner):
+            key = self.key.taken(texts, at, inner)
+            orders.append(self.key.order(texts.document(at, key, inner)))
+            return self.value.taken(texts, texts.piece(b": ", key), inner) if self.value else key
+
+        _count, end = texts.entries("map" if self.value else "set", entry, at, blocks)
+        if not all(before < after for before, after in zip(orders, orders[1:])):
+            raise Stop(at, "Order")
+        return end
 
     def made(self, random):
         keys = [self.key.made(random) for _ in range(int(2 ** random.uniform(0, 4)) - 1)]
-        keys = [key for key in keys if self.key.has(key)]
-        form = random.random()
-        if form < 0.8:
-            keys = self.ascending(keys)
+        keys = [key for key in keys if has(self.key, key)]
+        if random.random() < 0.8:
+            # In order, each once.
+            keys = [next(equal) for _order, equal in itertools.groupby(sorted(keys, key=self.key.order), self.key.order)]
         if not keys:
             return Block("map", "", [])
-        if self.value:
-            return Block("map", "", [(key, self.value.made(random)) for key in keys])
-        return Block("set", "", [(None, key) for key in keys])
-
-
-CHARACTERS = "ab\"'\\\n\x1b\u00e9\u20ac\U0001f980"
-TEXT = Quoted('"', CHARACTERS)
-CHARACTER = Quoted("'", CHARACTERS)
-
-
-SIZE = Number(0, 2**64 - 1)
+        return Block("map" if self.value else "set", "", [(key, self.value.made(random)) if self.value else (None, key) for key in keys])
 
 
 class Tree:
-    def has(self, document):
-        return TREE.has(document)
+    def taken(self, texts, at, blocks):
+        return TREE.taken(texts, at, blocks)
 
     def made(self, random):
         size = SIZE.made(random)
@@ -261,8 +270,8 @@ class Tree:
 
 
 class Node:
-    def has(self, document):
-        return NODE.has(document)
+    def taken(self, texts, at, blocks):
+        return NODE.taken(texts, at, blocks)
 
     def made(self, random):
         value = SIZE.made(random)
@@ -270,20 +279,15 @@ class Node:
         return Block("struct", "Node", [("value", value), ("next", following)])
 
 
+def option(value):
+    return Choice("None", ("None", "Some"), Some=value)
+
+
+SIZE = Number(0, 2**64 - 1)
 TREE = Fields("struct", "Tree", [("size", SIZE), ("children", List(Tree()))])
-NODE = Fields("struct", "Node", [("value", SIZE), ("next", Choice("None", Some=Node()))])
+NODE = Fields("struct", "Node", [("value", SIZE), ("next", option(Node()))])
 
 
-# ---- The types without parameters.
-
-
-def integers():
-    """Each type of integers by its name."""
-    for name, bits in (("8", 8), ("16", 16), ("32", 32), ("64", 64), ("128", 128), ("size", 64)):
-        low, high = -(2 ** (bits - 1)), 2 ** (bits - 1)
-        yield from {"u" + name: Number(0, 2 * high - 1), "i" + name: Number(low, high - 1)}.items()
-        yield from {"NonZeroU" + name: Number(1, 2 * high - 1, False), "NonZeroI" + name: Number(low, high - 1, False)}.items()
-
-
-INTEGERS = dict(integers())
-BYTE, ORDERING = INTEGERS["u8"], Word("Less", "Equal", "Greater")
+def has(kind, document):
+    """Whether a document is that of a value."""
+    return stop(kind, Texts(plain(document).encode(), False)) is None

@@ -1,37 +1,39 @@
 """The lines that the programs should print: of each text all that the calls say of it, and what ufmt_conv writes."""
 from lib.model import coverage, pieces, places, requests, types
-from lib.model.model import DEBUG, DEEPEST, NO_UTF8, TOKEN, PlainReader, PrettyReader, depth_of, events, parts, plain, pretty, quoted
-from lib.model.shown import shown
+from lib.model.document import DEEPEST, depth_of, plain, pretty, quoted
+from lib.model.reading import DEBUG, NO_UTF8, TOKEN, PlainReader, PrettyReader
+from lib.model.shown import events, parts, shown
 
 
 def digest(text):
     return pieces.digest(text.encode())
 
 
-def joined(add, document):
+def said(add, document):
+    """What one of the calls says of a document."""
     out = []
     add(document, out)
-    return "".join(out)
+    return digest("".join(out))
 
 
 def reading(document, is_pretty, is_token):
     """What the calls of either class say of a text with this document."""
     return "token %s, events %s, converted %s, parts %s, shown %s, %s" % (
         "yes" if is_token else "no",
-        digest(joined(events, document)),
+        said(events, document),
         digest((plain if is_pretty else pretty)(document)),
-        digest(joined(parts, document)),
-        digest(joined(shown, document)),
+        said(parts, document),
+        said(shown, document),
         pieces.of_text(document, is_pretty),
     )
 
 
-def parsed(document, data, is_pretty):
+def parsed(document, data, is_pretty, judged):
     """Which types have a value with a text, the fields of those of a user's types, and the errors of the other types."""
-    letters = types.letters(document) if document is not None else ""
-    fields = types.fields(document) if document is not None else ""
-    errors = digest(places.stops(data, is_pretty))
-    return "types [%s] in pieces %s, fields %s, errors %s" % (letters, pieces.of_values(document, is_pretty, letters), digest(fields), errors)
+    stops, shapes = judged
+    letters = "".join(letter for letter, found in stops.items() if found is None)
+    printed = pieces.of_values(document, is_pretty, letters), digest(types.fields(document, shapes)), digest(places.errors(data, stops))
+    return "types [%s] in pieces %s, fields %s, errors %s" % (letters, *printed)
 
 
 def of_classes(text, document, debug_document, is_pretty):
@@ -48,9 +50,11 @@ def of_classes(text, document, debug_document, is_pretty):
     )
 
 
-def half(text, document, debug_document, is_pretty):
+def half(text, document, debug_document, is_pretty, judged=None):
     """What the calls of one mode say of a text: of its token document, of its debug document, and of values."""
-    return "%s; values: %s" % (of_classes(text, document, debug_document, is_pretty), parsed(debug_document, text.encode(errors="surrogateescape"), is_pretty))
+    data = text.encode(errors="surrogateescape")
+    judged = judged or types.judged(data, is_pretty)
+    return "%s; values: %s" % (of_classes(text, document, debug_document, is_pretty), parsed(debug_document, data, is_pretty, judged))
 
 
 def kinds(text_class, text):
@@ -77,12 +81,17 @@ def verdict(data):
     """The line that the program prints of these bytes, and the cells of the table of coverage that they fill."""
     if data.startswith(requests.REQUEST_PREFIX):
         return requests.verdict(data), set()
-    text = data.decode(errors="surrogateescape")
-    found = [(token.read(text), debug.read(text)) for token, debug in READERS]
-    halves = [half(text, *documents, is_pretty) for documents, is_pretty in zip(found, (False, True))]
+    text, halves, cells = data.decode(errors="surrogateescape"), [], set()
+    for is_pretty, readers in enumerate(READERS):
+        documents, judged = [reader.read(text) for reader in readers], types.judged(data, bool(is_pretty))
+        halves.append(half(text, *documents, bool(is_pretty), judged))
+        cells |= coverage.cells(data, documents[1], coverage.MODES[is_pretty], judged)
     leaf = "no UTF-8" if NO_UTF8.search(text) else leaf_verdict(text)
-    cells = [coverage.cells(data, debug, mode) for mode, (_token, debug) in zip(coverage.MODES, found)]
-    return "plain: %s; pretty: %s; leaf: %s" % (*halves, leaf), set().union(*cells)
+    return "plain: %s; pretty: %s; leaf: %s" % (*halves, leaf), cells
+
+
+# The reader of what each command of ufmt_conv converts, how its result is laid out, and what the input should be.
+CONVERSIONS = {"pretty": (READERS[0][0], pretty, "plain"), "plain": (READERS[1][0], plain, "pretty")}
 
 
 def outcome(command, data):
@@ -92,15 +101,8 @@ def outcome(command, data):
         if lines[-1] == b"":
             lines.pop()
         return 0, "[%s]\n" % ", ".join(str(len(line)) for line in lines), ""
-    try:
-        text = data.decode().removesuffix("\n")
-    except UnicodeDecodeError:
-        text = None
-    reader, convert, name = {
-        "pretty": (PlainReader(), pretty, "plain"),
-        "plain": (PrettyReader(), plain, "pretty"),
-    }[command]
-    document = None if text is None else reader.read(text)
+    reader, laid_out, name = CONVERSIONS[command]
+    document = reader.read(data.decode(errors="surrogateescape").removesuffix("\n"))
     if document is None:
         return 1, "", "ufmt_conv: not a %s text\n" % name
-    return 0, convert(document) + "\n", ""
+    return 0, laid_out(document) + "\n", ""
