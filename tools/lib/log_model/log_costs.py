@@ -11,7 +11,7 @@ import tempfile
 from typing import Callable, NamedTuple
 
 from lib import data, findings
-from lib.log_model import log_model, devices
+from lib.log_model import log_model
 from lib.log_model.logs import CHUNK
 from lib.measures import FACTOR
 from lib.model.document import Block, pretty

@@ -7,7 +7,7 @@ from lib.log_model import log_model
 from lib.model import bounds, shapes
 from lib.model.costs import SECONDS, rough
 from lib.model.features import features, indentation
-from lib.model.document import plain, pretty
+from lib.model.document import list_of, plain, pretty
 
 # A text has a document of each shape, of so many bytes or of some times that. Steps are not counted of texts that have
 # more bytes besides their indentation.
@@ -38,7 +38,7 @@ class Run(NamedTuple):
 
 
 def one_of_each(size):
-    return shapes.listed([make(size) for make in shapes.documents().values()])
+    return list_of(*(make(size) for make in shapes.documents().values()))
 
 
 def document_runs(name, document):
@@ -118,7 +118,7 @@ def read_steps(counter, arguments, name, data):
 
 def short_reads(programs):
     """Each command with what it reads: of ufmt_conv one text, of ufmt_lines a line for each read, and a line or group of all reads."""
-    yield "ufmt_conv pretty", programs["ufmt_conv"], ["pretty"], plain(shapes.listed(["12345678"] * READS)).encode()
+    yield "ufmt_conv pretty", programs["ufmt_conv"], ["pretty"], plain(list_of(*["12345678"] * READS)).encode()
     yield "ufmt_lines", programs["ufmt_lines"], [], b"a line: 7\n" * READS
     yield "ufmt_lines --plain", programs["ufmt_lines"], ["--plain"], b"a line: 7\n" * READS
     yield "ufmt_lines, a long line", programs["ufmt_lines"], [], b"a word, 7 " * READS

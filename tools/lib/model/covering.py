@@ -1,19 +1,15 @@
 """Documents that fill each cell of the table of coverage. What a cell leaves open is chosen at random."""
-from lib.model.coverage import BLOCKS, DEPTHS, EXACT_ENTRIES, EXACT_LENGTH, LEAVES, MANY, PLACES, powers
-from lib.model.document import DEEPEST, Block, quoted
+from lib.model.coverage import BLOCKS, DEPTHS, EXACT_ENTRIES, EXACT_LENGTH, LEAVES, MANY, PLACE_IN, PLACES, powers
+from lib.model.document import DEEPEST, Block, list_of, quoted, tuple_of
 
-KIND_OF_PLACE = {
-    "entry of a list": "list",
-    "entry of a set": "set",
-    "key": "map",
-    "value": "map",
-    "field of a struct": "struct",
-    "field of an open struct": "open struct",
-    "field of a tuple": "tuple",
-    "field without names": "unnamed",
-}
+KIND_OF_PLACE = {place: kind for kind, place in PLACE_IN.items()}
 # Blocks of blocks have about so many leaves.
 LEAVES_EACH = 500
+
+
+def turns(row):
+    """The row with each of its items first."""
+    return [row[at:] + row[:at] for at in range(1, len(row) + 1)]
 
 
 class Covering:
@@ -24,23 +20,15 @@ class Covering:
 
     def documents(self):
         yield from (self.of_kind(kind) for kind in BLOCKS + LEAVES)
-        yield from self.places()
-        yield from self.lengths()
-        yield from self.entries()
-        yield from self.spines()
-        yield from self.equals()
+        for each in (self.places, self.lengths, self.entries, self.spines, self.equals):
+            yield from each()
 
     def of_kind(self, kind):
-        if kind == "word":
-            return self.maker.word()
-        if kind == "unit":
-            return "()"
-        if kind == "text":
-            return self.maker.text(self.random.randrange(9))
-        if kind == "character":
-            return self.maker.character()
         if kind.startswith("empty"):
             return Block(kind[6:], "", [])
+        if kind in LEAVES:
+            return {"word": self.maker.word, "unit": lambda: "()", "text": lambda: self.maker.text(self.random.randrange(9)),
+                    "character": self.maker.character}[kind]()
         return self.maker.block(kind, [self.maker.leaf() for _ in range(self.random.choice((1, 1, 2, 3)))])
 
     def kinds(self):
@@ -53,31 +41,29 @@ class Covering:
         """A block with these documents in the place."""
         if place == "key":
             return Block("map", "", [(document, self.maker.leaf()) for document in documents])
-        if place == "value":
-            return Block("map", "", [(self.maker.leaf(), document) for document in documents])
         return self.maker.block(KIND_OF_PLACE[place], documents)
 
     def places(self):
         """Each kind in each place: alone, first, in the middle and last; and in each place of a block in each place."""
         for place in PLACES:
-            yield Block("list", "", [(None, self.inside(place, [document])) for document in self.kinds()])
-            documents = self.kinds()
-            for _ in documents:
-                documents = documents[1:] + documents[:1]
-                yield self.inside(place, documents)
-            for outer in PLACES:
-                yield self.inside(outer, [self.inside(place, self.kinds())])
+            yield list_of(*(self.inside(place, [document]) for document in self.kinds()))
+            yield from (self.inside(place, documents) for documents in turns(self.kinds()))
+            yield from (self.inside(outer, [self.inside(place, self.kinds())]) for outer in PLACES)
 
     def within(self, size):
         """A number of this class of sizes."""
         return self.random.randint(size // 2 + 1, size)
 
+    def sizes(self, exact, last):
+        """Each number up to one, and one of each class from there to the last."""
+        return [*range(1, exact + 1), *(self.within(size) for size in powers(last) if size > exact)]
+
     def lengths(self):
         """Names, words and texts of each length."""
-        sizes = [*range(1, EXACT_LENGTH + 1), *(self.within(size) for size in powers(16384) if size > EXACT_LENGTH)]
+        sizes = self.sizes(EXACT_LENGTH, 16384)
         for sixteen in (sizes[at : at + 16] for at in range(0, len(sizes), 16)):
             yield Block("set", "", [(None, self.named(size)) for size in sixteen])
-            yield Block("list", "", [(None, Block("tuple", self.maker.word(size), [(None, self.text(size))])) for size in sixteen])
+            yield list_of(*(tuple_of(self.text(size), name=self.maker.word(size)) for size in sixteen))
         for size in powers(262144)[15:]:
             yield self.maker.word(self.within(size))
             yield self.text(self.within(size))
@@ -94,11 +80,11 @@ class Covering:
         """Blocks of each kind with each number of entries."""
         for kind in BLOCKS:
             row, leaves = [], 0
-            for count in [*range(1, EXACT_ENTRIES + 1), *(self.within(size) for size in powers(1024) if size > EXACT_ENTRIES)]:
-                row.append((None, self.wide(kind, count)))
+            for count in self.sizes(EXACT_ENTRIES, 1024):
+                row.append(self.wide(kind, count))
                 leaves += count
                 if leaves > LEAVES_EACH:
-                    yield Block("list", "", row)
+                    yield list_of(*row)
                     row, leaves = [], 0
             yield from (self.wide(kind, self.within(size)) for size in powers(512))
 
@@ -125,49 +111,40 @@ class Covering:
             yield from named
             yield self.spine(lambda depth, named=named: list(named) if depth < DEEPEST else [], 1)
         yield self.spine(self.deep_entries, 1)
-        for count in (1, 2, 3):
-            yield self.keys(count)
+        yield from map(self.keys, (1, 2, 3))
 
     def deep_named(self, kind, length):
         field = self.maker.word(length) if kind == "struct" else None
         return Block(kind, self.maker.word(length), [(field, self.maker.small())])
 
     def deep_entries(self, depth):
-        if depth == DEEPEST:
-            return []
-        return [self.wide(self.random.choice(BLOCKS), self.within(size)) for size in powers(256)]
+        return [self.wide(self.random.choice(BLOCKS), self.within(size)) for size in powers(256)] if depth < DEEPEST else []
 
     def depths(self, less):
         """A depth of each class, less this."""
-        chosen = [255 if depth == 255 else min(self.within(depth), 254) for depth in DEPTHS]
-        return {depth - less for depth in chosen}
+        return {(255 if depth == 255 else min(self.within(depth), 254)) - less for depth in DEPTHS}
 
-    def spine(self, beside, less=0):
-        """A chain of blocks. At some depths it has documents beside."""
-        depths = self.depths(less)
+    def nested(self, depths, beside, place):
+        """A chain of blocks. At these depths it has documents beside."""
         document = self.maker.leaf()
         for depth in range(DEEPEST, 0, -1):
             documents = beside(depth) if depth in depths else []
-            documents.insert(self.random.randint(0, len(documents)), document) if documents else documents.append(document)
-            document = self.inside(self.random.choice(self.in_places), documents)
+            documents.insert(self.random.randint(0, len(documents)), document)
+            document = self.inside(place or self.random.choice(self.in_places), documents)
         return document
+
+    def spine(self, beside, less=0):
+        return self.nested(self.depths(less), beside, None)
 
     def keys(self, count):
         """Maps in the keys of maps, as deep as allowed. At some depths they have so many entries."""
-        depths = self.depths(-1) | {1}
-        document = self.maker.leaf()
-        for depth in range(DEEPEST, 0, -1):
-            documents = [self.maker.leaf() for _ in range(count - 1)] if depth in depths else []
-            documents.insert(self.random.randint(0, len(documents)), document)
-            document = self.inside("key", documents)
-        return document
+        return self.nested(self.depths(-1) | {1}, lambda _depth: [self.maker.leaf() for _ in range(count - 1)], "key")
 
     def equals(self):
         """Two equal entries, keys or names of fields, side by side and not."""
         for kind in BLOCKS:
-            for names in (("a", "a"), ("a", "b", "a"), ("b", "a", "a"), ("a", "b", "c", "a"), ("a", "a", "a")):
+            for names in ("aa", "aba", "baa", "abca", "aaa"):
                 if kind in ("map", "struct"):
-                    entries = [(name, self.maker.leaf()) for name in names]
-                    yield Block(kind, "S" if kind == "struct" else "", entries)
+                    yield Block(kind, "S" if kind == "struct" else "", [(name, self.maker.leaf()) for name in names])
                 else:
                     yield self.maker.block(kind, list(names))

@@ -20,6 +20,14 @@ class Block(NamedTuple):
     entries: list
 
 
+def list_of(*values):
+    return Block("list", "", [(None, value) for value in values])
+
+
+def tuple_of(*values, name=""):
+    return Block("tuple", name, [(None, value) for value in values])
+
+
 # ---- The layout of blocks. A row has what opens the block after its name, and what closes it.
 
 PLAIN_FRAMES = {

@@ -1,20 +1,50 @@
 """The texts that come first with every seed: each cell of the table of coverage, and each shape at each limit."""
-from lib.model import characters, debug_refused, pieces, types
+from lib import data
+from lib.model import characters, debug_refused, types
 from lib.model.coverage import DEBUG_PLACES, powers
 from lib.model.covering import Covering
 from lib.model.debug_covering import DebugCovering
 from lib.model.debug_leaves import PRINTED
-from lib.model.documents import CHARACTERS, KINDS_OF_CHARACTERS, LENGTHS, DebugMaker, Maker
 from lib.model.document import DEEPEST, Block, plain, pretty, quoted
+from lib.model.documents import CHARACTERS, KINDS_OF_CHARACTERS, LENGTHS, DebugMaker, Maker
+from lib.model.reading import document_of
+
+TABLES, CHANGES = data.parts("texts/lengths.txt"), data.parts("texts/changes.txt")
+# Lengths and depths at which a bound of pieces could be.
+BOUNDS = (1, 2, 3, 4, 7, 8, 9, 15, 16, 17, 31, 32, 33, 63, 64, 65, 127, 128, 129, 255, 256, 257, 999, 1000, 1001, 4095, 4096, 4097, 5000)
+DEPTHS = (1, 2, 3, 5, 16, 31, 32, 33, 43, 44, 63, 64, 65, 127, 128, 129, 200, 253, 254)
+LONGEST = 100_000
+# Characters of one to four bytes, and some with escapes of two to six bytes.
+ESCAPED = "a\u00e9\u20ac\U0001f980\0\"'\x01\x1b"
+# What is put into a small text at each place, and how many letters are before and after a piece in quotes: more than are compared at once.
+BYTES = [bytes([byte]) for byte in b'[]{}(),: \nx"\0\xff']
+LETTERS = 40
 
 
 def in_both_modes(documents):
+    """Both texts of each. A leaf has one."""
     for document in documents:
-        texts = plain(document), pretty(document)
-        yield texts[0].encode()
-        # A leaf has one text.
-        if texts[0] != texts[1]:
-            yield texts[1].encode()
+        yield from dict.fromkeys((plain(document).encode(), pretty(document).encode()))
+
+
+def at_bounds():
+    """Names and leaves of each length, stretches of it between escapes, and blocks at each depth."""
+    for length in (*BOUNDS, LONGEST):
+        yield from (document_of(row.replace("<n>", "n" * length)) for row in TABLES["names"])
+    for length in BOUNDS:
+        for character in ESCAPED:
+            yield from (quoted(("b" * length + character) * 3), quoted(character * length + "\n" + character))
+    for depth in DEPTHS:
+        yield from (document_of("[" * depth + row + "]" * depth) for row in TABLES["blocks"])
+
+
+def changed():
+    """The beginnings of small texts, and each without a byte and with one byte more, at each place; and texts in quotes with a piece at each."""
+    for text in in_both_modes(document_of(data.text_of(row)) for row in CHANGES["texts"]):
+        for place in range(len(text) + 1):
+            yield from (text[:place], text[:place] + text[place + 1 :], *(text[:place] + byte + text[place:] for byte in BYTES))
+    for piece in map(data.data_of, CHANGES["pieces"]):
+        yield from (b'"' + b"x" * before + piece + b"x" * (LETTERS - before) + b'"' for before in range(LETTERS))
 
 
 def too_deep(maker):
@@ -27,44 +57,34 @@ def too_deep(maker):
             yield document
 
 
-def listed_leaves(leaves):
-    """Each leaf by itself, and all in a list."""
-    yield from leaves
-    yield Block("list", "", [(None, leaf) for leaf in leaves])
-
-
 def late_block():
     """A block after more leaves than a number of two bytes counts."""
     leaves = [(None, "x")] * 70_000
-    return Block("list", "", [*leaves, (None, Block("struct", "S", [("a", "1")])), (None, Block("list", "", [(None, "y")]))])
+    return Block("list", "", [*leaves, (None, document_of("S { a: 1 }")), (None, document_of("[y]"))])
 
 
 def first_texts(seed):
     """All of them."""
     maker, debug_maker = Maker(seed), DebugMaker(seed)
     covering = Covering(maker)
-    debug_covering = DebugCovering(debug_maker, Covering(debug_maker, DEBUG_PLACES))
+    debug_covering = DebugCovering(debug_maker, DEBUG_PLACES)
     yield from (b"", b"\n", b"()", b"[]", b"{}", b'""', b"''", b"x\n")
-    yield from pieces.first_texts()
+    yield from in_both_modes(at_bounds())
     yield from in_both_modes(types.first_documents(maker.random))
-    yield from in_both_modes(too_deep(maker))
-    yield from in_both_modes(too_deep(debug_maker))
-    yield from in_both_modes(covering.documents())
-    yield from in_both_modes(debug_covering.documents())
-    yield from in_both_modes(listed_leaves(PRINTED))
+    for each in (too_deep(maker), too_deep(debug_maker), covering.documents(), debug_covering.documents()):
+        yield from in_both_modes(each)
+    yield from in_both_modes([*PRINTED, Block("list", "", [(None, leaf) for leaf in PRINTED])])
     yield from debug_refused.texts()
+    yield from changed()
     for number, document in enumerate(covering.many()):
         yield (plain, pretty)[(number + seed) % 2](document).encode()
     for character in CHARACTERS:
-        for length in (1, 255, 256, 257, 4097):
-            yield quoted(character * length).encode()
+        yield from (quoted(character * length).encode() for length in (1, 255, 256, 257, 4097))
         yield quoted(character, "'").encode()
-    for character in KINDS_OF_CHARACTERS:
-        yield quoted(character * 100_000).encode()
+    yield from (quoted(character * 100_000).encode() for character in KINDS_OF_CHARACTERS)
     yield from in_both_modes([late_block()])
     for length in LENGTHS:
-        yield b"x" * length
-        yield b" " * length
+        yield from (b"x" * length, b" " * length)
     for size in powers(131072):
         yield maker.characters(size).encode()[: covering.within(size) - 1] + b"]"
     yield from characters.texts()

@@ -1,4 +1,4 @@
-"""Which pieces a writer is passed, and by which call: the model's rules, and texts where a bound of pieces could be.
+"""Which pieces a writer is passed, and by which call: the model's rules.
 
 A piece is noted as `t` if it should come by `write_str`, or as `c` if it should come by `write_char`; then its bytes, and a
 byte that no text has.
@@ -25,10 +25,9 @@ import functools
 import re
 import zlib
 
-from lib.model.document import EMPTY, STRUCTS, Block, plain, pretty, quoted
+from lib.model.document import EMPTY, INDENT, STRUCTS
 
 END = b"\xff"
-INDENT = "    "
 OPENING = {"list": "[", "set": "{", "map": "{"}
 CLOSING = {"list": "]", "set": "}", "map": "}", "struct": "}", "open struct": "}", "tuple": ")"}
 # What comes before the first entry of a block, in plain mode and in pretty mode.
@@ -101,25 +100,13 @@ def printed(document, is_pretty, of_leaf=by_text, depth=0):
 
 def printed_ending(document, is_pretty, depth):
     kind, name, entries = document
-    if kind == "open struct":
-        return printed_dots(entries, is_pretty, depth)
     if not entries:
-        return by_text(CLOSING[kind]) if kind in OPENING else b""
+        return by_text(EMPTY[kind] if kind == "open struct" else CLOSING[kind]) if kind in (*OPENING, "open struct") else b""
     if is_pretty:
-        return indents(depth) + by_text(CLOSING[kind])
-    if kind == "struct":
-        return by_text(" ", "}")
-    is_single = kind == "tuple" and name == "" and len(entries) == 1
-    return by_text(",", ")") if is_single else by_text(CLOSING[kind])
-
-
-def printed_dots(entries, is_pretty, depth):
-    """Dots and the end of a struct."""
-    if not entries:
-        return by_text(EMPTY["open struct"])
-    if is_pretty:
-        return indents(depth + 1) + by_text("..\n") + indents(depth) + by_text("}")
-    return by_text(", ..", " ", "}")
+        dots = indents(depth + 1) + by_text("..\n") if kind == "open struct" else b""
+        return dots + indents(depth) + by_text(CLOSING[kind])
+    single = (",",) if kind == "tuple" and name == "" and len(entries) == 1 else ()
+    return by_text(*{"struct": (" ",), "open struct": (", ..", " ")}.get(kind, single), CLOSING[kind])
 
 
 # ---- Conversions.
@@ -188,75 +175,3 @@ def of_values(document, is_pretty, letters):
         return digest(b"")
     value = printed(document, is_pretty, of_value)
     return digest(b"".join(with_zeros(document) if letter == DECIMAL else value for letter in letters))
-
-
-# ---- Texts with names, leaves and blocks at each bound.
-
-LENGTHS = (1, 2, 3, 4, 7, 8, 9, 15, 16, 17, 31, 32, 33, 63, 64, 65, 127, 128, 129, 255, 256, 257, 999, 1000, 1001, 4095, 4096, 4097, 5000)
-LONGEST = 100_000
-KINDS = ("list", "set", "map", "struct", "open struct", "tuple")
-# Characters of one to four bytes, and some with escapes of two to six bytes.
-CHARACTERS = "a\u00e9\u20ac\U0001f980\0\"'\x01\x1b"
-
-
-def block(kind, name, values):
-    """A block of this kind, of which all names are this one."""
-    before = name if kind in STRUCTS else {"map": "k"}.get(kind)
-    return Block(kind, name if kind in (*STRUCTS, "tuple") else "", [(before, value) for value in values])
-
-
-def named(length):
-    """Blocks in which a name or a leaf has this length."""
-    name = "n" * length
-    yield Block("struct", name, [("a", "x")])
-    yield Block("struct", "S", [("a", "x"), (name, "y"), ("b", "z")])
-    yield Block("open struct", name, [])
-    yield Block("open struct", name, [("a", "x")])
-    yield Block("open struct", "S", [("a", "x"), (name, "y"), ("b", "z")])
-    yield Block("tuple", name, [(None, "x"), (None, "y"), (None, "z")])
-    yield Block("map", "", [(name, "x"), ("k", name)])
-    for kind in ("list", "set", "struct", "open struct", "tuple"):
-        yield block(kind, "T", ["x", quoted(name), name])
-
-
-def stretches(length):
-    """Texts in quotes, with stretches of this length between escapes."""
-    for character in CHARACTERS:
-        yield quoted(("b" * length + character) * 3)
-        yield quoted(character * length + "\n" + character)
-
-
-def wide(width):
-    """Blocks of each kind with so many entries."""
-    for kind in KINDS:
-        yield block(kind, "T", ["x"] * width)
-    yield Block("tuple", "", [(None, "x")] * width)
-
-
-def documents():
-    for length in (*LENGTHS, LONGEST):
-        yield from named(length)
-    for length in LENGTHS:
-        yield from stretches(length)
-    for width in range(1, 18):
-        yield from wide(width)
-
-
-def deep(depth):
-    """A block of each kind at this depth, in lists."""
-    for kind in KINDS:
-        document = Block("list", "", [(None, block(kind, "T", ["x", Block("list", "", []), "y"]))])
-        for _ in range(depth - 1):
-            document = Block("list", "", [(None, document)])
-        yield document
-
-
-def first_texts():
-    """Texts that come first with every seed."""
-    for document in documents():
-        yield plain(document).encode()
-        yield pretty(document).encode()
-    for depth in (1, 2, 3, 5, 16, 31, 32, 33, 43, 44, 63, 64, 65, 127, 128, 129, 200, 253, 254):
-        for document in deep(depth):
-            yield plain(document).encode()
-            yield pretty(document).encode()

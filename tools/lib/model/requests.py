@@ -24,7 +24,8 @@ from typing import NamedTuple
 
 from lib.model import floats
 from lib.model.dumps import dump
-from lib.model.document import Block, add_pretty, plain, pretty, quoted
+from lib.model.document import Block, add_pretty, list_of, plain, pretty, quoted, tuple_of
+from lib.model.reading import document_of
 from lib.model.pieces import by_character, by_text, digest, of_value, printed, with_zeros
 
 REQUEST_PREFIX = b"\0pieces "
@@ -57,14 +58,6 @@ def asked(data):
     """The request that these bytes are."""
     line, payload = data[len(REQUEST_PREFIX) :].split(b"\n", 1)
     return Request(*map(int, line.split()), payload)
-
-
-def tuple_of(*values, name=""):
-    return Block("tuple", name, [(None, value) for value in values])
-
-
-def list_of(*values):
-    return Block("list", "", [(None, value) for value in values])
 
 
 # ---- Lines, columns and hexadecimal texts.
@@ -166,14 +159,11 @@ def of_leaf(leaf):
 
 def names(name):
     leaf, written = quoted(name), Written(name)
-    blocks = [Block("struct", name, [(name, leaf)] * count) for count in (0, 1, 3)]
-    blocks += [Block("tuple", name, [(None, leaf)] * count) for count in (0, 1, 3)]
-    blocks.append(Block("list", "", [(None, leaf), (None, written)]))
-    blocks.append(Block("map", "", [(leaf, leaf), (written, written)]))
-    blocks.append(Block("struct", name, [(name, leaf), (name, written)]))
-    blocks.append(Block("tuple", name, [(None, leaf), (None, written)]))
-    blocks += [Block("open struct", name, [(name, leaf)] * count) for count in (0, 1)]
-    blocks.append(Block("open struct", name, [(name, leaf), (name, written)]))
+    blocks = [Block(kind, name, [(name if kind == "struct" else None, leaf)] * count) for kind in ("struct", "tuple") for count in (0, 1, 3)]
+    blocks += [list_of(leaf, written), Block("map", "", [(leaf, leaf), (written, written)])]
+    both = [(name, leaf), (name, written)]
+    blocks += [Block("struct", name, both), tuple_of(leaf, written, name=name)]
+    blocks += [Block("open struct", name, fields) for fields in ([], both[:1], both)]
     return b"".join(printed(block, is_pretty, of_leaf) for is_pretty in (False, True) for block in blocks)
 
 
@@ -218,16 +208,20 @@ def shown(document, displayed):
     return in_both_modes(document) + displayed
 
 
-def small_types(leaf):
-    yield list_of(tuple_of(leaf, name="Some"), "None")
-    yield list_of(tuple_of(leaf, name="Ok"), tuple_of("'c'", name="Err"))
-    yield tuple_of(leaf, name="Reverse")
-    yield list_of("Less", "Equal", "Greater")
-    yield list_of(tuple_of(leaf, name="Included"), tuple_of(leaf, name="Excluded"), "Unbounded")
-    yield tuple_of(leaf, name="Break")
-    yield tuple_of(leaf, name="Continue")
-    yield Block("struct", "Cell", [("value", leaf)])
-    yield Block("struct", "RefCell", [("value", "<borrowed>")])
+# Documents of small types and of collections of a leaf `x`.
+SMALL_TYPES = (
+    "[Some(x), None]", "[Ok(x), Err('c')]", "Reverse(x)", "[Less, Equal, Greater]", "[Included(x), Excluded(x), Unbounded]", "Break(x)", "Continue(x)",
+    "Cell { value: x }", "RefCell { value: <borrowed> }",
+)
+COLLECTIONS = (*["[x, x, x]"] * 5, "{}", "{x}", "{x}", "{}", "{x: 7}", "{x: 7}")
+
+
+def with_leaf(document, leaf):
+    """The document with this leaf where it has `x`."""
+    if isinstance(document, str):
+        return leaf if document == "x" else document
+    entries = [(leaf if before == "x" else before, with_leaf(value, leaf)) for before, value in document.entries]
+    return Block(document.kind, document.name, entries)
 
 
 def ranges(leaf, length):
@@ -237,20 +231,13 @@ def ranges(leaf, length):
     return b"".join(pieces * 2 for pieces in each)
 
 
-def collections(leaf):
-    yield from [list_of(leaf, leaf, leaf)] * 5
-    yield from (Block("map", "", []), *[Block("set", "", [(None, leaf)])] * 2)
-    yield from (Block("map", "", []), *[Block("map", "", [(leaf, "7")])] * 2)
-
-
 def values(text):
     leaf = quoted(text)
     out = [shown(leaf, by_text(text)) * 7]
     out += [shown(quoted(character, "'"), by_character(character)) for character in text[:16]]
     out += [shown(word, by_text(word)) for word in ("true", "false")]
-    out += [in_both_modes(document) for document in small_types(leaf)]
-    out.append(ranges(leaf, len(text.encode())))
-    out += [in_both_modes(document) for document in collections(leaf)]
+    small, collections = ([in_both_modes(with_leaf(document_of(row), leaf)) for row in rows] for rows in (SMALL_TYPES, COLLECTIONS))
+    out += [*small, ranges(leaf, len(text.encode())), *collections]
     out.append(shown(leaf, by_text(text)) * 5)
     return b"".join(out)
 
@@ -274,11 +261,5 @@ def verdict(data):
         text = request.payload.decode()
     except UnicodeDecodeError:
         return line
-    return "%s, lines %s, names %s, numbers %s, values %s, nested %s" % (
-        line,
-        digest(lines(request, text)),
-        digest(names(text)),
-        digest(numbers(request, text)),
-        digest(values(text)),
-        digest(nested(request, text)),
-    )
+    said = [("lines", lines(request, text)), ("names", names(text)), ("numbers", numbers(request, text)), ("values", values(text)), ("nested", nested(request, text))]
+    return ", ".join([line, *("%s %s" % (name, digest(pieces)) for name, pieces in said)])

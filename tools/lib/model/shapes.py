@@ -1,36 +1,22 @@
 """Documents of each shape, token documents and debug documents, and texts of no token document, in any size."""
 from lib import data
-from lib.model.document import STRUCTS, Block, plain, quoted
+from lib.model.document import STRUCTS, Block, list_of, plain, quoted, tuple_of
+from lib.model.reading import document_of
 
 PLACES = ("list", "set", "key", "value", "struct", "tuple", "unnamed")
-TREE = Block("struct", "Tree", [("size", "1"), ("children", Block("list", "", []))])
-ONLY_DOTS = Block("open struct", "S", [])
+TREE, ONLY_DOTS = document_of("Tree { size: 1, children: [] }"), document_of("S { .. }")
 # Leaves and rows of pieces, by their names.
 TABLES = {part: {name: [text.decode() for text in texts] for name, texts in rows.items()}
           for part, rows in data.named("texts/shapes.txt").items()}
 # Values of types that have no long texts.
-VALUES = {
-    "a number": "-170141183460469231731687303715884105728",
-    "a character": quoted("\x1b", "'"),
-    "an option of a number": Block("tuple", "Some", [(None, "-128")]),
-}
-
-
-def listed(values):
-    return Block("list", "", [(None, value) for value in values])
+VALUES = {"a number": "-170141183460469231731687303715884105728", "a character": quoted("\x1b", "'"), "an option of a number": tuple_of("-128", name="Some")}
 
 
 def placed(place, document):
     """A block that has the document in this place."""
-    if place == "key":
-        return Block("map", "", [(document, "v")])
-    if place == "value":
-        return Block("map", "", [("k", document)])
-    if place in STRUCTS:
-        return Block(place, "S", [("f", document)])
-    if place in ("tuple", "unnamed"):
-        return Block("tuple", "N" if place == "tuple" else "", [(None, document)])
-    return Block(place, "", [(None, document)])
+    kind = {"key": "map", "value": "map", "unnamed": "tuple"}.get(place, place)
+    before, value = (document, "v") if place == "key" else ({"value": "k", "struct": "f", "open struct": "f"}.get(place), document)
+    return Block(kind, {"tuple": "N", "struct": "S", "open struct": "S"}.get(place, ""), [(before, value)])
 
 
 def wide(place, value, size):
@@ -77,7 +63,7 @@ def halved(depth):
     """A list of two lists, each of two lists, and so on."""
     document = "x"
     for _ in range(depth):
-        document = listed([document, document])
+        document = list_of(document, document)
     return document
 
 
@@ -85,32 +71,32 @@ def trees(size):
     """A list of trees, each with one that has another and so on."""
     tree = TREE
     for number in range(20):
-        tree = Block("struct", "Tree", [("size", str(number)), ("children", listed([tree]))])
-    return listed([tree] * max(size // len(plain(tree)), 1))
+        tree = Block("struct", "Tree", [("size", str(number)), ("children", list_of(tree))])
+    return list_of(*[tree] * max(size // len(plain(tree)), 1))
 
 
 def chain(size):
     """Nodes in a row, nearly as deep as any may be."""
-    node = Block("struct", "Node", [("value", "7"), ("next", "None")])
+    node = document_of("Node { value: 7, next: None }")
     for _ in range(min(size // 40, 125)):
-        node = Block("struct", "Node", [("value", "18446744073709551615"), ("next", Block("tuple", "Some", [(None, node)]))])
+        node = Block("struct", "Node", [("value", "18446744073709551615"), ("next", tuple_of(node, name="Some"))])
     return node
 
 
 def ordered_map(size):
     """A map whose keys ascend."""
-    return Block("map", "", [(quoted("%06d" % number), Block("tuple", "Some", [(None, "7")])) for number in range(size // 19)])
+    return Block("map", "", [(quoted("%06d" % number), tuple_of("7", name="Some")) for number in range(size // 19)])
 
 
 def named(size, kind="struct"):
     """A struct of this kind and a tuple with long names, and fields with long names."""
     fields = [("f" * (size // 16) + str(number), "x") for number in range(8)]
-    return listed([Block(kind, "S" * (size // 4), fields), Block("tuple", "T" * (size // 4), [(None, "x")])])
+    return list_of(Block(kind, "S" * (size // 4), fields), tuple_of("x", name="T" * (size // 4)))
 
 
 def repeated(document, size):
     """A list of as many of these as are of this size."""
-    return listed([document] * (size // (len(plain(document).encode()) + 2)))
+    return list_of(*[document] * (size // (len(plain(document).encode()) + 2)))
 
 
 def documents():
@@ -178,7 +164,7 @@ def debug_documents():
     for place in ("list", "struct"):
         shapes["a deep %s of paths" % place] = lambda size, place=place: around(place, "a::B", size)
     shapes.update(open_structs())
-    shapes["long names past ASCII"] = lambda size: listed([Block("struct", "\u20ac" * (size // 6), [("a:" * (size // 4) + "a", "x")])])
+    shapes["long names past ASCII"] = lambda size: list_of(Block("struct", "\u20ac" * (size // 6), [("a:" * (size // 4) + "a", "x")]))
     return shapes
 
 
