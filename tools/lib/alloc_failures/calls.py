@@ -15,6 +15,8 @@ from concurrent.futures import ThreadPoolExecutor
 
 from lib import needs
 from lib.alloc_failures import tried
+from lib.model.pieces import END, printed
+from lib.model.reading import document_of
 from lib.top import TOP
 
 # The allocation that is refused in each run. The calls make fewer.
@@ -24,15 +26,9 @@ MOST_FAULTS = 10
 AMPLE = re.compile(r": as with ample memory, (\d+) allocations.*$")
 LEFT = re.compile(r'is_pretty=false depth=0 text="(.*)"$')
 
-# The pieces of a node's text, in the order in which they are passed to a writer. A line feed is \n, as it is printed.
-INDENT = "    "
-PIECES = {
-    "plain": ["Node", " {", " ", "value", ": ", "1", ", ", "next", ": ", "Some", "(", "Node", " {", " ", "value", ": ", "0", ", ", "next", ": ", "None",
-              " ", "}", ")", " ", "}"],
-    "pretty": ["Node", " {", "\\n", INDENT, "value", ": ", "1", ",\\n", INDENT, "next", ": ", "Some", "(", "\\n", INDENT, INDENT, "Node", " {", "\\n",
-               INDENT, INDENT, INDENT, "value", ": ", "0", ",\\n", INDENT, INDENT, INDENT, "next", ": ", "None", ",\\n", INDENT, INDENT, "}", ",\\n",
-               INDENT, ")", ",\\n", "}"],
-}
+NODE = document_of("Node { value: 1, next: Some(Node { value: 0, next: None }) }")
+# The pieces of the node's text, in the order in which they are passed to a writer. A line feed is \\n, as it is printed.
+PIECES = {mode: [piece[1:].decode().replace("\n", "\\n") for piece in printed(NODE, mode == "pretty").split(END)[:-1]] for mode in ("plain", "pretty")}
 
 
 class Calls:

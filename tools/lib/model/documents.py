@@ -5,7 +5,7 @@ import random
 from lib import data
 from lib.model import characters, types
 from lib.model.debug_leaves import PRINTED, LeafMaker
-from lib.model.document import DEEPEST, STRUCTS, Block, plain, pretty, quoted
+from lib.model.document import DEEPEST, STRUCTS, Block, plain, pretty, quoted, tuple_of
 
 LETTERS = "abcxyzABCXYZ0189_-"
 # Characters of one to four bytes, the ends of these ranges, and characters that have an escape.
@@ -78,9 +78,7 @@ class Maker:
             return self.word()
         if form < 0.55:
             return "()"
-        if form < 0.8:
-            return self.text(self.up_to(self.longest) - 1)
-        return self.character()
+        return self.text(self.up_to(self.longest) - 1) if form < 0.8 else self.character()
 
     def small(self):
         """A short leaf, or an empty block."""
@@ -88,12 +86,11 @@ class Maker:
 
     def long_leaf(self):
         length = self.random.choice((self.random.choice(LENGTHS), self.up_to(100_000)))
-        form = self.random.randrange(3)
-        if form == 0:
-            return self.word(length)
-        if form == 1:
-            return quoted(self.random.choice(CHARACTERS) * length)
-        return self.text(length)
+        return self.random.choice(self.long_leaves())(length)
+
+    def long_leaves(self):
+        """What makes a leaf of a length."""
+        return self.word, lambda length: quoted(self.random.choice(CHARACTERS) * length), self.text
 
     def empty(self):
         return Block(self.random.choice(("list", "map")), "", [])
@@ -104,10 +101,8 @@ class Maker:
             return Block("map", "", [(self.leaf(), value) for value in values])
         if kind in STRUCTS:
             return Block(kind, self.word(), [(self.word(), value) for value in values])
-        if kind == "unnamed":
-            return Block("tuple", "", [(None, value) for value in values])
         name = self.word() if kind == "tuple" else ""
-        return Block(kind, name, [(None, value) for value in values])
+        return Block("tuple" if kind == "unnamed" else kind, name, [(None, value) for value in values])
 
     def kind(self):
         return self.random.choice(self.kinds)
@@ -141,9 +136,7 @@ class Maker:
             return Block("map", "", [(self.leaf(), document)])
         if place == "last of two":
             return Block(self.random.choice(("list", "set")), "", [(None, self.leaf()), (None, document)])
-        if place == "first of two":
-            return Block("tuple", "", [(None, document), (None, self.leaf())])
-        return self.block(place, [document])
+        return tuple_of(document, self.leaf()) if place == "first of two" else self.block(place, [document])
 
     def chain(self):
         """Nested blocks with one document inside, at one place or at any. They can be one deeper than allowed."""
@@ -159,43 +152,26 @@ class Maker:
     def whole_text(self):
         """The plain or the pretty text of a document, which can be too deep."""
         form = self.random.random()
-        if form < 0.65:
-            document = self.document()
-        elif form < 0.85:
-            document = types.made(self.random)
-        elif form < 0.92:
-            document = self.chain()
+        if form < 0.85:
+            document = self.document() if form < 0.65 else types.made(self.random)
         else:
-            document = self.placed_leaf()
+            document = self.chain() if form < 0.92 else self.placed_leaf()
         return self.random.choice((plain, pretty))(document)
 
     def placed_leaf(self):
         """A long leaf, by itself or in a block."""
         leaf = self.long_leaf()
-        if self.random.random() < 0.5:
-            return leaf
-        return self.deeper(self.random.choice(self.places), leaf)
+        return leaf if self.random.random() < 0.5 else self.deeper(self.random.choice(self.places), leaf)
 
     def changed(self, data):
         """The text with a change, most often by one byte or one piece."""
-        at = self.random.randrange(len(data) + 1)
-        form = self.random.randrange(8)
-        piece = self.random.choice(self.pieces).encode()
-        if form == 0:
-            return data[:at]
-        if form == 1:
-            return data[at:]
-        if form == 2:
-            return data[:at] + data[at + 1 :]
-        if form == 3:
-            return data[:at] + piece + data[at + 1 :]
+        at, form = self.random.randrange(len(data) + 1), self.random.randrange(8)
+        piece, before, after = self.random.choice(self.pieces).encode(), data[:at], data[at:]
         if form == 4:
-            return data[:at] + self.random.choice(BAD_BYTES) + data[at:]
+            return before + self.random.choice(BAD_BYTES) + after
         if form == 5:
             return self.changed_at(data, piece)
-        if form == 6:
-            return data + piece
-        return data[:at] + piece + data[at:]
+        return (before, after, before + after[1:], before + piece + after[1:], None, None, data + piece, before + piece + after)[form]
 
     def changed_at(self, data, piece):
         """The text with this piece where it had another."""
@@ -209,24 +185,19 @@ class Maker:
 
     def noise(self):
         """Bytes that are most often no text, and can be long."""
-        length = self.up_to(100_000)
-        form = self.random.randrange(4)
+        length, form = self.up_to(100_000), self.random.randrange(4)
         if form == 0:
             return self.characters(length).encode()
         if form == 1:
             return self.random.choice(self.pieces).encode() * length
-        if form == 2:
-            return b"\n".join(b"a" * self.random.randrange(9) for _ in range(length // 4))
-        return self.random.randbytes(length)
+        return b"\n".join(b"a" * self.random.randrange(9) for _ in range(length // 4)) if form == 2 else self.random.randbytes(length)
 
     def data(self):
         form = self.random.random()
         if form < 0.04:
             return self.noise()
         text = self.whole_text().encode()
-        if form < 0.5:
-            return text
-        for _ in range(self.random.choice((1, 1, 1, 2))):
+        for _ in range(0 if form < 0.5 else self.random.choice((1, 1, 1, 2))):
             text = self.changed(text)
         return text
 
@@ -243,25 +214,14 @@ class DebugMaker(Maker):
         self.leaves = LeafMaker(self.random)
 
     def word(self, length=None):
-        if self.random.random() < 0.5:
-            return super().word(length)
-        return self.leaves.name(length or self.up_to(self.longest))
+        return super().word(length) if self.random.random() < 0.5 else self.leaves.name(length or self.up_to(self.longest))
 
     def leaf(self):
-        if self.random.random() < 0.3:
-            return super().leaf()
-        return self.leaves.leaf(self.up_to(self.longest))
+        return super().leaf() if self.random.random() < 0.3 else self.leaves.leaf(self.up_to(self.longest))
 
     def empty(self):
         return Block("open struct", self.word(), []) if self.random.random() < 0.4 else super().empty()
 
-    def long_leaf(self):
-        length = self.random.choice((self.random.choice(LENGTHS), self.up_to(100_000)))
-        form = self.random.randrange(4)
-        if form == 0:
-            return self.leaves.name(length)
-        if form == 1:
-            return self.leaves.of_pieces(length)
-        if form == 2:
-            return ":" * length + self.leaves.name(3)
-        return self.leaves.in_quotes("o", length)
+    def long_leaves(self):
+        return (self.leaves.name, self.leaves.of_pieces, lambda length: ":" * length + self.leaves.name(3),
+                lambda length: self.leaves.in_quotes("o", length))

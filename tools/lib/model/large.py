@@ -2,7 +2,7 @@
 import resource
 import subprocess
 
-from lib.model.document import Block
+from lib.model.document import list_of
 from lib.model.verdicts import half, leaf_verdict
 
 SIZE = 16 * 1024 * 1024
@@ -15,42 +15,31 @@ SECONDS = 60
 def listed(leaf, count):
     """A list of equal leaves: its plain text, its pretty text, and itself."""
     plain = "[%s]" % ", ".join([leaf] * count)
-    return plain, "[\n%s]" % ("    %s,\n" % leaf * count), Block("list", "", [(None, leaf)] * count)
+    return plain, "[\n%s]" % ("    %s,\n" % leaf * count), list_of(*[leaf] * count)
 
 
-def long_word():
-    word = "x" * SIZE
-    return "a long word", word, word, word
+def single(leaf):
+    """A leaf: its plain text, its pretty text, and itself."""
+    return leaf, leaf, leaf
 
 
-def long_text():
-    leaf = '"%s"' % ("a" * SIZE)
-    return "a long text", leaf, leaf, leaf
-
-
-def long_words():
-    return ("a list of long words", *listed("x" * 65536, SIZE // 65536))
-
-
-def short_words():
-    return ("a list of short words", *listed("x", SIZE // 3))
-
-
-def fewer_words():
-    """As many as the model can judge in a minute."""
-    return ("a list of fewer short words", *listed("x", 1_500_000))
-
-
-# Each makes a document: its name, its plain and its pretty text by how they are made, and the document of the model.
-DOCUMENTS = (long_word, long_text, long_words, short_words)
-JUDGED = (long_word, long_text, long_words, fewer_words)
+# Each makes a document, by its name. Of those that the model judges the last has as many words as it can in a minute.
+DOCUMENTS = {
+    "a long word": lambda: single("x" * SIZE),
+    "a long text": lambda: single('"%s"' % ("a" * SIZE)),
+    "a list of long words": lambda: listed("x" * 65536, SIZE // 65536),
+    "a list of short words": lambda: listed("x", SIZE // 3),
+    "a list of fewer short words": lambda: listed("x", 1_500_000),
+}
+*CONVERTED, SHORT, FEWER = DOCUMENTS
+JUDGED, CONVERTED = (*CONVERTED, FEWER), (*CONVERTED, SHORT)
 # The runs of the commands are in so many parts.
-PARTS = len(DOCUMENTS) + 1
+PARTS = len(CONVERTED) + 1
 
 
-def document_runs(made):
+def document_runs(name):
     """Runs of the commands: of which program, its arguments, its input and its output."""
-    name, by_plain, by_pretty, _document = made
+    by_plain, by_pretty, _document = DOCUMENTS[name]()
     lengths = ", ".join(str(len(line)) for line in by_pretty.split("\n"))
     yield name, "ufmt_conv", ["pretty"], by_plain, by_pretty + "\n"
     yield name, "ufmt_conv", ["plain"], by_pretty, by_plain + "\n"
@@ -68,7 +57,7 @@ def line_runs():
 
 
 def command_runs(number):
-    return document_runs(DOCUMENTS[number]()) if number < len(DOCUMENTS) else line_runs()
+    return document_runs(CONVERTED[number]) if number < len(CONVERTED) else line_runs()
 
 
 def verdict(text, document, other):
@@ -81,8 +70,8 @@ def verdict(text, document, other):
 
 
 def verdict_runs():
-    for make in JUDGED:
-        name, by_plain, by_pretty, document = make()
+    for name in JUDGED:
+        by_plain, by_pretty, document = DOCUMENTS[name]()
         for text, other in ((by_plain, by_pretty), (by_pretty, by_plain))[: 1 + (by_plain != by_pretty)]:
             yield name, "probe_model", [], "%d\n%s" % (len(text), text), verdict(text, document, other)
 
