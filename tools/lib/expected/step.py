@@ -9,16 +9,16 @@ tools/lib/expected/edges.py, come out as is said there, or are refused.
 All these texts are passed to the built probe_model, which `rt ci` leaves in crates/probe_model/out, and what the calls of both
 classes say of them is compared with what the model says.
 """
+import collections
 import os
 import sys
 import time
 
 from lib.expected import edges, rows
 from lib.findings import case, ended
-from lib.model import verdicts
 from lib.model.document import plain, pretty
 from lib.model.reading import DEBUG, TOKEN, PlainReader, PrettyReader
-from lib.programs import cases
+from lib.model.step import shown, wrong_lines
 from lib.top import TOP
 
 sys.setrecursionlimit(20_000)
@@ -34,39 +34,30 @@ SAME = ("same", "same")
 COLONS, SECONDS = 1_000_000, 60
 
 
-def shown(text):
-    return repr(text if len(text) <= 80 else text[:60] + text[-20:])
+# The reader of a class of texts, and what lays a document out in the other mode, by the mode.
+CONVERSIONS = {"plain": (PlainReader, pretty), "pretty": (PrettyReader, plain)}
 
 
-def decoded(data):
-    """A text in which a byte that isn't UTF-8 is a character that no leaf has."""
-    return data.decode("utf-8", "surrogateescape")
-
-
-def conversion(text_class, mode):
-    """The reader of texts of a mode, and what lays a document out in the other mode."""
-    return (PlainReader(text_class), pretty) if mode == "plain" else (PrettyReader(text_class), plain)
+def read(text_class, mode, text):
+    return CONVERSIONS[mode][0](text_class).read(text)
 
 
 def converted(text_class, mode, text):
-    reader, laid_out = conversion(text_class, mode)
-    document = reader.read(text)
-    return None if document is None else laid_out(document)
+    document = read(text_class, mode, text)
+    return None if document is None else CONVERSIONS[mode][1](document)
 
 
 # ---- The rows of rustc.
 
 
-def outcome(found, wanted):
-    if found is None:
-        return "refused"
-    return "same" if found == wanted else "another"
+def outcome(text_class, mode, text, wanted):
+    found = converted(text_class, mode, text)
+    return "refused" if found is None else "same" if found == wanted else "another"
 
 
 def outcomes(name, row):
     """What comes out of a row's plain text and of its pretty text, in a class."""
-    by_plain = outcome(converted(CLASSES[name], "plain", row.plain), row.pretty)
-    return by_plain, outcome(converted(CLASSES[name], "pretty", row.pretty), row.plain)
+    return outcome(CLASSES[name], "plain", row.plain, row.pretty), outcome(CLASSES[name], "pretty", row.pretty, row.plain)
 
 
 def judged(name, stored, reasons):
@@ -83,14 +74,15 @@ def judged(name, stored, reasons):
     return faults, same
 
 
+def twice(names):
+    return [name for name, count in collections.Counter(names).items() if count > 1]
+
+
 def wrong_tables(stored, reasons):
     """The faults of the two tables by themselves."""
     names = [row.name for row in stored]
-    listed = [(reason.row, reason.text_class) for reason in reasons]
-    for name in sorted({name for name in names if names.count(name) > 1}):
-        yield "two rows have the name %s" % name
-    for name, text_class in sorted({each for each in listed if listed.count(each) > 1}):
-        yield "%s, %s: two reasons" % (name, text_class)
+    yield from ("two rows have the name %s" % name for name in twice(names))
+    yield from ("%s, %s: two reasons" % each for each in twice((reason.row, reason.text_class) for reason in reasons))
     for reason in reasons:
         if reason.row not in names:
             yield "%s, %s: a reason, and no row" % (reason.row, reason.text_class)
@@ -102,9 +94,9 @@ def wrong_tables(stored, reasons):
 
 def wrong_in_debug(mode, text):
     """A text that token texts have is read as that document among debug texts."""
-    document = conversion(TOKEN, mode)[0].read(text)
-    if document is not None and conversion(DEBUG, mode)[0].read(text) != document:
-        yield "%s text %s: another document among debug texts than among token texts" % (mode, shown(text))
+    document = read(TOKEN, mode, text)
+    if document is not None and read(DEBUG, mode, text) != document:
+        yield "%s text %s: another document among debug texts than among token texts" % (mode, shown(text.encode()))
 
 
 # ---- Texts at the edges of the debug class.
@@ -112,33 +104,21 @@ def wrong_in_debug(mode, text):
 
 def wrong_edges():
     for edge in edges.edges():
-        found = converted(DEBUG, edge.mode, decoded(edge.text))
+        # A byte that isn't UTF-8 is a character that no leaf has.
+        found = converted(DEBUG, edge.mode, edge.text.decode("utf-8", "surrogateescape"))
         if found != edge.converted:
-            said = "refused" if found is None else shown(found)
-            wanted = "refused" if edge.converted is None else shown(edge.converted)
-            yield case("%s text %s" % (edge.mode, shown(decoded(edge.text))), wanted, said)
+            said = ["refused" if text is None else shown(text.encode("utf-8", "surrogateescape")) for text in (edge.converted, found)]
+            yield case("%s text %s" % (edge.mode, shown(edge.text)), *said)
 
 
 def wrong_times():
     for text in edges.long_texts(COLONS):
-        for mode in ("plain", "pretty"):
+        for mode in CONVERSIONS:
             before = time.process_time()
             converted(DEBUG, mode, text)
             taken = time.process_time() - before
             if taken > SECONDS:
-                yield case("%s text %s" % (mode, shown(text)), "at most %d seconds" % SECONDS, "%.1f" % taken)
-
-
-# ---- The library, as token texts and as debug texts.
-
-
-def wrong_lines(program, texts):
-    lines, faults = cases.answers(program, texts)
-    for text, line in zip(texts, lines):
-        wanted = verdicts.verdict(text)[0]
-        if line != wanted:
-            yield case(shown(text), wanted, line)
-    yield from faults
+                yield case("%s text %s" % (mode, shown(text.encode())), "at most %d seconds" % SECONDS, "%.1f" % taken)
 
 
 def texts_of(stored):
@@ -162,6 +142,6 @@ def main(_given):
         faults += [*wrong_in_debug("plain", row.plain), *wrong_in_debug("pretty", row.pretty)]
     faults += [*wrong_edges(), *wrong_times()]
     texts = texts_of(stored) if os.access(PROGRAM, os.X_OK) else []
-    faults += wrong_lines(PROGRAM, texts) if texts else ["%s isn't there: `rt ci` builds it, and so does `rt run` in its crate" % PROGRAM]
+    faults += wrong_lines(PROGRAM, texts)[0] if texts else ["%s isn't there: `rt ci` builds it, and so does `rt run` in its crate" % PROGRAM]
     rows_read = "%d rows, both ways %d as token texts and %d as debug texts" % (len(stored), both["token"], both["debug"])
     return ended(faults, "%s, %d texts at the edges, %d by the program" % (rows_read, len(list(edges.edges())), len(texts)))

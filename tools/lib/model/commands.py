@@ -88,19 +88,19 @@ def run_memory(run):
     return taken._replace(held=0)
 
 
+def past_steps(name, most, steps):
+    return [findings.most(name, most, steps, "steps")] if steps > most else []
+
+
 def run_faults(counter, program, run):
     """The faults of a run of ufmt_conv."""
-    name = "ufmt_conv %s of %s" % (run.command, run.name)
-    arguments = [program, run.command]
+    name, arguments = "ufmt_conv %s of %s" % (run.command, run.name), [program, run.command]
     _output, counts = counter.run(arguments, run.data, name, seconds=SECONDS)
     allowed = dict(run_memory(run)._asdict(), left=0, reads=len(run.data) // CHUNK + 2, writes=1)
-    wrong = findings.over(name, counts[0], allowed)
-    if wrong:
-        yield wrong
+    wrong = list(filter(None, [findings.over(name, counts[0], allowed)]))
     if counter.valgrind and run.case.length - run.case.indentation <= MOST_COUNTED:
-        steps = counter.steps(arguments, run.data, name, seconds=SECONDS)[0]
-        if steps > run_steps(run):
-            yield findings.most(name, run_steps(run), steps, "steps")
+        wrong += past_steps(name, run_steps(run), counter.steps(arguments, run.data, name, seconds=SECONDS)[0])
+    return wrong
 
 
 def conv_faults(counter, program):
@@ -118,19 +118,19 @@ def read_steps(counter, arguments, name, data):
 
 def short_reads(programs):
     """Each command with what it reads: of ufmt_conv one text, of ufmt_lines a line for each read, and a line or group of all reads."""
-    yield "ufmt_conv pretty", programs["ufmt_conv"], ["pretty"], plain(list_of(*["12345678"] * READS)).encode()
-    yield "ufmt_lines", programs["ufmt_lines"], [], b"a line: 7\n" * READS
-    yield "ufmt_lines --plain", programs["ufmt_lines"], ["--plain"], b"a line: 7\n" * READS
-    yield "ufmt_lines, a long line", programs["ufmt_lines"], [], b"a word, 7 " * READS
-    yield "ufmt_lines --plain, a long line", programs["ufmt_lines"], ["--plain"], b"a word, 7 " * READS
-    yield "ufmt_lines --plain, a long group", programs["ufmt_lines"], ["--plain"], b"[\n" + b"    word,\n" * READS + b"]\n"
+    conv, logs = programs["ufmt_conv"], programs["ufmt_lines"]
+    yield "ufmt_conv pretty", [conv, "pretty"], plain(list_of(*["12345678"] * READS)).encode()
+    for name, words in (("ufmt_lines", [logs]), ("ufmt_lines --plain", [logs, "--plain"])):
+        yield name, words, b"a line: 7\n" * READS
+        yield name + ", a long line", words, b"a word, 7 " * READS
+    yield "ufmt_lines --plain, a long group", [logs, "--plain"], b"[\n" + b"    word,\n" * READS + b"]\n"
 
 
 def short_read_faults(counter, programs):
     """The faults of runs in which each read takes few bytes, and how many were counted."""
     if not counter.valgrind:
         return [], 0
-    found = {name: read_steps(counter, [program, *words], "short reads, " + name, data) for name, program, words, data in short_reads(programs)}
+    found = {name: read_steps(counter, words, "short reads, " + name, data) for name, words, data in short_reads(programs)}
     return [findings.most("%s, a read of %d bytes" % (name, READ_BYTES), READ_STEPS[name], steps, "steps more")
             for name, steps in found.items() if steps > READ_STEPS[name]], len(found)
 
@@ -175,63 +175,58 @@ def line_steps(line):
 def line_faults(counter, program, is_plain):
     """The faults of runs of ufmt_lines on a log of all shapes, on each group by itself and on the short groups in turn, and how many
     groups were counted."""
-    arguments = [program] + ["--plain"] * is_plain
-    name = "ufmt_lines --plain" if is_plain else "ufmt_lines"
+    arguments, name = [program] + ["--plain"] * is_plain, "ufmt_lines --plain" if is_plain else "ufmt_lines"
     log = list(lines(is_plain))
     data = "".join(line.group + "\n" for line in log).encode()
     output, _counts = counter.run(arguments, data, name, seconds=SECONDS)
     if output != "".join(line.output + "\n" for line in log).encode():
         return [name + ": another output for a log of all shapes"], len(log)
     with ThreadPoolExecutor() as pool:
-        wrong = list(pool.map(lambda it: line_fault(counter, arguments, "%s %d" % (name, it[0]), it[1]), enumerate(log)))
+        wrong = sum(pool.map(lambda it: one_line_faults(counter, arguments, "%s %d" % (name, it[0]), it[1]), enumerate(log)), [])
     if counter.valgrind:
         wrong += short_line_faults(counter, arguments, name, [line for line in log if not is_long(line)])
-    return ["%s, %s" % (name, fault) for fault in wrong if fault], len(log)
+    return ["%s, %s" % (name, fault) for fault in wrong], len(log)
+
+
+def longest(line):
+    """The bytes of the group and of its output."""
+    return len(line.group.encode()) + len(line.output.encode())
 
 
 def is_long(line):
     """Whether rooms grow for the group or its output. Then the steps are those of a run on it alone."""
-    return len(line.group.encode()) + len(line.output.encode()) > CHUNK
+    return longest(line) > CHUNK
 
 
-def line_fault(counter, arguments, name, line):
-    """What is wrong with a run on this group alone, if anything is."""
+def one_line_faults(counter, arguments, name, line):
+    """What is wrong with a run on this group alone."""
     data = (line.group + "\n").encode()
     output, counts = counter.run(arguments, data, name, seconds=SECONDS)
     if output != (line.output + "\n").encode():
-        return line.name + ": another output"
-    wrong = line_memory_fault(line, counts[0])
-    if wrong is None and counter.valgrind and is_long(line):
-        wrong = line_steps_fault(line, counter.steps(arguments, data, name, seconds=SECONDS)[0])
-    return wrong
+        return [line.name + ": another output"]
+    wrong = findings.over(line.name, counts[0], line_memory(line))
+    if wrong or not counter.valgrind or not is_long(line):
+        return [wrong] if wrong else []
+    return line_steps_faults(line, counter.steps(arguments, data, name, seconds=SECONDS)[0])
 
 
 def short_line_faults(counter, arguments, name, log):
-    """What is wrong with the steps of short groups, if anything is. One run reads them one by one: the outputs of those that have ended
-    are written before more is read. To the steps of each are added those of the start."""
+    """What is wrong with the steps of short groups. One run reads them one by one: the outputs of those that have ended are written before
+    more is read. To the steps of each are added those of the start."""
     parts = [(line.group + "\n").encode() for line in log]
     start, *steps, _after = counter.steps(arguments, b"".join(parts), name + ", in turn", seconds=SECONDS, parts=list(map(len, parts)))
     if len(steps) != len(log):
         return [findings.case("the steps of short groups", len(log), len(steps))]
-    return [line_steps_fault(line, start + taken) for line, taken in zip(log, steps)]
+    return [fault for line, taken in zip(log, steps) for fault in line_steps_faults(line, start + taken)]
 
 
-def line_steps_fault(line, steps):
-    most = line_steps(line) + START_STEPS
-    return findings.most(line.name, most, steps, "steps") if steps > most else None
+def line_steps_faults(line, steps):
+    return past_steps(line.name, line_steps(line) + START_STEPS, steps)
 
 
-def line_memory_fault(line, counts):
+def line_memory(line):
     """The program makes a chunk at its start, and one room for groups and one for outputs, which grow."""
-    longest = len(line.group.encode()) + len(line.output.encode())
-    held = START_BYTES + 2 * longest
-    allowed = {
-        "allocations": 10,
-        "growths": 2 * longest.bit_length(),
-        "bytes": START_BYTES + 4 * longest,
-        "most": held,
-        "held": held,
-        "writes": 1 + len(line.group) // CHUNK,
-        "reads": 2 + len(line.group) // CHUNK,
-    }
-    return findings.over(line.name, counts, allowed)
+    size, chunks = longest(line), len(line.group) // CHUNK
+    held = START_BYTES + 2 * size
+    return {"allocations": 10, "growths": 2 * size.bit_length(), "bytes": START_BYTES + 4 * size, "most": held, "held": held, "writes": 1 + chunks,
+            "reads": 2 + chunks}
