@@ -2,7 +2,7 @@
  *
  * An allocation of MARK bytes is a mark of probe_model: a call begins, it ended and its result is held, or the result
  * was dropped. No memory is given for a mark. At the third one a line of counts is written to the file that COUNTS names.
- * A program without marks gets a line when it ends; with COUNTS_OF=writes it gets one after each write, too.
+ * A program without marks gets a line when it ends.
  * With COUNTS_REFUSE=N the Nth allocation or growth of each call is refused. With COUNTS_REFUSE_OF=run it is the Nth of the whole run,
  * in a program without marks. Then each block is filled before the program has it and before it is freed, and moves when it grows: a read
  * of memory that isn't written yet, or is freed, finds other bytes. A program that wrote past the end of a block is ended when it frees
@@ -50,7 +50,6 @@ static struct counts counts;
 static ssize_t (*real_read)(int, void *, size_t);
 static ssize_t (*real_write)(int, const void *, size_t);
 static int file = -1;
-static int is_each_write;
 /* Which allocation of a call is refused, 0 for none; how many it asked for so far; whether it hasn't ended; whether the whole run is
  * that call. */
 static uint64_t refused, asked;
@@ -89,14 +88,12 @@ static void write_line(void) {
 
 __attribute__((constructor)) static void start(void) {
     const char *name = getenv("COUNTS");
-    const char *of = getenv("COUNTS_OF");
     real_read = (ssize_t(*)(int, void *, size_t))dlsym(RTLD_NEXT, "read");
     real_write = (ssize_t(*)(int, const void *, size_t))dlsym(RTLD_NEXT, "write");
     if (name)
         file = open(name, O_WRONLY | O_CREAT | O_APPEND | O_CLOEXEC, 0644);
     const char *which = getenv("COUNTS_REFUSE");
     const char *refused_of = getenv("COUNTS_REFUSE_OF");
-    is_each_write = of && strcmp(of, "writes") == 0;
     const char *most = getenv("COUNTS_READ");
     const char *written = getenv("COUNTS_WRITE");
     refused = which ? strtoull(which, NULL, 10) : 0;
@@ -275,10 +272,5 @@ ssize_t read(int device, void *bytes, size_t count) {
 ssize_t write(int device, const void *bytes, size_t count) {
     counts.writes++;
     count = count < most_written ? count : most_written;
-    if (!is_each_write)
-        return real_write(device, bytes, count);
-    counts_end();
-    ssize_t written = real_write(device, bytes, count);
-    count_anew();
-    return written;
+    return real_write(device, bytes, count);
 }

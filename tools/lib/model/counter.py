@@ -37,20 +37,16 @@ class Ended(NamedTuple):
 class Counter:
     def __init__(self, room):
         """Compiles the library into the folder. `library` is None if there is no C compiler."""
-        self.room = room
-        self.library = None
-        self.valgrind = shutil.which("valgrind")
-        compiler = shutil.which("cc")
-        if compiler:
+        self.room, self.library, self.valgrind = room, None, shutil.which("valgrind")
+        if shutil.which("cc"):
             self.library = room / "counter.so"
-            arguments = [compiler, "-O2", "-shared", "-fPIC", "-o", str(self.library), str(HERE / "counter.c"), "-ldl"]
-            subprocess.run(arguments, check=True)
+            subprocess.run(["cc", "-O2", "-shared", "-fPIC", "-o", self.library, HERE / "counter.c", "-ldl"], check=True)
 
-    def run(self, arguments, data, name, of_writes=False, seconds=None, refused=0):
-        """Runs a program, and returns its standard output and its counts: of the whole run, or of each write. Of each call that it
-        marks, the allocation or growth of this number is refused, if it isn't 0."""
+    def run(self, arguments, data, name, seconds=None, refused=0):
+        """Runs a program, and returns its standard output and its counts: of the whole run, or of each call that it marks. Of each such call,
+        the allocation or growth of this number is refused, if it isn't 0."""
         path = self.emptied(name, "counts")
-        output = self.ran(arguments, data, name, path, of_writes, seconds, refused)
+        output = self.ran(arguments, data, name, path, seconds, COUNTS_REFUSE=str(refused))
         return output, counts_in(path)
 
     def run_refused(self, arguments, data, name, number, seconds):
@@ -64,24 +60,20 @@ class Counter:
         path.unlink()
         return Ended(ran.returncode, ran.stdout, ran.stderr, counts[0] if counts else None)
 
-    def steps(self, arguments, data, name, of_writes=False, seconds=None, most_read=None, parts=()):
+    def steps(self, arguments, data, name, seconds=None, most_read=None, parts=()):
         """Runs a program with valgrind, and returns the steps of each part that it counts. A read takes at most so many bytes. If the
         input has parts of these sizes, the steps are those of the start and of each part, which a read doesn't go past."""
         path = self.emptied(name, "steps")
-        arguments = [self.valgrind, *CALLGRIND, "--callgrind-out-file=" + str(path), *arguments]
-        self.ran(arguments, data, name, "/dev/null", of_writes, seconds, most_read=most_read, parts=parts)
+        asked = {"COUNTS_PARTS": " ".join(map(str, parts))} if parts else {}
+        asked.update({"COUNTS_READ": str(most_read)} if most_read is not None else {})
+        self.ran([self.valgrind, *CALLGRIND, "--callgrind-out-file=%s" % path, *arguments], data, name, "/dev/null", seconds, **asked)
         steps = [int(found) for found in re.findall(rb"^summary: (\d+)", path.read_bytes(), re.M)]
         path.unlink()
         return steps
 
-    def ran(self, arguments, data, name, path, of_writes, seconds, refused=0, most_read=None, parts=()):
+    def ran(self, *how, **asked):
         """Runs a program, which must end with 0, and returns its standard output."""
-        asked = {"COUNTS_OF": "writes" if of_writes else "run", "COUNTS_REFUSE": str(refused)}
-        if parts:
-            asked["COUNTS_PARTS"] = " ".join(map(str, parts))
-        if most_read is not None:
-            asked["COUNTS_READ"] = str(most_read)
-        ran = self.ended(arguments, data, name, path, seconds, **asked)
+        ran = self.ended(*how, **asked)
         if ran.returncode != 0:
             raise ValueError("status %d: %s" % (ran.returncode, ran.stderr[-200:].decode("utf-8", "replace")))
         return ran.stdout
