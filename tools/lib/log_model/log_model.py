@@ -55,10 +55,8 @@ def brace_of(mode, text, at, opening):
     start = name_start(text, at, opening - 1)
     if not is_name(text[start : opening - 1]):
         return opening, False
-    if mode == "pretty":
-        is_struct = text.startswith(" ", opening + 1)
-    else:
-        is_struct = text.startswith(FIRST_LINE, opening + 1) and begins_with_field(text, opening + 1 + len(FIRST_LINE))
+    begins = " " if mode == "pretty" else FIRST_LINE
+    is_struct = text.startswith(begins, opening + 1) and (mode == "pretty" or begins_with_field(text, opening + 1 + len(begins)))
     return (start, False) if is_struct else (opening, True)
 
 
@@ -72,24 +70,22 @@ def start_of(mode, text, at, opening):
     return opening, False
 
 
+def read_alone(reader, text, start):
+    """The document that begins here and where it ends, by a reader that looks back: it sees nothing of what is before."""
+    found = reader.document_at(text[start:], 0, 0)
+    return found and (found[0], start + found[1])
+
+
 def read_from(mode, text, start):
-    """The document that begins here and where it ends. The reader looks back for a quote: what is before the start doesn't count."""
-    if not text.startswith(":", start):
-        return READERS[mode].document_at(text, start, 0)
-    read = READERS[mode].document_at(text[start:], 0, 0)
-    return read and (read[0], start + read[1])
+    """The same. The reader looks back from a colon alone, for a quote."""
+    return read_alone(READERS[mode], text, start) if text.startswith(":", start) else READERS[mode].document_at(text, start, 0)
 
 
 def leaves(document):
     """How many leaves a document has. A block without entries is one."""
     if isinstance(document, str) or not document.entries:
         return 1
-    count = 0
-    for before, value in document.entries:
-        if before is not None and document.kind not in STRUCTS:
-            count += leaves(before)
-        count += leaves(value)
-    return count
+    return sum(leaves(value) + (leaves(before) if document.kind == "map" else 0) for before, value in document.entries)
 
 
 def stays(text, opening, after_name, longer_than, document, end, start):
@@ -145,9 +141,8 @@ def field(text_class, line, name):
     """Where the leaf of this field begins in a line, and the leaf: of the first value that is a struct with this field, where
     the field is a leaf. None if there is none."""
     text, wanted = decoded(line), decoded(name)
-    # A reader that looks back sees only the value.
-    read = lambda start: (lambda found: found and (found[0], start + found[1]))(PLAIN_READERS[text_class].document_at(text[start:], 0, 0))  # noqa: E731
-    for start, _end, document, _opening, _after_name in found_values("pretty", text, read):
+    values_here = found_values("pretty", text, lambda start: read_alone(PLAIN_READERS[text_class], text, start))
+    for start, _end, document, _opening, _after_name in values_here:
         place = field_place(document, wanted) if document.kind in STRUCTS else None
         if place:
             return len(encoded(text[: start + place[0]])), encoded(place[1])

@@ -3,12 +3,12 @@
 The formats are a package manager's, tracing's, env_logger's, panics, and a program's own. A name is as long as it may be, so a value
 that is marked from its bracket's word on may begin before it, as in `lock=Package { .. }`.
 """
-import pathlib
 import re
 
+from lib import data
 from lib.log_model import log_model
 
-PATH = pathlib.Path(__file__).resolve().parent.parent.parent / "data" / "logs" / "five_formats.txt"
+PATH = data.DATA / "logs" / "five_formats.txt"
 WANTED, STAYS = ("\u00ab", "\u00bb"), ("\u2039", "\u203a")
 MARK = re.compile("[\u00ab\u00bb\u2039\u203a]")
 

@@ -12,6 +12,8 @@ change no output.
 Last the built ufmt_conv reads texts in chunks, and each of its reads and writes is compared too.
 """
 import concurrent.futures
+import contextlib
+import itertools
 import pathlib
 import sys
 import tempfile
@@ -63,8 +65,7 @@ def wrong_texts(path, seed):
     program = devices.Program(path)
     faults = []
     given = [(text, maker.chunks(text)) for text in (maker.text() for _ in range(TEXTS)) if len(text) < logs.CHUNK]
-    given += [(b"a" * 150_000, logs.whole(b"a" * 150_000)), (b"".join(logs.each_first_byte()), logs.each_first_byte()),
-              (b"".join(logs.each_last_byte()), logs.each_last_byte())]
+    given += [(b"".join(chunks), chunks) for chunks in (logs.whole(b"a" * 150_000), logs.each_first_byte(), logs.each_last_byte())]
     for text, chunks in given:
         for command in COMMANDS:
             status, output, line = verdicts.outcome(command, text)
@@ -81,33 +82,27 @@ def wrong_marks(paths):
     return faults + wrong_runs(paths, [(marked.log(), logs.whole(marked.log()))]), count
 
 
-def steps_of_nothing(path):
+@contextlib.contextmanager
+def meter_of(path):
     with tempfile.TemporaryDirectory() as room:
-        return log_costs.Meter(devices.Program(path), ARGUMENTS, pathlib.Path(room)).steps_of_nothing()
+        yield log_costs.Meter(devices.Program(path), ARGUMENTS, pathlib.Path(room))
+
+
+def steps_of_nothing(path):
+    with meter_of(path) as meter:
+        return meter.steps_of_nothing()
 
 
 def wrong_costs(paths, number, nothing):
     """What is wrong with the costs of one shape. Steps are counted of the first program, unless there is no valgrind."""
-    shape = log_costs.SHAPES[number]
-    faults = []
-    with tempfile.TemporaryDirectory() as room:
-        for path in paths:
-            meter = log_costs.Meter(devices.Program(path), ARGUMENTS, pathlib.Path(room))
+    shape, faults = log_costs.SHAPES[number], []
+    for path in paths:
+        with meter_of(path) as meter:
             found = [log_costs.wrong_calls(meter, shape), log_costs.wrong_memory(meter, shape)]
             if nothing is not None and path == paths[0]:
                 found.append(log_costs.wrong_steps(meter, shape, nothing))
             faults += ["%s, %s" % (path.name, fault) for fault in found if fault]
     return faults
-
-
-def batches(pairs):
-    batch = []
-    for pair in pairs:
-        batch.append(pair)
-        if len(batch) == BATCH:
-            yield batch
-            batch = []
-    yield batch
 
 
 def both(path):
@@ -136,7 +131,8 @@ def main(given):
         jobs.append(pool.submit(law.faults, count * 100, str(given.seed)))
         marks, values = wrong_marks(paths)
         faults += marks
-        for batch in batches(logs.logs(count, str(given.seed))):
+        pairs = logs.logs(count, str(given.seed))
+        while batch := list(itertools.islice(pairs, BATCH)):
             tried += len(batch)
             jobs.append(pool.submit(wrong_runs, paths, batch))
         for job in jobs:
