@@ -28,7 +28,8 @@ LEFT = re.compile(r'is_pretty=false depth=0 text="(.*)"$')
 
 NODE = document_of("Node { value: 1, next: Some(Node { value: 0, next: None }) }")
 # The pieces of the node's text, in the order in which they are passed to a writer. A line feed is \\n, as it is printed.
-PIECES = {mode: [piece[1:].decode().replace("\n", "\\n") for piece in printed(NODE, mode == "pretty").split(END)[:-1]] for mode in ("plain", "pretty")}
+PIECES = {mode: [piece[1:].decode().replace("\n", "\\n") for piece in printed(NODE, mode == "pretty").split(END)[:-1]]
+          for mode in ("plain", "pretty")}
 
 
 class Calls:

@@ -98,7 +98,8 @@ def tuple_of(count):
     """A tuple, one with a field more, and one whose last field is wrong."""
     fields = ["255", "true"] * count
     end = ",)" if count == 1 else ")"
-    texts = plainly("(%s%s" % (", ".join(fields[:count]), end), "(%s)" % ", ".join(fields[: count + 1]), "(%s)" % ", ".join([*fields[: count - 1], "?"]))
+    longer, wrong = fields[: count + 1], [*fields[: count - 1], "?"]
+    texts = plainly("(%s%s" % (", ".join(fields[:count]), end), "(%s)" % ", ".join(longer), "(%s)" % ", ".join(wrong))
     return Parsed(in_parentheses("ABCDEFGHIJKL"[:count]), in_parentheses((["u8", "bool"] * count)[:count]), texts)
 
 

@@ -52,7 +52,8 @@ def table_shapes():
         mode, form = part.split(", ")
         for name, steps, *pieces in (row.split(" => ") for row in rows):
             first, piece, last = map(data.data_of, pieces) if form == "between" else (b"", b"".join(map(repeated, pieces)), b"")
-            yield Shape(name, mode, int(steps), lambda size, row=(first, piece, last): in_a_row(*row, size), KEPT_ONCE if form == "kept once" else MEMORY)
+            memory = KEPT_ONCE if form == "kept once" else MEMORY
+            yield Shape(name, mode, int(steps), lambda size, row=(first, piece, last): in_a_row(*row, size), memory)
 
 
 def in_a_row(first, piece, last, size):

@@ -36,7 +36,8 @@ def rough(text):
     """Features of a text of no document, at most. An entry ends at a comma, and a pair or a field has a colon too."""
     separators = sum(text.count(sign) for sign in ",:\"'")
     blocks = min(sum(text.count(bracket) for bracket in "[({"), 256)
-    return Features(escapes=text.count("\\"), bare=separators + 1, texts=text.count('"'), blocks=blocks, entry_bytes=DOC * (text.count(",") + text.count(":")))
+    entry_bytes = DOC * (text.count(",") + text.count(":"))
+    return Features(escapes=text.count("\\"), bare=separators + 1, texts=text.count('"'), blocks=blocks, entry_bytes=entry_bytes)
 
 
 def leaf_case(text):
@@ -126,7 +127,8 @@ class Run(NamedTuple):
 
     def faults(self, fault):
         """The text and the line of each call with which something is wrong, and what `fault` says of it."""
-        found = ((one, line, fault("%s of %s, %s" % (call, one.name, half), call, one.cases[half], counts)) for one, line, half, call, counts in self.calls())
+        found = ((one, line, fault("%s of %s, %s" % (call, one.name, half), call, one.cases[half], counts))
+                 for one, line, half, call, counts in self.calls())
         return [(one, line, wrong) for one, line, wrong in found if wrong]
 
     def rows(self):

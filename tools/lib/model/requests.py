@@ -210,8 +210,8 @@ def shown(document, displayed):
 
 # Documents of small types and of collections of a leaf `x`.
 SMALL_TYPES = (
-    "[Some(x), None]", "[Ok(x), Err('c')]", "Reverse(x)", "[Less, Equal, Greater]", "[Included(x), Excluded(x), Unbounded]", "Break(x)", "Continue(x)",
-    "Cell { value: x }", "RefCell { value: <borrowed> }",
+    "[Some(x), None]", "[Ok(x), Err('c')]", "Reverse(x)", "[Less, Equal, Greater]", "[Included(x), Excluded(x), Unbounded]",
+    "Break(x)", "Continue(x)", "Cell { value: x }", "RefCell { value: <borrowed> }",
 )
 COLLECTIONS = (*["[x, x, x]"] * 5, "{}", "{x}", "{x}", "{}", "{x: 7}", "{x: 7}")
 
@@ -261,5 +261,6 @@ def verdict(data):
         text = request.payload.decode()
     except UnicodeDecodeError:
         return line
-    said = [("lines", lines(request, text)), ("names", names(text)), ("numbers", numbers(request, text)), ("values", values(text)), ("nested", nested(request, text))]
+    said = [("lines", lines(request, text)), ("names", names(text)), ("numbers", numbers(request, text)), ("values", values(text)),
+            ("nested", nested(request, text))]
     return ", ".join([line, *("%s %s" % (name, digest(pieces)) for name, pieces in said)])

@@ -9,7 +9,8 @@ TREE, ONLY_DOTS = document_of("Tree { size: 1, children: [] }"), document_of("S 
 TABLES = {part: {name: [text.decode() for text in texts] for name, texts in rows.items()}
           for part, rows in data.named("texts/shapes.txt").items()}
 # Values of types that have no long texts.
-VALUES = {"a number": "-170141183460469231731687303715884105728", "a character": quoted("\x1b", "'"), "an option of a number": tuple_of("-128", name="Some")}
+VALUES = {"a number": "-170141183460469231731687303715884105728", "a character": quoted("\x1b", "'"),
+          "an option of a number": tuple_of("-128", name="Some")}
 
 
 def placed(place, document):

@@ -87,7 +87,8 @@ KINDS = [*TYPES.values(), *(kind for kind, _form in SHAPES)]
 def judged(data, is_pretty):
     """Where the text stops for each type, by its letter, and None for a type that has a value; and the numbers of the shapes that have one."""
     texts = Texts(data, is_pretty)
-    return {letter: stop(kind, texts) for letter, kind in TYPES.items()}, [number for number, (kind, _) in enumerate(SHAPES) if stop(kind, texts) is None]
+    shapes = [number for number, (kind, _form) in enumerate(SHAPES) if stop(kind, texts) is None]
+    return {letter: stop(kind, texts) for letter, kind in TYPES.items()}, shapes
 
 
 def fields(document, shapes):
@@ -104,8 +105,8 @@ def fields(document, shapes):
 NAMED = ("None", "Some", "Ok", "Err", "Maybe")
 SINGLE = ("1", "-129", "'a'", '"a"', "[]")
 KEYS = ("1, 2", "2, 1", "1, 1", "-1, 1", "-1, -2", "1, 128", '"a", "b"')
-TEXTS = ("0", "-0", "00", "-1", "01", "-01", "None", "Some", "true", "True", "Tree", "Node", "Tree { children: [], size: 1 }", "Tree { size: 1, children: None }",
-         "Node { value: 1, next: 1 }", '{"": Some(255), "a": Some(255)}', '{"b": Some(255), "a": Some(255)}', '{"a": Some(255), "a": Some(255)}',
+TEXTS = ("0", "-0", "00", "-1", "01", "-01", "None", "Some", "true", "True", "Tree", "Node", "Tree { children: [], size: 1 }",
+         "Tree { size: 1, children: None }", "Node { value: 1, next: 1 }", '{"": Some(255), "a": Some(255)}', '{"b": Some(255), "a": Some(255)}', '{"a": Some(255), "a": Some(255)}',
          '{"z": Some(255), "\u00e9": Some(255)}', '{"\u20ac": Some(255), "\U0001f980": Some(255)}')
 
 
