@@ -71,7 +71,11 @@ def lines_of(process):
             return
 
 
-def side_by_side(jobs, most, say):
+def say(line):
+    print(line, flush=True)
+
+
+def side_by_side(jobs, most):
     """Runs these jobs, so many at a time, and yields each when it has ended. Once a minute it says which are running."""
     left, running, said = collections.deque(jobs), [], time.monotonic()
     while left or running:

@@ -47,5 +47,3 @@ STEPS = (
     Step("check", SOURCES, "lib.programs.check", "how `x check` calls a checker, and what it says of its lines"),
 )
 BY_NAME = {step.name: step for step in STEPS}
-# What is tried before `rt ci`: it takes seconds, and needs no build.
-CHEAP = tuple(step.name for step in STEPS if step.kind == SOURCES)

@@ -4,6 +4,8 @@ import os
 import pathlib
 import time
 
+from lib.running import say
+
 
 def path():
     return pathlib.Path(os.environ.get("XDG_CACHE_HOME") or pathlib.Path.home() / ".cache") / "ufmt-x" / "times.json"
@@ -17,7 +19,9 @@ def kept():
 
 
 def keep(name, seconds):
-    """Keeps how long a command took. Where nothing can be kept, nothing is."""
+    """Keeps how long a command took, if it has a name. Where nothing can be kept, nothing is."""
+    if not name:
+        return
     times = dict(kept(), **{name: {"seconds": round(seconds), "day": time.strftime("%Y-%m-%d")}})
     try:
         path().parent.mkdir(parents=True, exist_ok=True)
@@ -26,10 +30,12 @@ def keep(name, seconds):
         pass
 
 
-def last(name):
-    """What to say of the last run of a command: nothing if there was none."""
-    time_of = kept().get(name)
-    return "the last run here took %s, on %s" % (told(time_of["seconds"]), time_of["day"]) if time_of else ""
+def say_last(name, otherwise=""):
+    """Says how long the last run of a command took, or what else there is to say."""
+    last = kept().get(name)
+    line = "the last run here took %s, on %s" % (told(last["seconds"]), last["day"]) if last else otherwise
+    if line:
+        say(line)
 
 
 def told(seconds):

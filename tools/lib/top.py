@@ -15,6 +15,22 @@ def listed(repository=None):
     return found
 
 
+def closure(names, lines=None):
+    """These crates and those below them, lowest first, by the lines of a `crates.txt`. What it doesn't list is the kit's."""
+    lines, found = lines or listed(), []
+
+    def add(name):
+        for below in lines[name]:
+            if below in lines and below not in found:
+                add(below)
+        if name not in found:
+            found.append(name)
+
+    for name in names:
+        add(name)
+    return found
+
+
 def is_ours(crate):
     """Whether a crate is a library or a program of this repository. Tests, probes and examples have other names, and so has what a user
     puts beside these."""
@@ -30,3 +46,8 @@ def nearest():
     """The nearest folder here or above with a `crates.txt`, or None."""
     here = pathlib.Path.cwd()
     return next((folder for folder in (here, *here.parents) if (folder / "crates.txt").is_file()), None)
+
+
+def version():
+    """The version of all crates, as the manual page of a program has it."""
+    return (TOP / "tools" / "data" / "man" / "ufmt_lines.1").read_text().split('"ufmt_lines ')[1].split('"')[0]

@@ -24,54 +24,33 @@ prints the same numbers each time. Without a NAME it measures all, one after ano
 
 The programs that it builds are in tools/data/bench.
 """
+import importlib
 import pathlib
-import sys
 import tempfile
 
 from lib import needs, running
-from lib.top import TOP
+from lib.command.arguments import add_names
 
-# What each needs.
+# What each needs. It is a module of lib/bench with `table(room, given)`, which prints the figures and may return a status.
 NEEDED = {"calls": ("rt", "valgrind", "gcc", "readelf"), "texts": ("rt", "valgrind"), "parse": ("rt", "valgrind", "gcc", "readelf"),
           "floats": ("rt", "valgrind", "rustc"), "stack": ("rt", "objdump", "nm"), "lines": ("rt", "valgrind")}
 
 
 def add_arguments(parser):
-    parser.add_argument("names", metavar="NAME", nargs="*", help=", ".join(NEEDED))
+    add_names(parser, "NAME", NEEDED, ", ".join(NEEDED))
     parser.add_argument("--ufmt", type=pathlib.Path, metavar="FOLDER", help="calls: a checkout of ufmt 0.2.0")
     parser.add_argument("--script", type=pathlib.Path, metavar="SCRIPT", help="parse: what counts")
     parser.add_argument("--program", type=pathlib.Path, metavar="PATH", help="lines: another build of ufmt_lines")
 
 
-def measured(name, given, room):
-    """Prints the figures of this name, and returns the status."""
-    from lib.bench import calls, floats, lines, parsing, reading, stack
-
-    if name == "calls":
-        return calls.table(TOP, room, given.ufmt)
-    if name == "parse":
-        return parsing.table(TOP, room, given.script)
-    if name == "lines":
-        return lines.table(room, given.program)
-    if name == "floats":
-        return floats.measured(room)
-    if name == "texts":
-        return reading.table(TOP, room)
-    return stack.table(TOP, room, False)
-
-
 def main(given):
-    unknown = [name for name in given.names if name not in NEEDED]
-    if unknown:
-        print("x bench: nothing is named %s; there are %s" % (", ".join(unknown), ", ".join(NEEDED)), file=sys.stderr)
-        return 2
     running.heartbeat("x bench")
     statuses = []
     for name in given.names or NEEDED:
-        for program in needs.missing(NEEDED[name]):
-            print("skipped: %s: %s" % (name, needs.told(program)))
-            break
-        else:
-            with tempfile.TemporaryDirectory(prefix="x-bench-") as room:
-                statuses.append(measured(name, given, pathlib.Path(room)) or 0)
+        missing = needs.missing(NEEDED[name])
+        if missing:
+            print("skipped: %s: %s" % (name, needs.told(missing[0])))
+            continue
+        with tempfile.TemporaryDirectory(prefix="x-bench-") as room:
+            statuses.append(importlib.import_module("lib.bench." + name).table(pathlib.Path(room), given) or 0)
     return max(statuses, default=1)

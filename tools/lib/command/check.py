@@ -27,41 +27,20 @@ ONLY = re.compile(r"^only=(\d+) proved=(\d+)")
 NOISE = ("logic ", "statements ", "library ", "crate ", "checked ", "so far: checked ")
 
 
-def below(crate, lines):
-    """The crates of the repository that this one stands on, each after those that it stands on itself."""
-    order = []
-
-    def visit(name):
-        for dependency in lines[name]:
-            if dependency in lines and dependency not in order:
-                visit(dependency)
-                order.append(dependency)
-
-    visit(crate)
-    return order
-
-
-def root_of(folder):
-    """The root file of a crate."""
-    main = folder / "src" / "main.rt"
-    return main if main.is_file() else folder / "src" / "lib.rt"
-
-
-def command(repository, crate, lines, paths, jobs, tests=False):
+def command(folder, crate, lines, paths, jobs, tests):
     """The call of `rattle check`."""
-    folder = repository / "crates" / crate
     kit = pathlib.Path(CHECKER).resolve().parent.parent
-    libraries = sorted({name for one in [crate, *below(crate, lines)] for name in lines[one] if name not in lines} | {"std"})
-    call = [CHECKER, "check", "--crate-name", crate, str(root_of(folder).relative_to(folder))]
+    below = top.closure([crate], lines)
+    libraries = sorted({name for one in below for name in lines[one] if name not in lines} | {"std"})
+    call = [CHECKER, "check", "--crate-name", crate, "src/main.rt" if (folder / "src" / "main.rt").is_file() else "src/lib.rt"]
     for name in libraries:
         call += ["--extern", "%s=%s" % (name, kit / "rlibs" / (name + ".rlib"))]
     call += ["-L", "dependency=%s" % (kit / "rlibs"), "--antt-project", str(kit / "rattle/logic/antt-project.json")]
     call += ["--logic-built", str(kit / "logic_built"), "--jobs", str(jobs)]
     call += ["--incremental", str(folder / "out" / "trusting")]
-    for name in below(crate, lines):
+    for name in below[:-1]:
         call += ["--lib", "%s:%s=../%s/src/lib.rt" % (name, ",".join(["std"] + lines[name]), name)]
-    if tests:
-        call += ["--test"]
+    call += ["--test"] * tests
     for path in paths:
         call += ["--only", path]
     return call
@@ -93,7 +72,7 @@ def main(given):
     # The name of a crate stands for all of its functions.
     paths = given.items or [given.crate]
     (folder / "out" / "trusting").mkdir(parents=True, exist_ok=True)
-    run = subprocess.Popen(command(repository, given.crate, lines, paths, given.jobs, given.tests), cwd=folder, text=True, start_new_session=True,
+    run = subprocess.Popen(command(folder, given.crate, lines, paths, given.jobs, given.tests), cwd=folder, text=True, start_new_session=True,
                            stdout=subprocess.PIPE, stderr=subprocess.STDOUT)
     for number in (signal.SIGINT, signal.SIGTERM):
         signal.signal(number, lambda _number, _frame: ended(run))

@@ -10,53 +10,45 @@ import time
 
 from lib import needs, running, steps, times, top
 from lib.command import trying
+from lib.command.arguments import add_jobs
+from lib.running import say
 
 # What `rt ci` says of a crate that it has checked, or need not check.
 ENDED = re.compile(r"rt: (\w+) (?:proved|NOT PROVED|is kept)")
 
 
 def add_arguments(parser):
-    parser.add_argument("--jobs", metavar="N", type=int, default=min(4, needs.processors()), help="how many steps side by side (%(default)s)")
+    add_jobs(parser, "steps")
 
 
 def proved():
-    """Runs `rt ci`, and shows what it prints, with how many crates are proved."""
+    """Runs `rt ci`, shows what it prints, with how many crates are proved, and yields how it ended."""
     began, last, count, whole = time.monotonic(), "nothing was said", 0, len(top.listed())
     process = running.begun(["rt", "ci"], cwd=top.TOP, stdin=subprocess.DEVNULL, stdout=subprocess.PIPE, stderr=subprocess.STDOUT)
     for line in running.lines_of(process):
         if line is not None:
-            trying.say(line)
+            say(line)
             last = line.strip() or last
         ended = ENDED.match(line or "")
         count += bool(ended)
         if ended or line is None:
-            trying.say("%d of %d crates%s, after %s" % (count, whole, ": " + ended[1] if ended else "", times.told(time.monotonic() - began)))
-    return trying.Result("rt ci", time.monotonic() - began, process.wait(), last)
-
-
-def groups(given):
-    """The results of each group of steps, one after another."""
-    cheap = [step for step in steps.STEPS if step.name in steps.CHEAP]
-    yield from (trying.all_of(cheap, [], given.jobs), iter_of(proved), trying.all_of([step for step in steps.STEPS if step not in cheap], [], given.jobs))
-
-
-def iter_of(made):
-    yield made()
+            say("%d of %d crates%s, after %s" % (count, whole, ": " + ended[1] if ended else "", times.told(time.monotonic() - began)))
+    yield trying.Result("rt ci", time.monotonic() - began, process.wait(), last)
 
 
 def main(given):
     needs.require("ci", "rt")
     trying.say_missing(steps.STEPS)
     began, results = time.monotonic(), []
-    print(times.last("ci") or "no run here ended well yet", flush=True)
-    for group in groups(given):
+    times.say_last("ci", "no run here ended well yet")
+    cheap, others = ([step for step in steps.STEPS if (step.kind == steps.SOURCES) == is_cheap] for is_cheap in (True, False))
+    for group in (trying.all_of(cheap, [], given.jobs), proved(), trying.all_of(others, [], given.jobs)):
         results += list(group)
         if any(result.status for result in results):
             break
     for result in results:
         print("%-10s %-8s %6d s  %s" % (result.name, result.said(), result.seconds, result.found[:150]))
     status = trying.closing(results)
-    if status:
-        return status
-    times.keep("ci", time.monotonic() - began)
-    return 0
+    if not status:
+        times.keep("ci", time.monotonic() - began)
+    return status

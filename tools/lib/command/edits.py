@@ -8,17 +8,21 @@ applied or read.
 import pathlib
 import shutil
 import subprocess
-import sys
 import tempfile
 
 from lib import running
+from lib.command.arguments import add_names
 from lib.top import TOP
 
 SAYS = "rt: must-fail "
 
 
 def add_arguments(parser):
-    parser.add_argument("crates", metavar="CRATE", nargs="*", help="a crate with a file more-edits.txt")
+    add_names(parser, "CRATE", having(), "a crate with a file more-edits.txt", "crates")
+
+
+def having():
+    return sorted(path.parent.name for path in TOP.glob("crates/*/more-edits.txt"))
 
 
 def clone(room, crates):
@@ -38,11 +42,7 @@ def clone(room, crates):
 
 
 def main(given):
-    having = sorted(path.parent.name for path in TOP.glob("crates/*/more-edits.txt"))
-    unknown = sorted(set(given.crates) - set(having))
-    if unknown:
-        sys.exit("x edits: there is no more-edits.txt of %s" % ", ".join(unknown))
-    crates, refused, said, last = given.crates or having, 0, 0, []
+    crates, refused, said, last = given.crates or having(), 0, 0, []
     with tempfile.TemporaryDirectory(prefix="x-edits-") as folder:
         room = pathlib.Path(folder) / "clone"
         count = clone(room, crates)

@@ -21,11 +21,11 @@ import pathlib
 import re
 import shutil
 import subprocess
-import sys
 import tempfile
 
+from lib.command.arguments import add_names
 from lib.findings import ended
-from lib.top import TOP, listed
+from lib.top import TOP, closure, listed
 
 FORMS = TOP / "docs" / "forms"
 PAGE = TOP / "docs" / "DECISIONS.md"
@@ -71,24 +71,14 @@ class Form:
         return None
 
 
-def crates_of(forms):
-    """The crates that the forms use and those below them, each with what it stands on."""
-    lines, found, left = listed(), {}, [crate for form in forms for crate in form.uses]
-    while left:
-        crate = left.pop()
-        if crate in lines and crate not in found:
-            found[crate] = lines[crate]
-            left += lines[crate]
-    return found
-
-
 def make_room(room, forms):
-    crates = crates_of(forms)
+    lines = listed()
+    crates = closure([crate for form in forms for crate in form.uses if crate in lines], lines)
     for crate in crates:
         for part in KEPT:
             if (TOP / "crates" / crate / part).is_dir():
                 shutil.copytree(TOP / "crates" / crate / part, room / "crates" / crate / part, symlinks=True)
-    rows = {**crates, **{form.name: form.uses for form in forms}}
+    rows = {**{crate: lines[crate] for crate in crates}, **{form.name: form.uses for form in forms}}
     (room / "crates.txt").write_text("".join("%s: %s\n" % (crate, " ".join(below)) for crate, below in rows.items()))
     for form in forms:
         form.write(room)
@@ -104,29 +94,17 @@ def page_faults(forms):
         yield "%s: docs/DECISIONS.md names it, and it isn't in docs/forms" % name
 
 
-def chosen(forms, given):
-    if given.all:
-        return forms
-    if not given.names:
-        return [form for form in forms if not form.uses]
-    unknown = set(given.names) - {form.name for form in forms}
-    if unknown:
-        sys.exit("x forms: no form is named %s" % ", ".join(sorted(unknown)))
-    return [form for form in forms if form.name in given.names]
-
-
 def add_arguments(parser):
-    parser.add_argument("names", metavar="NAME", nargs="*", help="a form of docs/forms")
+    add_names(parser, "NAME", [path.name.removesuffix(".rt.txt") for path in FORMS.glob("*.rt.txt")], "a form of docs/forms")
     parser.add_argument("--all", action="store_true", help="each form, also those over crates of this repository")
 
 
 def main(given):
     forms = [Form(path) for path in sorted(FORMS.glob("*.rt.txt"))]
-    tried = chosen(forms, given)
+    tried = [form for form in forms if given.all or (form.name in given.names if given.names else not form.uses)]
+    faults, refused = list(page_faults(forms)), 0
     if not tried:
-        sys.exit("x forms: docs/forms has no form to try")
-    faults = list(page_faults(forms))
-    refused = 0
+        faults.append("docs/forms has no form to try")
     with tempfile.TemporaryDirectory(prefix="x-forms-") as room:
         room = pathlib.Path(room)
         make_room(room, tried)

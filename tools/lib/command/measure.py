@@ -4,23 +4,19 @@ With `--write` it writes the tables in tools/data/measured again. What `costs`, 
 proved program that `rt ci` leaves. It takes minutes. The status is 0 if each bound is in the band.
 """
 import importlib
-import sys
 
 from lib import running
+from lib.command.arguments import add_names
 
 # The module of each, with `measured_again(is_written)`, which returns the status.
 MEASURED = {"costs": "lib.costs.step", "c": "lib.c.costs", "floats": "lib.floats.steps", "texts": "lib.model.measured"}
 
 
 def add_arguments(parser):
-    parser.add_argument("names", metavar="NAME", nargs="*", help="%s (all)" % ", ".join(MEASURED))
+    add_names(parser, "NAME", MEASURED, "%s (all)" % ", ".join(MEASURED))
     parser.add_argument("--write", action="store_true", help="writes the tables again")
 
 
 def main(given):
-    unknown = [name for name in given.names if name not in MEASURED]
-    if unknown:
-        print("x measure: nothing is named %s" % ", ".join(unknown), file=sys.stderr)
-        return 2
     running.heartbeat("x measure")
     return max(importlib.import_module(MEASURED[name]).measured_again(given.write) for name in given.names or MEASURED)

@@ -12,6 +12,8 @@ import sys
 import time
 
 from lib import needs, running, times, top
+from lib.command.arguments import add_jobs
+from lib.running import say
 
 TEST = re.compile(r"^\s*#\[test\]", re.M)
 ENDED = re.compile(r"^test result: \w+\. (\d+) passed; (\d+) failed;", re.M)
@@ -33,46 +35,37 @@ class Result:
             self.faults.append("%s: its tests didn't end\n%s" % (job.name, "\n".join(job.lines[-30:])))
 
 
-def sources(repository, crate):
-    return [path.read_text() for path in (repository / "crates" / crate / "src").rglob("*.rt")]
-
-
 def chosen(repository, names):
     """The crates to try, the longest first."""
     listed = top.listed(repository)
     unknown = sorted(set(names) - set(listed))
     if unknown:
         sys.exit("x test: crates.txt lists no crate %s" % ", ".join(unknown))
-    texts = {crate: sources(repository, crate) for crate in names or listed}
+    texts = {crate: [path.read_text() for path in (repository / "crates" / crate / "src").rglob("*.rt")] for crate in names or listed}
     lines = {crate: sum(text.count("\n") for text in its) for crate, its in texts.items() if any(map(TEST.search, its))}
     return sorted(lines, key=lines.get, reverse=True)
 
 
 def add_arguments(parser):
     parser.add_argument("crates", metavar="CRATE", nargs="*", help="a crate of crates.txt")
-    parser.add_argument("--jobs", metavar="N", type=int, default=min(4, needs.processors()), help="how many crates side by side (%(default)s)")
+    add_jobs(parser, "crates")
 
 
 def main(given):
     needs.require("test", "rt")
     repository = top.nearest() or top.TOP
     crates = chosen(repository, given.crates)
-    is_whole, began = not given.crates and repository == top.TOP, time.monotonic()
-    if is_whole and times.last("test"):
-        print(times.last("test"), flush=True)
+    kept, began = "test" if not given.crates and repository == top.TOP else "", time.monotonic()
+    times.say_last(kept)
     jobs = [running.Job(crate, ["rt", "try", "--test", "--seconds", str(SECONDS)], repository / "crates" / crate) for crate in crates]
     passed, failed = 0, 0
-    for number, job in enumerate(running.side_by_side(jobs, given.jobs, say), 1):
+    for number, job in enumerate(running.side_by_side(jobs, given.jobs), 1):
         result = Result(job)
         passed, failed = passed + result.passed, failed + result.failed
         for fault in result.faults:
             print(fault.rstrip())
-        print("%d of %d crates: %s, %d tests, %d s" % (number, len(jobs), job.name, result.passed + result.failed, job.seconds), flush=True)
+        say("%d of %d crates: %s, %d tests, %d s" % (number, len(jobs), job.name, result.passed + result.failed, job.seconds))
     print("%d passed, %d failed" % (passed, failed))
-    if is_whole and not failed:
-        times.keep("test", time.monotonic() - began)
+    if not failed:
+        times.keep(kept, time.monotonic() - began)
     return 2 if not jobs else 1 if failed else 0
-
-
-def say(line):
-    print(line, flush=True)

@@ -7,8 +7,11 @@ of each step's file say what it does in full.
 import argparse
 import sys
 import time
+from typing import NamedTuple, Optional
 
 from lib import needs, running, steps, times, top
+from lib.command.arguments import add_jobs, add_names
+from lib.running import say
 
 KINDS = (steps.SOURCES, steps.UNPROVED, steps.BUILT)
 
@@ -25,8 +28,8 @@ def epilog():
 
 def add_arguments(parser):
     parser.epilog, parser.formatter_class = epilog(), argparse.RawDescriptionHelpFormatter
-    parser.add_argument("names", metavar="NAME", nargs="*", help="a step, see below")
-    parser.add_argument("--jobs", metavar="N", type=int, default=min(4, needs.processors()), help="how many steps side by side (%(default)s)")
+    add_names(parser, "NAME", steps.BY_NAME, "a step, see below")
+    add_jobs(parser, "steps")
     parser.add_argument("--count", metavar="N", type=int, help="texts, logs, floats: how many random ones (1000, 60, 20000)")
     parser.add_argument("--seed", metavar="N", type=int, default=1, help="c, floats, logs, texts: what makes the random ones the same each time (1)")
     parser.add_argument("--full", action="store_true", help="macros: each number of fields up to 25; texts: 16 MiB through every call")
@@ -34,15 +37,6 @@ def add_arguments(parser):
     parser.add_argument("--program", metavar="PATH", help="c, logs, programs, rows, texts: another build of the library or the program")
     parser.add_argument("--proved", action="store_true", help="c: the library as `rt lib` proves and builds it")
     parser.add_argument("--write", action="store_true", help="c, floats: writes what rustc and xxd print, in place of a trial; growths: writes its table anew")
-
-
-def chosen(names):
-    """The steps with these names, or all."""
-    unknown = [name for name in names if name not in steps.BY_NAME]
-    if unknown:
-        print("x try: there is no step %s; there are %s" % (", ".join(unknown), ", ".join(sorted(steps.BY_NAME))), file=sys.stderr)
-        raise SystemExit(2)
-    return [step for step in steps.STEPS if step.name in (names or steps.BY_NAME)]
 
 
 def words_of(given):
@@ -60,29 +54,27 @@ def say_missing(tried):
         skipped = [step.name for step in tried if name in step.needs]
         less = [step.name for step in tried if name in step.uses]
         said = (["skipped: %s" % ", ".join(skipped)] if skipped else []) + (["in part: %s" % ", ".join(less)] if less else [])
-        print("%s: %s" % (needs.told(name), "; ".join(said)), flush=True)
+        say("%s: %s" % (needs.told(name), "; ".join(said)))
 
 
-class Result:
+class Result(NamedTuple):
     """How a step ended, with what it found in one line."""
 
-    def __init__(self, name, seconds, status, found):
-        self.name, self.seconds, self.status, self.found = name, seconds, status, found
+    name: str
+    seconds: float
+    status: Optional[int]
+    found: str
 
     def said(self):
         return {0: "passed", None: "skipped"}.get(self.status, "FAILED")
 
 
-def skipped(step):
-    return Result(step.name, 0, None, "; ".join(needs.told(name) for name in needs.missing(step.needs)))
-
-
 def all_of(tried, words, most):
     """Runs the steps side by side, and prints what each found. Yields the result of each."""
     ready = [step for step in tried if not needs.missing(step.needs)]
-    yield from (skipped(step) for step in tried if step not in ready)
+    yield from (Result(step.name, 0, None, "; ".join(map(needs.told, needs.missing(step.needs)))) for step in tried if step not in ready)
     jobs = [running.Job(step.name, [sys.executable, top.X, "try", step.name, *words]) for step in ready]
-    for number, job in enumerate(running.side_by_side(jobs, most, say), 1):
+    for number, job in enumerate(running.side_by_side(jobs, most), 1):
         result = Result(job.name, job.seconds, job.status, job.lines[-1] if job.lines else "nothing was said")
         say("%d of %d: %s: %s, %d s" % (number, len(jobs), job.name, result.said(), job.seconds))
         say("".join("    %s\n" % line for line in job.lines).rstrip("\n") or "    nothing was said")
@@ -90,19 +82,17 @@ def all_of(tried, words, most):
 
 
 def main(given):
-    tried = chosen(given.names)
+    tried = [step for step in steps.STEPS if step.name in (given.names or steps.BY_NAME)]
     say_missing(tried)
     if len(given.names) == 1:
         running.heartbeat("x try %s" % tried[0].name)
         return 0 if needs.missing(tried[0].needs) else tried[0].main(given)
-    is_whole, began = not given.names, time.monotonic()
-    if is_whole and times.last("try"):
-        say(times.last("try"))
-    results = list(all_of(tried, words_of(given), given.jobs))
-    failed = [result.name for result in results if result.status]
-    if is_whole and not failed:
-        times.keep("try", time.monotonic() - began)
-    return closing(results)
+    kept, began = "" if given.names else "try", time.monotonic()
+    times.say_last(kept)
+    status = closing(list(all_of(tried, words_of(given), given.jobs)))
+    if not status:
+        times.keep(kept, time.monotonic() - began)
+    return status
 
 
 def closing(results):
@@ -110,10 +100,6 @@ def closing(results):
     counts = [sum(result.said() == word for result in results) for word in ("passed", "FAILED", "skipped")]
     failed = [result.name for result in results if result.status]
     if failed:
-        print("failed: %s" % ", ".join(failed))
-    print("%d passed, %d failed" % tuple(counts[:2]) + (", %d skipped" % counts[2] if counts[2] else ""), flush=True)
+        say("failed: %s" % ", ".join(failed))
+    say("%d passed, %d failed" % tuple(counts[:2]) + (", %d skipped" % counts[2] if counts[2] else ""))
     return 1 if failed else 0
-
-
-def say(line):
-    print(line, flush=True)
