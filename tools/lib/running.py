@@ -8,6 +8,7 @@ import os
 import select
 import signal
 import subprocess
+import sys
 import tempfile
 import time
 
@@ -69,6 +70,21 @@ def lines_of(process):
         yield from (line.decode(errors="replace") for line in (whole if data else filter(None, [left])))
         if not data:
             return
+
+
+def output_of(words, seconds=None, **how):
+    """What a command prints. If it fails, or takes longer, this one ends with what it said; what valgrind said comes first."""
+    words = [str(word) for word in words]
+    how = how if "input" in how else {"stdin": subprocess.DEVNULL, **how}
+    try:
+        ran = subprocess.run(words, stdout=subprocess.PIPE, stderr=subprocess.STDOUT, timeout=seconds, **how)
+    except subprocess.TimeoutExpired:
+        sys.exit("more than %d seconds: %s" % (seconds, " ".join(words)[:300]))
+    said = ran.stdout.decode(errors="replace")
+    if ran.returncode:
+        of_valgrind = "\n".join(line for line in said.splitlines() if line.startswith("=="))
+        sys.exit("status %d of %s\n%s" % (ran.returncode, " ".join(words)[:300], of_valgrind[:3000] or said[-3000:]))
+    return said
 
 
 def say(line):

@@ -1,9 +1,10 @@
 """Bytes of code and constants that a call that prints needs, and instructions that it takes, beside ufmt and core::fmt."""
 import re
-import subprocess
-import sys
 
 from lib.bench import build, peers
+from lib.bench.counter import counted
+from lib.running import output_of
+from lib.top import TOP
 
 # `two` prints a second type as well, `eight` eight types. The peers have the first seven.
 PEER_SIZES = ("text", "number", "struct", "pretty", "two", "eight", "line")
@@ -16,39 +17,20 @@ CALLS = (("text", "text", "0"), ("i32 of 0", "number", "0"), ("i32 of least", "n
          ("list of 100 u64", "list", "0"))
 
 
-def run(words):
-    ran = subprocess.run([str(word) for word in words], stdout=subprocess.PIPE, stderr=subprocess.STDOUT, text=True)
-    if ran.returncode:
-        sys.exit("x bench: %s\n%s" % (" ".join(map(str, words))[:200], ran.stdout[-2000:]))
-    return ran.stdout
-
-
-def memory(top, room):
-    """What a program without a C library needs, compiled."""
-    made = room / "memory.o"
-    source = top / "tools" / "data" / "bench" / "memory.c"
-    run(["gcc", "-Os", "-ffreestanding", "-fno-builtin", "-ffunction-sections", "-c", source, "-o", made])
-    return made
-
-
-def bytes_of(room, library, helpers, entry):
-    """How many bytes of code and constants a program has that only makes this call."""
-    made = room / "alone"
-    run(["gcc", "-nostdlib", "-static", "-no-pie", "-Wl,--gc-sections", "-Wl,-e," + entry, "-Wl,-u," + entry, "-o", made,
-         "-Wl,--start-group", library, helpers, "-Wl,--end-group"])
-    found = re.findall(r"\]\s+\.(?:text|rodata|data)\S*\s+\S+\s+\S+\s+\S+\s+([0-9a-f]+)", run(["readelf", "-SW", made]))
+def bytes_of(room, library, entry):
+    """How many bytes of code and constants a program without a C library has that only makes this call."""
+    helpers, made = room / "memory.o", room / "alone"
+    if not helpers.exists():
+        output_of(["gcc", "-Os", "-ffreestanding", "-fno-builtin", "-ffunction-sections", "-c", TOP / "tools" / "data" / "bench" / "memory.c", "-o", helpers])
+    output_of(["gcc", "-nostdlib", "-static", "-no-pie", "-Wl,--gc-sections", "-Wl,-e," + entry, "-Wl,-u," + entry, "-o", made,
+               "-Wl,--start-group", library, helpers, "-Wl,--end-group"])
+    found = re.findall(r"\]\s+\.(?:text|rodata|data)\S*\s+\S+\s+\S+\s+\S+\s+([0-9a-f]+)", output_of(["readelf", "-SW", made]))
     return sum(int(size, 16) for size in found)
-
-
-def collected(words):
-    """How many instructions a run takes."""
-    said = run(["valgrind", "--tool=callgrind", "--callgrind-out-file=/dev/null", *words])
-    return int(re.findall(r"Collected : (\d+)", said)[-1])
 
 
 def instructions(words, name, number):
     """How many instructions a call takes, with the loop around it."""
-    few, many = (collected([*words, name, turns, number]) for turns in (1000, 3000))
+    few, many = (counted([*words, name, turns, number])[0] for turns in (1000, 3000))
     return (many - few) // 2000
 
 
@@ -56,34 +38,28 @@ def line(told, cells):
     print("%-18s" % told + "".join("%11s" % (cell if cell is not None else "-") for cell in cells), flush=True)
 
 
-def sizes(room, ours, helpers, ufmt):
-    """A line for each call: ours, then the peers, for speed and for size."""
-    made, found = peers.built(room, "sizes", "library", ufmt, ("alone", "small"))
-    line("bytes", ("ours", "ufmt", "core::fmt", "ufmt z", "core z"))
+def beside_peers(kind, ufmt, room, profiles, rows):
+    """A line for each row: ours, and what each peer takes in each profile. A row has its name, our figure, and what finds a peer's in the
+    folder of a profile, or None."""
+    made, found = peers.built(room, *kind, ufmt, profiles)
+    for told, ours, theirs in rows:
+        line(told, [ours, *(theirs(made / profile, peer) if theirs and peer in found else None for profile in profiles for peer in ("ufmt", "core"))])
+
+
+def sizes(room):
     for case in SIZES:
-        cells = [bytes_of(room, ours, helpers, "case_size_" + case)]
-        for profile in ("alone", "small"):
-            for peer in ("ufmt", "core"):
-                library = made / profile / "libsizes.a" if peer in found and case in PEER_SIZES else None
-                cells.append(bytes_of(room, library, helpers, "%s_%s" % (peer, case)) if library else None)
-        line(case, cells)
+        yield case, bytes_of(room, room / "module.o", "case_size_" + case), case in PEER_SIZES and (
+            lambda folder, peer, case=case: bytes_of(room, folder / "libsizes.a", "%s_%s" % (peer, case)))
 
 
-def counts(room, program, ufmt):
-    """A line for each call: ours, then the peers, as `cargo build --release` makes them and linked as a
-    whole."""
-    made, found = peers.built(room, "calls", "program", ufmt, ("release", "linked"))
-    line("instructions", ("ours", "ufmt", "core::fmt", "ufmt lto", "core lto"))
+def counts(program):
     for told, name, number in CALLS:
-        cells = [instructions([program], name, number)]
-        for profile in ("release", "linked"):
-            for peer in ("ufmt", "core"):
-                cells.append(instructions([made / profile / "calls", peer], name, number) if peer in found else None)
-        line(told, cells)
+        yield told, instructions([program], name, number), lambda folder, peer, name=name, number=number: instructions([folder / "calls", peer], name, number)
 
 
-def table(top, room, ufmt):
-    program = build.over_copies(top, room, "calls", ["ufmt"])
-    sizes(room, room / "module.o", memory(top, room), ufmt)
-    counts(room, program, ufmt)
-    return 0
+def table(room, given):
+    program = build.over_copies(room, "calls", ["ufmt"])
+    line("bytes", ("ours", "ufmt", "core::fmt", "ufmt z", "core z"))
+    beside_peers(("sizes", "library"), given.ufmt, room, ("alone", "small"), sizes(room))
+    line("instructions", ("ours", "ufmt", "core::fmt", "ufmt lto", "core lto"))
+    beside_peers(("calls", "program"), given.ufmt, room, ("release", "linked"), counts(program))

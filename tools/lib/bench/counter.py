@@ -3,11 +3,12 @@ import re
 import subprocess
 import sys
 
+VALGRIND = ["valgrind", "--tool=cachegrind", "--cache-sim=no", "--cachegrind-out-file=/dev/null"]
+
 
 def counted(words, text=b""):
     """How many instructions a run takes on this input, and what it prints."""
-    valgrind = ["valgrind", "--tool=cachegrind", "--cache-sim=no", "--cachegrind-out-file=/dev/null"]
-    ran = subprocess.run(valgrind + [str(word) for word in words], input=text, stdout=subprocess.PIPE, stderr=subprocess.PIPE)
+    ran = subprocess.run(VALGRIND + [str(word) for word in words], input=text, capture_output=True)
     found = re.search(rb"I\s+refs:\s+([\d,]+)", ran.stderr)
     if ran.returncode or not found:
         sys.exit("x bench: valgrind can't count: " + ran.stderr.decode(errors="replace")[-500:])

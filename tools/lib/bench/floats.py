@@ -16,7 +16,7 @@ def instructions(program, value):
     return (many - few) // (MANY - FEW)
 
 
-def measured(room):
+def table(room, _given):
     """Prints a line for each value."""
     made = [build_in(room / name) for name, build_in in (("ours", programs.ours), ("rustc", programs.theirs), ("ryu", programs.ryu))]
     print("%-24s%8s%12s%8s" % ("instructions", "ours", "core::fmt", "ryu"))

@@ -8,9 +8,10 @@ outside of the program, as the C library, isn't counted. Code that moves the sta
 through a pointer, ends the run: then nothing is known.
 """
 import re
-import subprocess
 import sys
 from typing import NamedTuple
+
+from lib.running import output_of
 
 RETURN_ADDRESS = 8
 MOVES = re.compile(r"(sub|add)\s+\$(-?)0x([0-9a-f]+),%rsp$")
@@ -39,14 +40,10 @@ class Frame(NamedTuple):
     unknown: str
 
 
-def said(words):
-    return subprocess.run([str(word) for word in words], stdout=subprocess.PIPE, text=True, check=True).stdout
-
-
 def symbols(program):
     """The address of each function, by its name."""
     found = {}
-    for line in said(["nm", program]).splitlines():
+    for line in output_of(["nm", program]).splitlines():
         parts = line.split(" ", 2)
         if len(parts) == 3 and parts[1] in "tTwW" and parts[0]:
             found[parts[2]] = int(parts[0], 16)
@@ -56,7 +53,7 @@ def symbols(program):
 def code(program):
     """The lines of each function, by its address, and the name that stands there."""
     lines, names, current = {}, {}, None
-    for line in said(["objdump", "-d", "--no-show-raw-insn", program]).splitlines():
+    for line in output_of(["objdump", "-d", "--no-show-raw-insn", program]).splitlines():
         begun = re.match(r"([0-9a-f]+) <(.*)>:$", line)
         if begun:
             current = int(begun.group(1), 16)

@@ -3,6 +3,8 @@ import pathlib
 import shutil
 import subprocess
 
+from lib.top import TOP
+
 # Debian's packages librust-*-dev put their crates here; else they are those that cargo has.
 DEBIAN = pathlib.Path("/usr/share/cargo/registry")
 SOURCE = '[source.crates-io]\nreplace-with = "debian"\n[source.debian]\ndirectory = "%s"\n'
@@ -47,8 +49,7 @@ def cargo(room, name, kind, dependencies, features, profiles):
     head, lines = ("[lib]", 'crate-type = ["staticlib"]') if kind == "library" else ("[[bin]]", 'name = "%s"' % name)
     named = "\n".join('%s = ["dep:%s"]' % (it, it) for it in features)
     (folder / "Cargo.toml").write_text(MANIFEST % (name, head, lines, named, "\n".join(dependencies)))
-    top = pathlib.Path(__file__).resolve().parent.parent.parent
-    shutil.copy(top / "data" / "bench" / "peers" / (name + ".rs"), folder / "main.rs")
+    shutil.copy(TOP / "tools" / "data" / "bench" / "peers" / (name + ".rs"), folder / "main.rs")
     given = ["--features", ",".join(features)] if features else []
     return all(
         subprocess.run(["cargo", "build", "--offline", "--quiet", "--profile", profile, *given], cwd=folder,

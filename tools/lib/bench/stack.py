@@ -8,36 +8,27 @@ PROGRAMS = [(*part.split(), [(told, *names.split()) for told, names in (row.spli
             for part, rows in data.parts("bench/stack.txt").items()]
 
 
-class Row:
-    """What a call takes at most, and a level more of it."""
-
-    def __init__(self, told, known, names):
-        found = [known.most("case_" + name) for name in names]
-        sizes = [most.size for most in found]
-        self.told = told
-        self.name = names[0]
-        self.size = sizes[0]
-        self.level = max([found[0].level] + [more - less for less, more in zip(sizes, sizes[1:])])
-
-
-def rows(top, room, programs):
-    """A row for each call, program after program."""
+def rows(room, programs):
+    """What each call does, its function, and what it takes at most, and a level more of it, program after program."""
     for name, library, calls in programs:
         (room / name).mkdir()
-        known = frames.Frames(build.over_copies(top, room / name, name, [library]))
+        known = frames.Frames(build.over_copies(room / name, name, [library]))
         for told, *names in calls:
-            yield Row(told, known, names)
+            found = [known.most("case_" + name) for name in names]
+            yield told, names[0], found[0].size, max([found[0].level, *(more.size - less.size for less, more in zip(found, found[1:]))])
 
 
-def table(top, room, is_check):
-    """A line for each call. A check builds only the calls that print or parse, and tells which are past their bounds. Its result is
-    the status."""
+def past_bounds(room, programs):
+    """Prints a line for each call, and returns a line for each that is past its bound."""
     print("%-32s %8s %14s" % ("bytes of stack", "at most", "a level more"))
     past, bounds = [], measures.Table("stack").of("call")
-    for row in rows(top, room, PROGRAMS[:2] if is_check else PROGRAMS):
-        print("%-32s %8d %14s" % (row.told, row.size, row.level or "-"), flush=True)
-        size, level = bounds[row.name]
-        if row.size > size or row.level > level:
-            past.append(case(row.told, "at most %d bytes of stack, and %d a level" % (size, level), "%d and %d" % (row.size, row.level)))
+    for told, name, *taken in rows(room, programs):
+        print("%-32s %8d %14s" % (told, taken[0], taken[1] or "-"), flush=True)
+        if any(count > bound for count, bound in zip(taken, bounds[name])):
+            past.append(case(told, "at most %d bytes of stack, and %d a level" % tuple(bounds[name]), "%d and %d" % tuple(taken)))
     print("\n".join(past) if past else "each is within its bound")
-    return 1 if past else 0
+    return past
+
+
+def table(room, _given):
+    return 1 if past_bounds(room, PROGRAMS) else 0

@@ -6,20 +6,17 @@ import functools
 import json
 from typing import NamedTuple
 
+from lib.model.model import Block, plain, pretty, quoted
+
 MASK = (1 << 64) - 1
 WORDS = ("status", "the line is open", "a, b: [c]", "x", "sensor 4 of 12", "valve",
          "retry later, or call the operator of the second line", "ok")
 SHORT_WORDS = ("status", "the line is open", "a, b: [c]", "x", "sensor 4 of 12", "it's late", "{}", "retry later")
 ODD_WORDS = ('say "yes"', "two\nlines", "caf\u00e9 \u20ac", "\x1b[0m")
-ESCAPES = {"\\": "\\\\", "\n": "\\n", "\t": "\\t", "\x1b": "\\u{1b}"}
 
 
 class Char(str):
     """A character."""
-
-
-class Some(NamedTuple):
-    value: object
 
 
 class Struct(NamedTuple):
@@ -55,90 +52,51 @@ class Random:
         return choices[self.below(len(choices))]
 
 
-# ---- Texts.
-
-
-def quoted(text, quote):
-    return quote + "".join("\\" + sign if sign == quote else ESCAPES.get(sign, sign) for sign in text) + quote
-
-
-def leaf(value):
-    """The text of a value that is no block, or None."""
+def document(value):
+    """The text of a leaf, or the block of a value, as the model has them."""
     if isinstance(value, bool):
-        return "true" if value else "false"
+        return str(value).lower()
+    if isinstance(value, str):
+        return quoted(value, "'" if isinstance(value, Char) else '"')
     if value is None or isinstance(value, (int, float)):
         return str(value)
-    if isinstance(value, Char):
-        return quoted(value, "'")
-    if isinstance(value, str):
-        return quoted(value, '"')
-    if isinstance(value, Variant) and not value.values:
-        return value.name
-    return None
-
-
-def block(value):
-    """How the block of a value begins and ends in plain mode, and its entries, each with what comes before it."""
     if isinstance(value, Struct):
-        return value.name + " { ", " }", [(name + ": ", field) for name, field in value.fields.items()]
-    if isinstance(value, Some):
-        return "Some(", ")", [("", value.value)]
+        return Block("struct", value.name, [(name, document(it)) for name, it in value.fields.items()])
     if isinstance(value, Variant):
-        return value.name + "(", ")", [("", it) for it in value.values]
+        return Block("tuple", value.name, [(None, document(it)) for it in value.values]) if value.values else value.name
     if isinstance(value, dict):
-        return "{", "}", [(leaf(key) + ": ", it) for key, it in value.items()]
-    opening, closing = "()" if isinstance(value, tuple) else "[]"
-    return opening, closing, [("", it) for it in value]
+        return Block("map", "", [(document(key), document(it)) for key, it in value.items()])
+    return Block("tuple" if isinstance(value, tuple) else "list", "", [(None, document(it)) for it in value])
 
 
-def plain(value):
-    text = leaf(value)
-    if text is not None:
-        return text
-    opening, closing, entries = block(value)
-    return opening + ", ".join(before + plain(it) for before, it in entries) + closing
-
-
-def pretty(value, line="\n"):
-    text = leaf(value)
-    if text is not None:
-        return text
-    opening, closing, entries = block(value)
-    if not entries:
-        return opening + closing
-    inside = line + "    "
-    return opening.rstrip(" ") + "".join(inside + before + pretty(it, inside) + "," for before, it in entries) + line + closing.strip()
-
-
-def to_json(value):
+def as_json(value):
+    """What JSON has of a value."""
     if isinstance(value, Struct):
-        fields = "{%s}" % ",".join('"%s":%s' % (name, to_json(it)) for name, it in value.fields.items())
-        return '{"%s":%s}' % (value.name, fields) if value.is_variant else fields
-    if isinstance(value, Some):
-        return to_json(value.value)
+        fields = {name: as_json(it) for name, it in value.fields.items()}
+        return {value.name: fields} if value.is_variant else fields
     if isinstance(value, Variant):
-        if not value.values:
-            return '"%s"' % value.name
-        return '{"%s":%s}' % (value.name, to_json(value.values if len(value.values) > 1 else value.values[0]))
+        values = [as_json(it) for it in value.values]
+        only = values[0] if len(values) == 1 else values
+        return only if value.name == "Some" else {value.name: only} if values else value.name
     if isinstance(value, dict):
-        return "{%s}" % ",".join("%s:%s" % (to_json(key), to_json(it)) for key, it in value.items())
-    if isinstance(value, (list, tuple)):
-        return "[%s]" % ",".join(map(to_json, value))
-    return json.dumps(value, ensure_ascii=False)
+        return {key: as_json(it) for key, it in value.items()}
+    return [as_json(it) for it in value] if isinstance(value, (list, tuple)) else value
 
 
 def to_ron(value):
-    text = leaf(value)
-    if text is not None:
-        return text
     if isinstance(value, Struct):
-        fields = ",".join("%s:%s" % (name, to_ron(it)) for name, it in value.fields.items())
-        return "%s(%s)" % (value.name if value.is_variant else "", fields)
-    opening, closing, entries = block(value)
-    return opening + ",".join(before.replace(": ", ":") + to_ron(it) for before, it in entries) + closing
+        return "%s(%s)" % (value.name if value.is_variant else "", ",".join("%s:%s" % (name, to_ron(it)) for name, it in value.fields.items()))
+    if isinstance(value, Variant) and value.values:
+        return "%s(%s)" % (value.name, ",".join(map(to_ron, value.values)))
+    if isinstance(value, dict):
+        return "{%s}" % ",".join("%s:%s" % (to_ron(key), to_ron(it)) for key, it in value.items())
+    if isinstance(value, (list, tuple)) and not isinstance(value, Variant):
+        return ("(%s)" if isinstance(value, tuple) else "[%s]") % ",".join(map(to_ron, value))
+    return document(value)
 
 
-FORMATS = {"plain": plain, "pretty": pretty, "json": to_json, "ron": to_ron}
+FORMATS = {"plain": lambda value: plain(document(value)), "pretty": lambda value: pretty(document(value)), "ron": to_ron,
+           "json": lambda value: json.dumps(as_json(value), ensure_ascii=False, separators=(",", ":"))}
 
 # ---- Values of each kind that is parsed.
 
@@ -149,7 +107,7 @@ def words(random, has_odd):
 
 
 def option(random):
-    return None if random.below(4) == 0 else Some((random.below(100000), random.below(2) == 0))
+    return None if random.below(4) == 0 else Variant("Some", ((random.below(100000), random.below(2) == 0),))
 
 
 def event(random):
@@ -182,7 +140,7 @@ def many(make, size):
     random, made, length = Random(), [], 2
     while length < size:
         made.append(make(random))
-        length += len(plain(made[-1]).encode()) + 2
+        length += len(FORMATS["plain"](made[-1]).encode()) + 2
     return made
 
 
@@ -196,7 +154,7 @@ def of_kind(kind, size):
     while length < size:
         key = "sensor-%07d" % (len(made) * 7 + random.below(7))
         made[key] = [random.below(65536) for _ in range(random.below(10))]
-        length += len(key) + len(plain(made[key])) + 6
+        length += len(key) + len(FORMATS["plain"](made[key])) + 6
     return made, len(made)
 
 

@@ -18,9 +18,7 @@ def exported(module):
 
 def unproved(room):
     """The archive, built in this folder."""
-    below = build.libraries(TOP, ["ufmt_c"])
-    build.copied(TOP, room, below)
-    del below["ufmt_c"]
+    below = build.of_sources(room, "ufmt_c")
     source = room / "crates" / "ufmt_c" / "src"
     main = (TOP / "tools" / "data" / "c" / "calls.rt.txt").read_text()
     (source / "main.rt").write_text((source / "lib.rt").read_text() + main)

@@ -1,8 +1,10 @@
 """Makes calls of the library by a program in C or in Rust, and compares what they return and leave."""
+import functools
 import itertools
-import subprocess
+import shutil
 import sys
 
+from lib import running
 from lib.c import cases
 from lib.top import TOP
 
@@ -14,30 +16,31 @@ FILL, DETAIL = 0xA5, 777
 # No bytes are at NULL in turn.
 NO_ROOM, NO_BYTES = itertools.cycle(("null", "0")), itertools.cycle(("-", "null"))
 SECONDS = 300
+# valgrind runs at most so many cases of a call, of each kind of outcome.
+UNDER_VALGRIND = 60
+VALGRIND = ["valgrind", "--quiet", "--error-exitcode=9", "--leak-check=full", "--errors-for-leak-kinds=all"]
+# What a command printed; it must end with status 0, and soon.
+run = functools.partial(running.output_of, seconds=SECONDS)
 
 
-class Faults:
-    def __init__(self):
-        self.count = 0
-
-    def say(self, text):
-        self.count += 1
-        if self.count <= 40:
-            print(text[:600])
+def here(program, without):
+    """Whether this machine has a program. If not, it says what isn't tried without it."""
+    if not shutil.which(program):
+        print("no %s: %s" % (program, without))
+    return bool(shutil.which(program))
 
 
-def run(words, **how):
-    """What a command printed; it must end with status 0, and soon."""
-    how = {"timeout": SECONDS, **how}
-    try:
-        ran = subprocess.run([str(word) for word in words], stdout=subprocess.PIPE, stderr=subprocess.STDOUT, **how)
-    except subprocess.TimeoutExpired:
-        sys.exit("more than %d seconds: %s" % (how["timeout"], " ".join(map(str, words))))
-    if ran.returncode:
-        said = ran.stdout.decode(errors="replace")
-        of_valgrind = "\n".join(line for line in said.splitlines() if line.startswith("=="))
-        sys.exit("status %d of %s\n%s" % (ran.returncode, " ".join(map(str, words)), of_valgrind[:3000] or said[-3000:]))
-    return ran.stdout.decode()
+def asked_of(tried):
+    """What asks the programs of tools/data/c for these calls, each a case with the length of its buffer."""
+    return [request(case, room) for case, room in tried]
+
+
+def lines_of(program, asked, before=(), words=(), seconds=SECONDS):
+    """What such a program says of each of these calls."""
+    lines = run([*before, program, *words], input="".join(asked).encode(), seconds=seconds).splitlines()
+    if len(lines) != len(asked):
+        sys.exit("%d answers to %d calls" % (len(lines), len(asked)))
+    return lines
 
 
 def rooms(case):
@@ -100,7 +103,7 @@ def compare(faults, how, tried, answers):
     for (case, room), (result, detail, left) in zip(tried, answers):
         told = wrong(case, room, result, detail, left)
         if told:
-            faults.say("%s: %s%r in %s bytes: %s" % (how, case.call, case.arguments, room, told))
+            faults.append("%s: %s%r in %s bytes: %s" % (how, case.call, case.arguments, room, told))
     return len(tried)
 
 
@@ -109,23 +112,40 @@ def answer(line):
     return int(result), int(detail), bytes.fromhex(left)
 
 
-def by_program(faults, program, tried, before=(), how="C", seconds=SECONDS, words=()):
+def by_program(faults, program, tried, before=(), how="C", seconds=SECONDS):
     """Tries cases by the program in C, or the one in Rust."""
-    asked = "".join(request(case, room) for case, room in tried)
-    lines = run([*before, program, *words], input=asked.encode(), timeout=seconds).splitlines()
-    if len(lines) != len(tried):
-        sys.exit("%d answers to %d calls" % (len(lines), len(tried)))
-    return compare(faults, how, tried, map(answer, lines))
+    return compare(faults, how, tried, map(answer, lines_of(program, asked_of(tried), before, seconds=seconds)))
 
 
 def without_detail(faults, program, tried):
     """Tries cases with a detail at NULL: the same is returned and left as with one elsewhere."""
-    asked = "".join(request(case, room) for case, room in tried).encode()
-    for (case, room), line, other in zip(tried, run([program, "null"], input=asked).splitlines(), run([program], input=asked).splitlines()):
+    asked = asked_of(tried)
+    for (case, room), line, other in zip(tried, lines_of(program, asked, words=["null"]), lines_of(program, asked)):
         (result, detail, left), (wanted, _, text) = answer(line), answer(other)
         if (result, detail, left) != (wanted, DETAIL, text):
-            faults.say("a detail at NULL: %s%r in %s bytes: wanted %s, got %s" % (case.call, case.arguments, room, other, line))
+            faults.append("a detail at NULL: %s%r in %s bytes: wanted %s, got %s" % (case.call, case.arguments, room, other, line))
     return len(tried)
+
+
+def some_of(made):
+    """At most so many cases of each call and kind of outcome, spread over all of them."""
+    kinds = {}
+    for case in made:
+        kinds.setdefault((case.call, case.result if case.text is None else "text", case.length is None), []).append(case)
+    return [case for group in kinds.values() for case in group[:: max(1, -(-len(group) // UNDER_VALGRIND))]]
+
+
+def under_valgrind(faults, program, made):
+    """Tries some cases under valgrind, and then with buffers whose bytes have no value before the call."""
+    if not here("valgrind", "bytes that are read or written outside of an array aren't looked for"):
+        return 0
+    tried = [(case, room) for case in some_of(made) for room in rooms(case)]
+    count = by_program(faults, program, tried, VALGRIND, "C under valgrind")
+    whole = [(case, len(case.text)) for case in some_of(made) if case.text is not None and case.length is None]
+    for (case, _), line in zip(whole, lines_of(program, asked_of(whole), VALGRIND, ["unset"])):
+        if answer(line) != (len(case.text), len(case.text), case.text):
+            faults.append("an unset buffer: %s%r: wanted %r, got %s" % (case.call, case.arguments, case.text, line))
+    return count + len(whole)
 
 
 def caller_in_c(room, library):

@@ -8,11 +8,10 @@ import json
 import re
 import sys
 from typing import NamedTuple, Optional
-from urllib.parse import unquote_to_bytes
 
 sys.setrecursionlimit(20_000)
 
-from lib import data as tables  # noqa: E402
+from lib import data as tables, top  # noqa: E402
 from lib.expected import rows as expected_rows  # noqa: E402
 from lib.log_model import log_model  # noqa: E402
 from lib.model.document import plain, pretty  # noqa: E402
@@ -90,8 +89,7 @@ def arguments(call, words):
     words, found = list(words), []
     for kind in CALLS[call]:
         if kind == "bytes":
-            found.append(b"" if words[0] == "%" else unquote_to_bytes(words[0]))
-            del words[0]
+            found.append(tables.data_of(words.pop(0)))
         elif kind in STYLES:
             count = len(STYLES[kind]) - 1
             found.append(style(kind, *(int(word) for word in words[:count])))
@@ -113,7 +111,7 @@ def stored():
         if call == "first_difference":
             yield Case(call, arguments(call, words), result=int(text))
             continue
-        whole = b"" if text == "%" else unquote_to_bytes(text)
+        whole = tables.data_of(text)
         yield Case(call, arguments(call, words), text=whole)
         if call == "quote":
             yield Case("unquote", (whole,), text=arguments(call, words)[0])
@@ -171,30 +169,25 @@ def as_rustc_printed():
 
 
 def valid_up_to(data):
-    """How many bytes at the front are UTF-8, by Python's decoder."""
+    """How many bytes at the front are UTF-8, by Python's decoder. None if all are."""
     try:
         data.decode()
     except UnicodeDecodeError as error:
         return error.start
-    raise ValueError("these bytes are UTF-8")
+    return None
 
 
-def version():
-    """The version of all crates, as the page of a program has it, in one number."""
-    page = (TOP / "tools" / "data" / "man" / "ufmt_lines.1").read_text()
-    first, second, third = re.search(r'"ufmt_lines (\d+)\.(\d+)\.(\d+)"', page).groups()
-    return int(first) * 10_000 + int(second) * 100 + int(third)
+def or_not_utf8(call, arguments, texts, **made):
+    """The case of a call that does this, unless one of these texts isn't UTF-8."""
+    place = next(filter(lambda it: it is not None, map(valid_up_to, texts)), None)
+    return Case(call, arguments, **made) if place is None else Case(call, arguments, result=NOT_UTF8, detail=place)
 
 
 def field_case(text_class, line, name):
     """The field with this name in a line, by the model."""
-    asked = (CLASSES[text_class], line, name)
-    try:
-        name.decode()
-    except UnicodeDecodeError as error:
-        return Case("field", asked, result=NOT_UTF8, detail=error.start)
-    found = log_model.field(text_class, line, name)
-    return Case("field", asked, result=NO_TEXT) if found is None else Case("field", asked, result=len(found[1]), detail=found[0])
+    found = log_model.field(text_class, line, name) if valid_up_to(name) is None else None
+    place = {"result": NO_TEXT} if found is None else {"result": len(found[1]), "detail": found[0]}
+    return or_not_utf8("field", (CLASSES[text_class], line, name), [name], **place)
 
 
 # A class, a line, a field's name, and its text.
@@ -256,7 +249,8 @@ def refusals():
     for text_class in (2, 3, 255, 256, 2**31, 2**32 - 1):
         for name in (b"x", b"", b"\xff"):
             yield Case("field", (text_class, b"S { x: 1 }", name), result=BAD_OPTION)
-    yield Case("version", (), result=version())
+    first, second, third = map(int, top.version().split("."))
+    yield Case("version", (), result=first * 10_000 + second * 100 + third)
 
 
 def all_cases():

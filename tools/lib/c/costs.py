@@ -6,14 +6,13 @@ on any input, by its machine code, and none recurses.
 """
 import pathlib
 import re
-import shutil
 import sys
 import tempfile
 
 from lib import findings, measures, needs
 from lib.bench import frames
 from lib.c import archive, cases, sized
-from lib.c.calling import caller_in_c, request, run
+from lib.c.calling import caller_in_c, here, request, run
 
 # The steps of a counted call at most: to start, and for each byte of its input, its text and its buffer. They take about half as many.
 START_STEPS, BYTE_STEPS = 3_000, 150
@@ -52,8 +51,7 @@ def most_steps(case, room):
 
 def counted_steps(program, counted):
     """The steps of each of these calls, by the place of its case."""
-    if not shutil.which("valgrind"):
-        print("no valgrind: no steps are counted")
+    if not here("valgrind", "no steps are counted"):
         return {}
     steps = {}
     for call in sorted({case.call for case, _ in counted}):
@@ -72,11 +70,9 @@ def compared_steps(faults, program, counted, table):
     for (case, room), found in zip(counted, map(steps.get, range(len(counted)))):
         most = most_steps(case, room or 0)
         if found is not None and not 0 < found <= most:
-            faults.say(findings.most("%s%r in %s bytes" % (case.call, case.arguments, room), most, found, "steps"))
+            faults.append(findings.most("%s%r in %s bytes" % (case.call, case.arguments, room), most, found, "steps"))
     if table and steps:
-        rows = {name: [("steps", steps[len(counted) + at])] for at, (name, _, _) in enumerate(measured)}
-        for fault in table.faults(rows):
-            faults.say(fault)
+        faults += table.faults({name: [("steps", steps[len(counted) + at])] for at, (name, _, _) in enumerate(measured)})
     return len(steps)
 
 
@@ -96,7 +92,7 @@ def stacks(faults, program):
     for name in cases.CALLS:
         most, (bound, _) = code.most("ufmt_" + name), bounds.get(name, (0, 0))
         if most.size > bound or most.level:
-            faults.say(findings.most("ufmt_%s, %s" % (name, " > ".join(most.path)), bound, "%d and %d a level" % (most.size, most.level), "bytes of stack"))
+            faults.append(findings.most("ufmt_%s, %s" % (name, " > ".join(most.path)), bound, "%d and %d a level" % (most.size, most.level), "bytes of stack"))
 
 
 def measured_again(is_written):

@@ -1,35 +1,61 @@
-"""The header by each standard of C and C++, and what it declares beside what the library exports."""
+"""The header by each standard of C and C++, what it declares beside what the library exports, and how its structs are laid out: what callers
+are compiled against.
+
+tools/data/c/interface.txt has that: the lines of the header without its comments, and for each constant its value, for each struct and each
+of its members its place and its size, as gcc has them. A line that changes or goes may break a caller.
+"""
+import pathlib
 import re
 import shutil
+import tempfile
 
-from lib.c import cases, interface
-from lib.c.calling import DATA, HEADER, WARNINGS, run
+from lib.c import cases
+from lib.c.calling import DATA, HEADER, WARNINGS, here, run
 
 STANDARDS = (("gcc", "c", "c99"), ("gcc", "c", "c17"), ("g++", "c++", "c++11"), ("g++", "c++", "c++17"))
 # By these the header is only compiled. What a compiler takes by default has more names than the standard.
 MORE_STANDARDS = (*(("gcc", "c", name) for name in ("c11", "c2x", "gnu99", "gnu11", "gnu17", "gnu2x")),
                   *(("g++", "c++", name) for name in ("c++14", "c++20", "c++23", "gnu++11", "gnu++17", "gnu++20", "gnu++23")))
+STORED = DATA / "interface.txt"
+
+
+def laid_out(structs, constants):
+    """The structs and constants, as a program in C prints them."""
+    lines = ['printf("%s = %%td\\n", (ptrdiff_t)%s);' % (name, name) for name in constants]
+    for name, members in structs:
+        lines.append('printf("%s: %%zu bytes\\n", sizeof(%s));' % (name, name))
+        lines += ['printf("%s.%s: at %%zu, %%zu bytes\\n", offsetof(%s, %s), sizeof(((%s *)0)->%s));' % (name, member, name, member, name, member)
+                  for member in members]
+    with tempfile.TemporaryDirectory() as folder:
+        file, program = pathlib.Path(folder) / "layout.c", pathlib.Path(folder) / "layout"
+        file.write_text('#include <stdio.h>\n#include "ufmt.h"\nint main(void) {\n%s\nreturn 0;\n}\n' % "\n".join(lines))
+        run(["gcc", "-I", HEADER.parent, file, "-o", program])
+        return run([program])
+
+
+def interface():
+    """What the file has."""
+    text = re.sub(r"/\*.*?\*/", "", HEADER.read_text(), flags=re.S)
+    lines = [line.rstrip() for line in text.splitlines() if line.strip()]
+    constants = re.findall(r"^#define (UFMT_\w+) +\S*\d", text, re.M)
+    structs = [(name, re.findall(r"(\w+);", members)) for members, name in re.findall(r"typedef struct \w+ \{(.*?)\} (\w+);", text, re.S)]
+    return "".join(line + "\n" for line in lines) + laid_out(structs, constants)
 
 
 def header(faults, library, needed):
     """The header is C and C++, and declares the calls that the library exports. It needs these functions at most."""
     for compiler, language, standard in (*STANDARDS, *MORE_STANDARDS):
-        if shutil.which(compiler):
+        if here(compiler, "the header isn't compiled by it"):
             run([compiler, "-fsyntax-only", "-x", language, "-std=" + standard, *WARNINGS, HEADER])
-        else:
-            print("no %s: the header isn't compiled by it" % compiler)
     exported = set(re.findall(r" T (\w+)", run(["nm", "--defined-only", library])))
-    declared = interface.declared(HEADER)
-    if interface.of(HEADER) != interface.stored(DATA):
-        faults.say("crates/ufmt_c/include/ufmt.h:1: not as tools/data/c/interface.txt has it: an old caller may break; `x try c --write` writes it again")
-    tried = {"ufmt_" + call for call in cases.CALLS}
-    for name in sorted(exported ^ declared):
-        faults.say("crates/ufmt_c/include/ufmt.h:1: %s: wanted exported and declared, got one of both" % name)
-    for name in sorted(exported ^ tried):
-        faults.say("tools/lib/c/cases.py:1: %s: wanted exported and tried, got one of both" % name)
+    declared = set(re.findall(r"^\w+ (ufmt_\w+)\(", HEADER.read_text(), re.M))
+    if interface() != STORED.read_text():
+        faults.append("crates/ufmt_c/include/ufmt.h:1: not as tools/data/c/interface.txt has it: an old caller may break; `x try c --write` writes it again")
+    for where, names, told in (("crates/ufmt_c/include/ufmt.h", declared, "declared"), ("tools/lib/c/cases.py", {"ufmt_" + call for call in cases.CALLS}, "tried")):
+        faults += ["%s:1: %s: wanted exported and %s, got one of both" % (where, name, told) for name in sorted(exported ^ names)]
     more = set(run(["nm", "--undefined-only", library]).split()[1:]) - {"U", *needed}
     if more:
-        faults.say("what the library needs: wanted nothing but %s, got %s" % (" ".join(needed), " ".join(sorted(more))))
+        faults.append("what the library needs: wanted nothing but %s, got %s" % (" ".join(needed), " ".join(sorted(more))))
 
 
 def by_literals(room, library):

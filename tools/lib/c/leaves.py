@@ -1,7 +1,7 @@
 """Cases of the calls of libufmt_c that read one leaf: a text in quotation marks, a whole number, a float."""
 import re
 
-from lib.c.cases import NO_TEXT, NOT_TEXTS, REFUSED, TEXTS, Case
+from lib.c.cases import NO_TEXT, NOT_TEXTS, REFUSED, TEXTS, Case, valid_up_to
 from lib.floats import patterns
 from lib.model import floats
 
@@ -17,10 +17,7 @@ LETTERS = {"0": "\0", "t": "\t", "n": "\n", "r": "\r"}
 
 def matches(pattern, data):
     """Whether these bytes are such a text."""
-    try:
-        return bool(pattern.fullmatch(data.decode()))
-    except UnicodeDecodeError:
-        return False
+    return valid_up_to(data) is None and bool(pattern.fullmatch(data.decode()))
 
 
 def unquoted(call, data):

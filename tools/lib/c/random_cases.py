@@ -3,7 +3,7 @@ import random
 import re
 
 from lib.c import cases, huge, leaves
-from lib.c.cases import BAD_OPTION, NOT_UTF8, SIZE_MAX, Case, style
+from lib.c.cases import BAD_OPTION, SIZE_MAX, Case, style
 from lib.model import floats
 from lib.model.characters import any_character
 from lib.model.documents import DebugMaker, Maker
@@ -99,10 +99,7 @@ class RandomCases:
 
     def quoted(self):
         data = self.data(LONGEST)
-        try:
-            return [Case("quote", (data,), text=quoted(data.decode()).encode())]
-        except UnicodeDecodeError:
-            return [Case("quote", (data,), result=NOT_UTF8, detail=cases.valid_up_to(data))]
+        return [cases.or_not_utf8("quote", (data,), [data], text=quoted(data.decode(errors="replace")).encode())]
 
     def unquoted(self):
         text = self.characters(LONGEST_QUOTED // 2)
@@ -142,10 +139,9 @@ class RandomCases:
             members = self.random.choice(((24, width, 0xD800, align), (24, width, 0x110000, align), (24, width, 32, 3), (self.size_but(24), width, 32, align)))
             return [Case("in_column", (data, members), result=BAD_OPTION)]
         fill = self.random.choice((" ", "\0", any_character(self.random)))
-        try:
+        if cases.valid_up_to(data) is None:
             return [huge.column_case(data.decode(), width, fill, align)]
-        except UnicodeDecodeError:
-            return [Case("in_column", (data, style("column", width, ord(fill), align)), result=NOT_UTF8, detail=cases.valid_up_to(data))]
+        return [cases.or_not_utf8("in_column", (data, style("column", width, ord(fill), align)), [data])]
 
     def size_but(self, size):
         """A size that the struct doesn't have."""
@@ -157,13 +153,9 @@ class RandomCases:
         if self.random.randrange(2):
             lines = [self.characters(6).encode() for _ in range(4)]
             given, stored = (b"\n".join(lines[: self.random.randint(0, 4)] + [self.data(6)] * self.random.randrange(2)) for _ in range(2))
-        for data in (given, stored):
-            try:
-                data.decode()
-            except UnicodeDecodeError as error:
-                return [Case(call, (given, stored), result=NOT_UTF8, detail=error.start) for call in ("difference", "first_difference")]
-        line, message = first_difference(given.decode(), stored.decode())
-        return Case("difference", (given, stored), text=message.encode()), Case("first_difference", (given, stored), result=line)
+        line, message = first_difference(*(data.decode(errors="replace") for data in (given, stored)))
+        return (cases.or_not_utf8("difference", (given, stored), (given, stored), text=message.encode()),
+                cases.or_not_utf8("first_difference", (given, stored), (given, stored), result=line))
 
     def float(self):
         bits = self.random.choice((self.random.getrandbits(64), floats.reads("%d.5" % self.random.randrange(10**6), 64)))

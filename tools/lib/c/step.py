@@ -22,12 +22,12 @@ import shutil
 import tempfile
 
 from lib import measures
-from lib.c import archive, callers, cases, checked, costs, header, stored
+from lib.c import archive, callers, cases, costs, header, leaves, stored
 from lib.c import huge as huge_options
-from lib.c import leaves
-from lib.c.calling import CRATE, DATA, DETAIL, FILL, Faults, by_program, caller_in_c, compare, rooms, run, without_detail
+from lib.c.calling import CRATE, DATA, DETAIL, FILL, VALGRIND, by_program, caller_in_c, compare, here, rooms, run, under_valgrind, without_detail
 from lib.c.library import Library
 from lib.c.random_cases import RandomCases
+from lib.findings import ended
 
 LEAST_CASES, LEAST_HUGE = 2_000, 5_000
 # What all calls with huge options may take together from C: they take less than one.
@@ -43,18 +43,17 @@ def at_random(faults, program, seed):
     made = RandomCases(seed)
     tried = [(case, room) for case in made.made(RANDOM_CASES) for room in made.rooms(case)]
     if len(tried) < LEAST_RANDOM or {case.call for case, _ in tried} != set(cases.CALLS) - {"version"}:
-        faults.say("only %d random calls, of %d names" % (len(tried), len({case.call for case, _ in tried})))
+        faults.append("only %d random calls, of %d names" % (len(tried), len({case.call for case, _ in tried})))
     by_program(faults, program, tried, how="C, at random")
     some = tried[::RANDOM_EACH]
     if shutil.which("valgrind"):
-        by_program(faults, program, some, checked.VALGRIND, "C under valgrind, at random")
+        by_program(faults, program, some, VALGRIND, "C under valgrind, at random")
     return len(tried), some
 
 
 def by_rust(faults, room, library, tried):
     """Tries cases by the program in Rust."""
-    if not shutil.which("rustc"):
-        print("no rustc: no call is made from Rust")
+    if not here("rustc", "no call is made from Rust"):
         return 0
     program = room / "calls_rust"
     run(["rustc", "--edition", "2024", "-D", "warnings", "-O", "-L", library.parent, DATA / "calls.rs", "-o", program])
@@ -64,7 +63,7 @@ def by_rust(faults, room, library, tried):
 def built(room, given):
     """The library to try, and which functions of a C library it may need."""
     if given.proved:
-        run(["rt", "lib"], cwd=CRATE, timeout=3600)
+        run(["rt", "lib"], cwd=CRATE, seconds=3600)
         return CRATE / "out" / "libufmt_c.a", ["memmove", "__udivti3"]
     library = pathlib.Path(given.program).resolve() if given.program else archive.unproved(room)
     return library, ["memmove", "memcpy", "memset", "__udivti3"]
@@ -75,7 +74,7 @@ def cases_of_tables(faults):
     made, huge = [*cases.all_cases(), *leaves.all_cases()], huge_options.huge_options()
     missing = set(cases.CALLS) - {case.call for case in made}
     if missing or len(made) < LEAST_CASES or len(huge) < LEAST_HUGE:
-        faults.say("only %d cases, %d with huge options, and none of %s" % (len(made), len(huge), sorted(missing)))
+        faults.append("only %d cases, %d with huge options, and none of %s" % (len(made), len(huge), sorted(missing)))
     return made, huge, [(case, room) for case in made for room in rooms(case)], [(case, room) for case in huge for room in rooms(case)]
 
 
@@ -83,7 +82,7 @@ def main(given):
     if given.write:
         stored.write_rows()
         return 0
-    faults, is_ours = Faults(), not given.proved and not given.program
+    faults, is_ours = [], not given.proved and not given.program
     made, huge, tried, tried_huge = cases_of_tables(faults)
     with tempfile.TemporaryDirectory(prefix="x-c-") as folder:
         room = pathlib.Path(folder)
@@ -103,10 +102,10 @@ def main(given):
             costs.stacks(faults, program)
         by_all += without_detail(faults, program, tried[:: 1 if len(tried) < 1000 else 7])
         from_rust = by_rust(faults, room, library, tried)
-        by_valgrind = checked.under_valgrind(faults, program, made + huge)
+        by_valgrind = under_valgrind(faults, program, made + huge)
         loaded = Library(shared)
         compare(faults, "Python", tried, (loaded.make(case, size, FILL, DETAIL) for case, size in tried))
         by_pages = callers.by_callers(faults, room, library, shared, made)
-    print("%d cases of %d calls: %d calls from C and as many from Python, %d from Rust, %d under valgrind, %d at random, the steps of %d, %d by the page's callers, %d faults"
-          % (len(made) + len(huge), len(cases.CALLS), by_all, from_rust, by_valgrind + len(some), randomly, steps, by_pages, faults.count))
-    return 1 if faults.count else 0
+    counts = len(made) + len(huge), len(cases.CALLS), by_all, from_rust, by_valgrind + len(some), randomly, steps, by_pages
+    return ended((fault[:600] for fault in faults), "%d cases of %d calls: %d calls from C and as many from Python, %d from Rust, %d under valgrind, %d at random, "
+                 "the steps of %d, %d by the page's callers" % counts)

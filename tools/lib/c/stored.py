@@ -2,18 +2,17 @@
 import pathlib
 import tempfile
 
-from lib.c import interface
-from lib.c.calling import DATA, HEADER, run
+from lib.c import header
+from lib.c.calling import DATA, run
 
 
 def write_rows():
-    """Writes tools/data/c/rows.tsv again."""
     with tempfile.TemporaryDirectory() as folder:
         program = pathlib.Path(folder) / "rows"
         run(["rustc", "--edition", "2024", "-D", "warnings", "-O", DATA / "rows.rs", "-o", program])
         said = run(["rustc", "--version"]).strip()
         rows = run([program]) + "".join(dumps(folder))
-    interface.store(DATA, HEADER)
+    header.STORED.write_text(header.interface())
     (DATA / "rows.tsv").write_text("# Printed by %s and by xxd, by x try c --write\n%s" % (said, rows))
 
 

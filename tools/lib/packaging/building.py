@@ -13,10 +13,7 @@ WORDS = {"ufmt_conv": "lengths", "ufmt_lines": "--version"}
 
 def built(place, name):
     """A program, built in this folder with nothing proved."""
-    below = build.libraries(TOP, [name])
-    build.copied(TOP, place, below)
-    del below[name]
-    return build.program(place, name, below)
+    return build.program(place, name, build.of_sources(place, name))
 
 
 def unproved(room):

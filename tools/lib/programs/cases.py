@@ -3,8 +3,10 @@
 A case is judged by its status, what came on standard output and what came on standard error. Cases run one after another,
 in a temporary folder.
 """
+import contextlib
 import os
 import pathlib
+import re
 import resource
 import select
 import shutil
@@ -14,17 +16,16 @@ import subprocess
 import sys
 import tempfile
 import threading
-from typing import NamedTuple, Optional, Tuple
+from typing import NamedTuple, Optional
 
-from lib import findings
+from lib import data, findings
 from lib.model.counter import Counter
-from lib.top import TOP
 
 # A run that takes longer is a fault.
 SECONDS = 120
 # So long a wait for an output that must come, and for one that must not come yet.
 LATE, SOON = 60, 0.2
-CLOSED, FOLDER = "closed", "a folder"
+CLOSED, FOLDER = "closed", "folder"
 # A message on standard error has fewer bytes.
 MESSAGE = 64 * 1024
 # The number of the user who owns nothing.
@@ -49,16 +50,44 @@ class Cases:
         self.program = pathlib.Path(program).resolve()
         self.room = pathlib.Path(tempfile.mkdtemp(prefix="cases-"))
         self.count = self.faults = 0
+        self.meter = Counter(self.room)
         if not os.access(self.program, os.X_OK):
             sys.exit("%s isn't there: `rt ci` builds it, and so does `rt run` in its crate" % self.program)
+        if self.meter.library is None:
+            sys.exit("a C compiler is needed, for devices that move one byte at a call and calls that are counted")
 
-    def judge(self, name, ran, status, output=b"", line=""):
+    def judge(self, name, ran, status, output=b"", line=b""):
         """Compares a run with what it must leave: `line` is the line on standard error, without its line feed."""
+        line = line.encode() if isinstance(line, str) else line
+        wanted = Ran(status, output, line + b"\n" if line else b"")
         self.count += 1
-        wanted = Ran(status, output, line.encode() + b"\n" if line else b"")
         if ran != wanted:
             self.faults += 1
             print(findings.case(name, shown(wanted), shown(ran)), flush=True)
+
+    def same(self, name, wanted, got):
+        """Compares what is no run."""
+        self.judge(name, Ran(0, repr(got).encode(), b""), 0, repr(wanted).encode())
+
+    def table(self, file, texts):
+        """Judges each run of a table in tools/data/programs. Its part `texts` has more texts by their names, and its part `files` those of files."""
+        parts = data.parts("programs/" + file)
+
+        def filled(column):
+            return re.sub(rb"\$([\w-]+);", lambda found: texts[found[1].decode()], data.data_of(column))
+
+        texts = {**texts, **{name: filled(text) for name, text in (row.split(" => ") for row in parts.pop("texts", ()))}}
+        for row in parts.pop("files", ()):
+            name, text = row.split(" => ")
+            (self.room / name).write_bytes(filled(text))
+        for part, rows in parts.items():
+            for row in rows:
+                columns = row.split(" => ")
+                words, text, status, output, line, devices = columns + ["%", "%", ""][len(columns) - 3 :]
+                streams = dict(device.split("=") for device in devices.split() if "=" in device)
+                ran = self.run(*([] if words == "-" else map(filled, words.split(" "))), text=filled(text), source=streams.get("in"), sink=streams.get("out"),
+                               error=streams.get("err"), as_nobody="nobody" in devices)
+                self.judge("%s: %s %s, of %s" % (part, words, devices, text[:40]), ran, int(status), filled(output), filled(line))
 
     def end(self):
         """Prints the counts, and returns the tool's status."""
@@ -66,38 +95,36 @@ class Cases:
         print("%d cases, %d faults" % (self.count, self.faults))
         return 1 if self.faults else 0
 
-    def run(self, *arguments, text=b"", source=None, sink=None, error=None, limit=None, files_limit=None, seconds=SECONDS, variables=None,
-            as_nobody=False):
-        """Runs the program to its end. Standard input has the text, or is `source`: CLOSED, FOLDER or an open file. What
-        doesn't come through a pipe is empty: `sink` and `error` are CLOSED, the path of a device or an open file. `limit`
-        is how many KiB of memory it has, `files_limit` how many files it has open at once. It has these variables of the
-        environment more. It may run as a user who owns nothing, if this one may read everything."""
-        files, closed = [], []
-        streams = [self.stream(0, source, files, closed), self.stream(1, sink, files, closed), self.stream(2, error, files, closed)]
+    def run(self, *arguments, text=b"", source=None, sink=None, error=None, limit=None, files_limit=None, variables=None, as_nobody=False):
+        """Runs the program to its end. Standard input has the text, or is `source`: an open file, CLOSED, or a name that `opened` knows, and so are
+        `sink` and `error`; what doesn't come through a pipe is empty. `limit` is how many KiB of memory it has, `files_limit` how many files
+        it has open at once. It has these variables of the environment more. It may run as a user who owns nothing, if this one may read
+        everything."""
+        given = (source, sink, error)
+        files = [opened(one) if isinstance(one, str) and one != CLOSED else [one] for one in given]
+        streams = [subprocess.DEVNULL if its == [CLOSED] else subprocess.PIPE if its == [None] else its[0] for its in files]
+        is_other = as_nobody and os.geteuid() == 0
 
         def prepared():
-            for number in closed:
-                os.close(number)
-            if limit:
-                resource.setrlimit(resource.RLIMIT_AS, (limit * 1024, limit * 1024))
-            if files_limit:
-                resource.setrlimit(resource.RLIMIT_NOFILE, (files_limit, files_limit))
+            for number, one in enumerate(given):
+                if one == CLOSED:
+                    os.close(number)
+            for kind, most in ((resource.RLIMIT_AS, limit and limit * 1024), (resource.RLIMIT_NOFILE, files_limit)):
+                if most:
+                    resource.setrlimit(kind, (most, most))
             if is_other:
                 os.setuid(NOBODY)
 
-        is_other = as_nobody and os.geteuid() == 0
-        program = self.for_all() if is_other else self.program
-        process = subprocess.Popen([program, *arguments], stdin=streams[0], stdout=streams[1], stderr=streams[2],
-                                   cwd=self.room, preexec_fn=prepared, env=dict(os.environ, **(variables or {})))
-        for file in files:
-            os.close(file)
         try:
-            output, said = process.communicate(text if streams[0] == subprocess.PIPE else None, timeout=seconds)
+            ran = subprocess.run([self.for_all() if is_other else self.program, *arguments], **({"input": text} if source is None else {"stdin": streams[0]}),
+                                 stdout=streams[1], stderr=streams[2], cwd=self.room, preexec_fn=prepared, env=dict(os.environ, **(variables or {})), timeout=SECONDS)
+            return Ran(ran.returncode, ran.stdout or b"", ran.stderr or b"")
         except subprocess.TimeoutExpired:
-            process.kill()
-            process.communicate()
             return Ran(None, b"", b"")
-        return Ran(process.returncode, output or b"", said or b"")
+        finally:
+            for one, its in zip(given, files):
+                for file in its if isinstance(one, str) and one != CLOSED else ():
+                    os.close(file)
 
     def for_all(self):
         """A copy of the program that each user may run, in the folder, which each may read."""
@@ -108,75 +135,22 @@ class Cases:
             self.room.chmod(0o755)
         return copy
 
-    def stream(self, number, given, files, closed):
-        """What a standard stream of a run is."""
-        if given is None:
-            return subprocess.PIPE
-        if given == CLOSED:
-            closed.append(number)
-            return subprocess.DEVNULL
-        if given == FOLDER:
-            given = os.open(self.room, os.O_RDONLY)
-        elif isinstance(given, str):
-            given = os.open(given, os.O_WRONLY)
-        else:
-            given = os.dup(given)
-        files.append(given)
-        return given
-
     def byte_by_byte(self, *arguments, text):
         """Runs the program with devices that move one byte at a call."""
-        library = Counter(self.room).library
-        if library is None:
-            sys.exit("a C compiler is needed, for devices that move one byte at a call")
-        return self.run(*arguments, text=text, variables={"LD_PRELOAD": str(library), "COUNTS_READ": "1", "COUNTS_WRITE": "1"})
+        return self.run(*arguments, text=text, variables={"LD_PRELOAD": str(self.meter.library), "COUNTS_READ": "1", "COUNTS_WRITE": "1"})
 
-    def messages(self, *arguments, text=b""):
-        """What each write to standard error has, of a run to its end."""
+    def judge_messages(self, name, arguments, lines):
+        """Each of these messages must be one write, so that programs that share standard error don't mix theirs."""
         ours, theirs = socket.socketpair(socket.AF_UNIX, socket.SOCK_SEQPACKET)
         with ours, theirs:
-            self.run(*arguments, text=text, error=theirs.fileno())
+            self.run(*arguments, error=theirs.fileno())
             theirs.close()
-            return list(iter(lambda: ours.recv(MESSAGE), b""))
-
-    def judge_messages(self, name, arguments, lines, text=b""):
-        """Each of these messages must be one write, so that programs that share standard error don't mix theirs."""
-        wanted = [line.encode() + b"\n" for line in lines]
-        self.judge("the messages of " + name, Ran(0, repr(self.messages(*arguments, text=text)).encode(), b""), 0, repr(wanted).encode())
+            self.same("the messages of " + name, [line.encode() + b"\n" for line in lines], list(iter(lambda: ours.recv(MESSAGE), b"")))
 
     def judge_calls(self, name, arguments, reads, writes, text=b""):
         """Compares how often a run reads and writes, of a file with this text as its input."""
-        meter = Counter(self.room)
-        if meter.library is None:
-            sys.exit("a C compiler is needed, for calls that are counted")
-        _output, counts = meter.run([self.program, *arguments], text, "calls", seconds=SECONDS)
-        found = "%d reads, %d writes" % (counts[0].reads, counts[0].writes)
-        self.judge("reads and writes of " + name, Ran(0, found.encode(), b""), 0, ("%d reads, %d writes" % (reads, writes)).encode())
-
-    def full_pipe(self):
-        """Both ends of a pipe that doesn't wait and has no more room."""
-        reader, writer = os.pipe()
-        os.set_blocking(writer, False)
-        try:
-            while os.write(writer, b"x" * 4096):
-                pass
-        except BlockingIOError:
-            return reader, writer
-
-    def without_input(self, *arguments):
-        """Runs the program with an input that stays open and has nothing: what reads it doesn't end in time."""
-        reader, writer = os.pipe()
-        try:
-            return self.run(*arguments, source=reader, seconds=LATE)
-        finally:
-            os.close(reader)
-            os.close(writer)
-
-    def unread_pipe(self):
-        """The writing end of a pipe without a reader."""
-        reader, writer = os.pipe()
-        os.close(reader)
-        return writer
+        _output, counts = self.meter.run([self.program, *arguments], text, "calls", seconds=SECONDS)
+        self.same("reads and writes of " + name, (reads, writes), (counts[0].reads, counts[0].writes))
 
     def slow(self, arguments, steps):
         """Runs the program beside a producer that is slow. Of each step, the first is what is written then, and the second
@@ -212,13 +186,30 @@ class Cases:
         feeder.join(SECONDS)
         return Ran(status, output, error)
 
-    def ended(self, status, output, error):
-        return Ran(status, output, error)
-
     def start(self, arguments, ignores=False):
         prepared = (lambda: signal.signal(signal.SIGPIPE, signal.SIG_IGN)) if ignores else None
         return subprocess.Popen([self.program, *arguments], stdin=subprocess.PIPE, stdout=subprocess.PIPE, stderr=subprocess.PIPE,
                                 cwd=self.room, preexec_fn=prepared)
+
+
+def opened(name):
+    """The files behind a device: first the one that is a stream of the run, and then what stays open beside it. An input may be a folder, a
+    pipe that stays `open` and has nothing, or one that doesn't wait for its bytes, which are `not-yet` there; an output may be `full`, a pipe
+    that is `unread`, or one with `no-room` that doesn't wait."""
+    if name in (FOLDER, "full"):
+        return [os.open("/", os.O_RDONLY) if name == FOLDER else os.open("/dev/full", os.O_WRONLY)]
+    reader, writer = os.pipe()
+    if name in ("open", "not-yet"):
+        os.set_blocking(reader, name == "open")
+        return [reader, writer]
+    if name == "unread":
+        os.close(reader)
+        return [writer]
+    os.set_blocking(writer, False)
+    with contextlib.suppress(BlockingIOError):
+        while os.write(writer, b"x" * 4096):
+            pass
+    return [writer, reader]
 
 
 def run(words, text=b""):
@@ -252,23 +243,18 @@ def taken(stream, size, seconds):
 
 def fed(stream, text, endless):
     """Writes the text to a program that may end before it is written."""
-    try:
-        while True:
+    with contextlib.suppress(BrokenPipeError, ValueError):
+        stream.write(text)
+        while endless:
             stream.write(text)
-            if not endless:
-                break
         stream.close()
-    except (BrokenPipeError, ValueError):
-        pass
 
 
 def shown(ran):
-    if ran.status is None:
-        return "no status in time, standard output %s, standard error %s" % (ran.output[:60], ran.error[:60])
-    return "status %d, standard output %s, standard error %s" % (ran.status, ran.output[:60], ran.error[:60])
+    status = "no status in time" if ran.status is None else "status %d" % ran.status
+    return "%s, standard output %s, standard error %s" % (status, ran.output[:60], ran.error[:60])
 
 
-def texts(name) -> Tuple[bytes, bytes]:
+def texts(name):
     """The plain text and the pretty text of this name."""
-    folder = TOP / "tools" / "data" / "texts"
-    return (folder / (name + ".plain")).read_bytes(), (folder / (name + ".pretty")).read_bytes()
+    return tuple((data.DATA / "texts" / (name + end)).read_bytes() for end in (".plain", ".pretty"))

@@ -1,25 +1,13 @@
 """Runs the built ufmt_conv as a shell would, and compares its status, standard output and standard error."""
-import os
-
-from lib.programs.cases import CLOSED, FOLDER, LATE, OTHERS, Cases, texts
+from lib.programs.cases import OTHERS, Cases, texts
 
 USAGE = "usage: ufmt_conv lengths|pretty|plain"
 NO_TEXT = {"pretty": "ufmt_conv: not a plain text", "plain": "ufmt_conv: not a pretty text"}
-CANNOT_READ = "ufmt_conv: cannot read"
 CANNOT_WRITE = "ufmt_conv: cannot write"
 OUT_OF_MEMORY = "ufmt_conv: out of memory"
 COMMANDS = ("lengths", "pretty", "plain")
 PLAIN, PRETTY = texts("node")
-# For each command an input that is right for it.
-RIGHT = {"lengths": PLAIN, "pretty": PLAIN, "plain": PRETTY}
 MIB = 1024 * 1024
-
-
-def conversions(cases):
-    cases.judge("pretty of a plain text", cases.run("pretty", text=PLAIN), 0, PRETTY)
-    cases.judge("plain of a pretty text", cases.run("plain", text=PRETTY), 0, PLAIN)
-    cases.judge("lengths of three lines", cases.run("lengths", text=b"ab\n\nxyz"), 0, b"[2, 0, 3]\n")
-    cases.judge("lengths of no line", cases.run("lengths"), 0, b"[]\n")
 
 
 def environments(cases):
@@ -28,49 +16,9 @@ def environments(cases):
         cases.judge("variables that are %r" % value, cases.run("pretty", text=PLAIN, variables=dict.fromkeys(OTHERS, value)), 0, PRETTY)
 
 
-def other_texts(cases):
-    for command, text in (("pretty", PRETTY), ("plain", PLAIN), ("pretty", b""), ("plain", b"")):
-        cases.judge("%s of %s" % (command, text[:20]), cases.run(command, text=text), 1, b"", NO_TEXT[command])
-
-
-def arguments(cases):
-    long = "a" * 2000
-    rows = [(word,) for word in ("", "Pretty", "PRETTY", "prett", "prettyy", " pretty", "pretty ", "pretty\n", "pretty=1", "--pretty", "-p",
-                                 "--plain", "--help", "-h", "help", "--version", "-", "--", long, "pretty" + long)]
-    rows += [(), ("lengths", "lengths"), ("pretty", "plain", "lengths"), ("pretty", ""), ("", "pretty"), ("--", "pretty")]
-    for row in rows:
-        cases.judge("the arguments %s" % [word[:20] for word in row], cases.run(*row, text=PLAIN), 2, b"", USAGE)
-    for row in ((b"\xff",), ("pretty", b"\xff")):
-        cases.judge("arguments of which one isn't UTF-8: %s" % (row,), cases.run(*row, text=PLAIN), 5, b"", OUT_OF_MEMORY)
-    # The arguments are judged before anything is read.
-    cases.judge("no command, and standard input closed", cases.run("Pretty", source=CLOSED), 2, b"", USAGE)
-    cases.judge("no command, and an input that stays open", cases.without_input("Pretty"), 2, b"", USAGE)
-
-
-def inputs(cases):
-    for command in COMMANDS:
-        for source in (CLOSED, FOLDER):
-            cases.judge("%s, standard input is %s" % (command, source), cases.run(command, source=source), 3, b"", CANNOT_READ)
-
-
-def outputs(cases):
-    for command in COMMANDS:
-        pipe = cases.unread_pipe()
-        for name, sink in (("is closed", CLOSED), ("is full", "/dev/full"), ("has no reader", pipe)):
-            cases.judge("%s, standard output %s" % (command, name), cases.run(command, text=RIGHT[command], sink=sink), 4, b"", CANNOT_WRITE)
-        os.close(pipe)
-
-
-def errors(cases):
-    """The status and the output are the same if standard error takes nothing."""
-    rows = [("an output", ("pretty",), {"text": PLAIN}, 0, PRETTY), ("no command", ("Pretty",), {"text": PLAIN}, 2, b""),
-            ("an argument that isn't UTF-8", (b"\xff",), {"text": PLAIN}, 5, b"")]
-    rows += [("%s of no text" % command, (command,), {}, 1, b"") for command in ("pretty", "plain")]
-    rows += [("%s of no input" % command, (command,), {"source": FOLDER}, 3, b"") for command in COMMANDS]
-    for name, row, given, status, output in rows:
-        for error in (CLOSED, "/dev/full"):
-            cases.judge("%s, standard error %s" % (name, error), cases.run(*row, **given, error=error), status, output)
-    cases.judge("a full device, standard error closed", cases.run("pretty", text=PLAIN, sink="/dev/full", error=CLOSED), 4)
+def long_words(cases):
+    for word in ("a" * 2000, "pretty" + "a" * 2000):
+        cases.judge("a word of %d letters" % len(word), cases.run(word, text=PLAIN), 2, b"", USAGE)
 
 
 def messages(cases):
@@ -84,15 +32,6 @@ def calls(cases):
     """Each read takes a chunk of 64 KiB, and one more read the end. The output is one write."""
     for command in COMMANDS:
         cases.judge_calls(command, [command], 17, 1, text=b"a" * MIB)
-
-
-def without_room(cases):
-    """An output that doesn't wait for room is a fault at once, and isn't tried again."""
-    for command in COMMANDS:
-        reader, writer = cases.full_pipe()
-        cases.judge("%s, no room" % command, cases.run(command, text=RIGHT[command], sink=writer, seconds=LATE), 4, b"", CANNOT_WRITE)
-        os.close(reader)
-        os.close(writer)
 
 
 def open_input(cases):
@@ -122,14 +61,10 @@ def byte_by_byte(cases):
 
 
 def too_little_memory(cases):
-    """With 6 MiB the program starts, and can't keep 4 MiB of input in a vector that grows."""
+    """With 6 MiB the program starts, and can't keep 4 MiB of input in a vector that grows. Twelve arguments of 130,000 bytes have 1.5 MiB. With
+    3.9 MiB the program starts, and with 5.5 MiB it can also copy the arguments. 4.6 MiB is between these."""
     for command in COMMANDS:
         cases.judge("%s of 4 MiB in 6 MiB" % command, cases.run(command, text=b"a" * (4 * MIB), limit=6 * 1024), 5, b"", OUT_OF_MEMORY)
-
-
-def too_many_arguments(cases):
-    """Twelve arguments of 130,000 bytes have 1.5 MiB. With 3.9 MiB the program starts, and with 5.5 MiB it can also copy the
-    arguments. 4.6 MiB is between these."""
     words = ["a" * 130_000] * 12
     cases.judge("1.5 MiB of arguments in 4.6 MiB", cases.run(*words, text=PLAIN, limit=4700), 5, b"", OUT_OF_MEMORY)
     cases.judge("1.5 MiB of arguments in 64 MiB", cases.run(*words, text=PLAIN, limit=64 * 1024), 2, b"", USAGE)
@@ -137,7 +72,7 @@ def too_many_arguments(cases):
 
 def main(program):
     cases = Cases(program)
-    for part in (conversions, environments, other_texts, arguments, inputs, outputs, errors, messages, calls, without_room, open_input, reader_goes_away, large_inputs,
-                 byte_by_byte, too_little_memory, too_many_arguments):
+    cases.table("conv.txt", {"plain": PLAIN, "pretty": PRETTY})
+    for part in (environments, long_words, messages, calls, open_input, reader_goes_away, large_inputs, byte_by_byte, too_little_memory):
         part(cases)
     return cases.end()

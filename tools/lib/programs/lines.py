@@ -2,49 +2,59 @@
 import os
 import pty
 import subprocess
+import threading
+import time
 import tty
 
 from lib import data
-from lib.programs import line_files
-from lib.programs.cases import CLOSED, FOLDER, LATE, OTHERS, Cases
-from lib.programs.line_texts import CLOSED_FILE, HELP, IS_BUSY, IS_FOLDER, IS_FULL, IS_GONE, IS_MISSING, LONG, LONG_PRETTY, MIB, OUT_OF_MEMORY
-from lib.programs.line_texts import PIPE_STATUS, PLAIN, PRETTY, USAGE, VERSION, cannot_read, cannot_write
+from lib.programs.cases import LATE, OTHERS, SOON, Cases, Ran, taken, texts
 
+VERSION = b"ufmt_lines 0.4.0\n"
+HELP = (data.DATA / "programs" / "help.txt").read_bytes()
+USAGE = HELP.decode().split("\n")[0]
+# What the C library says of these failures.
+IS_GONE, IS_MISSING = "Input/output error (os error 5)", "No such file or directory (os error 2)"
+OUT_OF_MEMORY = "ufmt_lines: out of memory"
+# The status of a program that SIGPIPE ends, as a shell has it.
+PIPE_STATUS = 141
+PLAIN, PRETTY = texts("node")
+MIB = 1024 * 1024
+CHUNK = 64 * 1024
+# A line with a value of more than forty bytes, and the same made pretty.
+LONG = b"got [1, 12345678901234567890, 23456789012345678901]\n"
+LONG_PRETTY = b"got [\n    1,\n    12345678901234567890,\n    23456789012345678901,\n]\n"
+# Of the table.
+TEXTS = {"plain": PLAIN, "pretty": PRETTY, "help": HELP, "usage": USAGE.encode(), "line": LONG, "cut": LONG[:20], "rest": LONG[20:], "group": LONG_PRETTY,
+         "group-cut": LONG_PRETTY[:20], "group-rest": LONG_PRETTY[20:], "long-name": b"b" * 300}
 # Logs by their names, each with what it becomes, and those that stay, in each mode.
-TABLES = {part: [(name, *logs) for name, logs in rows.items()] for part, rows in data.named("programs/logs.txt").items()}
-LOGS = [("a line", PLAIN, PRETTY), *TABLES["both ways"]]
-STAY = {(): [("a pretty text", PRETTY), *TABLES["plain stay"]], ("--plain",): [("a plain text", PLAIN), *TABLES["pretty stay"]]}
+LOGS = data.named("programs/logs.txt")
+
+
+def cannot_read(name, reason):
+    return "ufmt_lines: cannot read %s: %s" % (name, reason)
 
 
 def bytes_of(shown):
     """The bytes of a log that is shown as `cat -v` shows it."""
-    return shown.read_bytes().replace(b"^[", b"\x1b").replace(b"^M", b"\r")
+    return (data.DATA / "logs" / shown).read_bytes().replace(b"^[", b"\x1b").replace(b"^M", b"\r")
 
 
 def conversions(cases):
-    for name, plain, pretty in LOGS:
+    for name, (plain, pretty) in {"a line": (PLAIN, PRETTY), "the example": map(bytes_of, ("example.log", "example.pretty")), **LOGS["both ways"]}.items():
         cases.judge(name, cases.run(text=plain), 0, pretty)
         cases.judge("--plain: " + name, cases.run("--plain", text=pretty), 0, plain)
-    example, readable = (bytes_of(data.DATA / "logs" / name) for name in ("example.log", "example.pretty"))
-    cases.judge("the example", cases.run(text=example), 0, readable)
-    cases.judge("--plain: the example", cases.run("--plain", text=readable), 0, example)
-    for row, logs in STAY.items():
-        for name, log in logs:
+    for row, logs in ((), {"a pretty text": [PRETTY], **LOGS["plain stay"]}), (("--plain",), {"a plain text": [PLAIN], **LOGS["pretty stay"]}):
+        for name, (log,) in logs.items():
             cases.judge("%s: %s stays" % (" ".join(row), name), cases.run(*row, text=log), 0, log)
-    long = b"b" * 40
-    cases.judge("a byte that isn't UTF-8", cases.run(text=b"\xff [1, %s]\n" % long), 0, b"\xff [\n    1,\n    %s,\n]\n" % long)
-    cases.judge("quotes before a text", cases.run(text=b'it\'s "x [a, %s]\n' % long), 0, b'it\'s "x [\n    a,\n    %s,\n]\n' % long)
-    cases.judge("an escape in a text", cases.run(text=b'a ["b\\" [c", %s]\n' % long), 0, b'a [\n    "b\\" [c",\n    %s,\n]\n' % long)
 
 
-def limits(cases):
-    """A plain text stays if it has no more bytes than the limit: 40, or what `--longer-than` says."""
-    forty, more = b"[%s, b]\n" % (b"a" * 35), b"[%s, b]\n" % (b"a" * 36)
-    pretty = [b"[\n    %s,\n    b,\n]\n" % (b"a" * size) for size in (35, 36)]
-    for row, output in (((), forty + pretty[1]), (("--longer-than", "40"), forty + pretty[1]), (("--longer-than", "39"), pretty[0] + pretty[1]),
-                        (("--longer-than", "41"), forty + more), (("--longer-than", "0"), pretty[0] + pretty[1]),
-                        (("--longer-than", "18446744073709551615"), forty + more)):
-        cases.judge("the limit %s" % (row,), cases.run(*row, text=forty + more), 0, output)
+def runs_of_table(cases):
+    (cases.room / "folder").mkdir()
+    os.symlink("loop", cases.room / "loop")
+    (cases.room / "secret").touch(0o200)
+    cases.table("lines.txt", TEXTS)
+    option = "--" + "a" * 100_000
+    cases.judge("a long option", cases.run(option, source="closed"), 2, b"", "ufmt_lines: unknown option: %s\n%s" % (option, USAGE))
 
 
 def slow_producer(cases):
@@ -63,44 +73,65 @@ def environments(cases):
     cases.judge("--plain: another environment", cases.run("--plain", text=LONG_PRETTY, variables=dict.fromkeys(OTHERS, "1")), 0, LONG)
 
 
-def helps(cases):
-    """`--help` and `--version` print to standard output, and nothing is read."""
-    for word, wanted in (("--help", HELP), ("--version", VERSION)):
-        cases.judge(word, cases.run(word, text=PLAIN), 0, wanted)
-        cases.judge("%s, standard input closed" % word, cases.run(word, source=CLOSED), 0, wanted)
-        cases.judge("%s, an input that stays open" % word, cases.without_input(word), 0, wanted)
-        cases.judge("%s, a full device" % word, cases.run(word, sink="/dev/full"), 4, b"", cannot_write(IS_FULL))
-        cases.judge("%s, standard output closed" % word, cases.run(word, sink=CLOSED), 4, b"", cannot_write(CLOSED_FILE))
-        pipe = cases.unread_pipe()
-        cases.judge("%s, nobody reads" % word, cases.run(word, sink=pipe), PIPE_STATUS)
-        os.close(pipe)
-        cases.judge("%s, standard error closed" % word, cases.run(word, error=CLOSED), 0, wanted)
+def calls_of_files(cases):
+    """Each read takes a chunk of a file, as of standard input, and one more read its end. The outputs of a chunk are one write."""
+    file = cases.room / "eight chunks"
+    file.write_bytes(b"0123456 9abcdef\n" * (8 * CHUNK // 16))
+    for number in (1, 3):
+        cases.judge_calls("%d files" % number, [str(file)] * number, 9 * number, 8 * number)
+    cases.judge_calls("standard input", [], 9, 8, text=file.read_bytes())
 
 
-def arguments(cases):
-    """The first wrong argument is named, and the usage follows. The arguments are judged before anything is read."""
-    long = "--" + "a" * 100_000
-    no_number, with_plain = "--longer-than needs a number", "--longer-than doesn't go with --plain"
-    rows = [((word,), "unknown option: " + word) for word in ("--pretty", "--Plain", "--plai", "--plain1", "--plain ", "--plain=1", "-p", "-h", "-V",
-                                                              "--help ", "--versio", "---", "--longer-than=1", long)]
-    rows += [(("a", "--pretty", "--plai"), "unknown option: --pretty"), (("--plain", "-x", "--help"), "unknown option: -x"),
-             (("--longer-than",), no_number), (("--plain", "a", "--longer-than"), no_number),
-             (("--longer-than", "1", "--plain"), with_plain), (("--plain", "a", "--longer-than", "1"), with_plain),
-             (("--longer-than", "1", "--plain", "--", "a"), with_plain)]
-    rows += [(("--longer-than", word), "--longer-than takes decimal digits, of less than 2^64, not: " + word)
-             for word in ("x", "", "-1", "+1", "1 ", "0x1", "1.5", "--plain", "18446744073709551616")]
-    for row, said in rows:
-        line = "ufmt_lines: %s\n%s" % (said, USAGE)
-        cases.judge("the arguments %s" % [word[:20] for word in row], cases.run(*row, source=CLOSED), 2, b"", line)
-    for row in ((b"\xff",), ("--plain", b"\xff"), ("--", b"log\xff"), ("--help", b"\xff")):
-        line = "ufmt_lines: an argument isn't UTF-8\n" + USAGE
-        cases.judge("arguments of which one isn't UTF-8: %s" % (row,), cases.run(*row), 2, b"", line)
-    cases.judge("an option, and an input that stays open", cases.without_input("-x"), 2, b"", "ufmt_lines: unknown option: -x\n" + USAGE)
+def many_files(cases):
+    """As many as an argument list has, with few open at once. Those that are empty or missing in a row end nothing."""
+    (cases.room / "long").write_bytes(LONG)
+    cases.judge("2,000 files of which 24 may be open", cases.run(*["long"] * 2000, files_limit=24), 0, LONG_PRETTY * 2000)
+    cases.judge("2,000 files without a byte", cases.run(*["empty"] * 2000, "long", files_limit=24), 0, LONG_PRETTY)
+    names = ["none-%d" % number for number in range(2000)]
+    missing = "\n".join(cannot_read(name, IS_MISSING) for name in names)
+    cases.judge("2,000 missing files", cases.run(*names, "long"), 3, LONG_PRETTY, missing)
+
+
+def file_names(cases):
+    """A name is taken and said as it is given, whole."""
+    (cases.room / "logs").mkdir()
+    for name in (" log", "log ", "log\t", "./-", "b" * 250, "logs/in it", "[1, 2]", "a\nb"):
+        cases.judge("the missing file %r" % name[:20], cases.run(name), 3, b"", cannot_read(name, IS_MISSING))
+        (cases.room / name).write_bytes(LONG)
+        cases.judge("the file %r" % name[:20], cases.run(name), 0, LONG_PRETTY)
+    whole = str(cases.room / "logs" / "missing" / "/".join(["b" * 250] * 12))
+    cases.judge("a missing file by its whole path", cases.run(whole), 3, b"", cannot_read(whole, IS_MISSING))
+
+
+def named_pipe(cases):
+    """A pipe with a name is read until its writers are gone, however slow they are. A file is opened to be read only: who opens a pipe to
+    write it, too, waits for itself."""
+    pipe = cases.room / "pipe"
+    os.mkfifo(pipe)
+
+    def write():
+        with open(pipe, "wb", buffering=0) as writer:
+            for part in (LONG[:20], LONG[20:]):
+                writer.write(part)
+                time.sleep(SOON)
+
+    producer = threading.Thread(target=write, daemon=True)
+    producer.start()
+    cases.judge("a pipe with a name, and a slow writer", cases.run("pipe"), 0, LONG_PRETTY)
+    producer.join(LATE)
+    process = cases.start(["pipe"])
+    with open(pipe, "wb", buffering=0) as writer:
+        writer.write(LONG)
+        first = taken(process.stdout, len(LONG_PRETTY), LATE)
+        writer.write(b"the end")
+    output, said = process.communicate(timeout=LATE)
+    cases.same("a pipe with a name, before its writer is gone", LONG_PRETTY, first)
+    cases.judge("a pipe with a name, and its end", Ran(process.returncode, output, said), 0, b"the end")
 
 
 def messages(cases):
     """Each message is one write."""
-    cases.judge_messages("a missing file and a folder", ("none", "folder"), [cannot_read("none", IS_MISSING), cannot_read("folder", IS_FOLDER)])
+    cases.judge_messages("a missing file and a folder", ("none", "folder"), [cannot_read("none", IS_MISSING), cannot_read("folder", "Is a directory (os error 21)")])
     cases.judge_messages("an unknown option", ("-x",), ["ufmt_lines: unknown option: -x\n" + USAGE])
     cases.judge_messages("an argument that isn't UTF-8", (b"\xff",), ["ufmt_lines: an argument isn't UTF-8\n" + USAGE])
 
@@ -113,8 +144,7 @@ def each_byte(cases):
         cases.judge("each byte of standard input %s" % (row,), cases.run(*row, text=log * 2), 0, log * 2)
         cases.judge("each byte of a file %s" % (row,), cases.run(*row, "each byte"), 0, log * 2)
     for byte in range(256):
-        log = bytes([byte]) + LONG
-        cases.judge("a line that begins with byte %d" % byte, cases.run(text=log), 0, bytes([byte]) + LONG_PRETTY)
+        cases.judge("a line that begins with byte %d" % byte, cases.run(text=bytes([byte]) + LONG), 0, bytes([byte]) + LONG_PRETTY)
 
 
 def byte_by_byte(cases):
@@ -124,28 +154,12 @@ def byte_by_byte(cases):
     cases.judge("--plain: a million calls of each device", cases.byte_by_byte("--plain", text=LONG_PRETTY * count), 0, LONG * count)
 
 
-def no_bytes_yet(cases):
-    """An input that would wait for its bytes, and isn't to wait: it can't be read."""
-    reader, writer = os.pipe()
-    os.set_blocking(reader, False)
-    cases.judge("a pipe that doesn't wait", cases.run(source=reader, seconds=LATE), 3, b"", cannot_read("standard input", IS_BUSY))
-    os.close(reader)
-    os.close(writer)
-
-
-def inputs(cases):
-    for source, reason in ((CLOSED, CLOSED_FILE), (FOLDER, IS_FOLDER)):
-        cases.judge("standard input is %s" % source, cases.run(source=source), 3, b"", cannot_read("standard input", reason))
-        cases.judge("--plain: standard input is %s" % source, cases.run("--plain", source=source), 3, b"", cannot_read("standard input", reason))
-
-
 def terminals(cases):
     """A terminal is read to its first end of file, and isn't asked again while the next file is opened. One that goes away fails in the
-    middle: the reason is said, and a line that had begun continues in the next file."""
+    middle: the reason is said, and a line that had begun continues in the next file. Nor can one that went away be written."""
     leader, follower = pty.openpty()
     os.write(leader, LONG + b"\x04")
-    ran = cases.run("-", "none", source=follower, seconds=LATE)
-    cases.judge("a terminal with one end of file, and a missing file", ran, 3, LONG_PRETTY, cannot_read("none", IS_MISSING))
+    cases.judge("a terminal with one end of file, and a missing file", cases.run("-", "none", source=follower), 3, LONG_PRETTY, cannot_read("none", IS_MISSING))
     os.close(leader)
     os.close(follower)
     leader, follower = pty.openpty()
@@ -153,46 +167,22 @@ def terminals(cases):
     os.write(follower, LONG[:20])
     os.close(follower)
     (cases.room / "rest of a line").write_bytes(LONG[20:])
-    ran = cases.run("-", "rest of a line", source=leader, seconds=LATE)
+    ran = cases.run("-", "rest of a line", source=leader)
     cases.judge("a terminal that goes away, and a file", ran, 3, LONG_PRETTY, cannot_read("standard input", IS_GONE))
     os.close(leader)
-
-
-def outputs(cases):
-    for name, sink, reason in (("is closed", CLOSED, CLOSED_FILE), ("is full", "/dev/full", IS_FULL)):
-        cases.judge("standard output %s" % name, cases.run(text=PLAIN, sink=sink), 4, b"", cannot_write(reason))
-    pipe = cases.unread_pipe()
-    cases.judge("standard output has no reader", cases.run(text=PLAIN, sink=pipe), PIPE_STATUS)
-    os.close(pipe)
-    reader, writer = cases.full_pipe()
-    cases.judge("standard output has no room and doesn't wait", cases.run(text=PLAIN, sink=writer, seconds=LATE), 4, b"", cannot_write(IS_BUSY))
-    os.close(reader)
-    os.close(writer)
     leader, follower = pty.openpty()
     os.close(leader)
-    cases.judge("standard output is a terminal that went away", cases.run(text=PLAIN, sink=follower), 4, b"", cannot_write(IS_GONE))
+    cases.judge("a terminal that went away", cases.run(text=PLAIN, sink=follower), 4, b"", "ufmt_lines: cannot write standard output: " + IS_GONE)
     os.close(follower)
-
-
-def errors(cases):
-    """The status and the output are the same if standard error takes nothing."""
-    rows = [("an output", (), {"text": PLAIN}, 0, PRETTY), ("--plain: an output", ("--plain",), {"text": PRETTY}, 0, PLAIN),
-            ("a wrong argument", ("--pretty",), {"text": PLAIN}, 2, b""), ("no input", (), {"source": FOLDER}, 3, b""),
-            ("--plain: no input", ("--plain",), {"source": FOLDER}, 3, b""), ("an argument that isn't UTF-8", (b"\xff",), {}, 2, b""),
-            ("a missing file", ("none", "-"), {"text": PLAIN}, 3, PRETTY)]
-    for name, row, given, status, output in rows:
-        for error in (CLOSED, "/dev/full"):
-            cases.judge("%s, standard error %s" % (name, error), cases.run(*row, **given, error=error), status, output)
-    cases.judge("a full device, standard error closed", cases.run(text=PLAIN, sink="/dev/full", error=CLOSED), 4)
 
 
 def readers_go_away(cases):
     """A reader takes the first output and goes away, as `head -1` does. The input has no end. Nothing is said, also if the program
     is started without the signal for a closed pipe."""
     for ignores in (False, True):
-        rows = [("a reader that goes away", [], LONG * 1000, LONG_PRETTY), ("--plain: a reader that goes away", ["--plain"], LONG_PRETTY * 1000, LONG)]
-        for name, row, text, first in rows:
-            cases.judge(name, cases.leaves(row, text, len(first), endless=True, ignores=ignores), PIPE_STATUS, first)
+        for row, text, first in ([], LONG * 1000, LONG_PRETTY), (["--plain"], LONG_PRETTY * 1000, LONG):
+            ran = cases.leaves(row, text, len(first), endless=True, ignores=ignores)
+            cases.judge("%s: a reader that goes away" % row, ran, PIPE_STATUS, first)
 
 
 def slow_reader_goes_away(cases):
@@ -209,18 +199,13 @@ def slow_reader_goes_away(cases):
     except subprocess.TimeoutExpired:
         process.kill()
         status = None
-    cases.judge("a reader that goes away between two lines", cases.ended(status, first, process.stderr.read()), PIPE_STATUS, b"b\n")
+    cases.judge("a reader that goes away between two lines", Ran(status, first, process.stderr.read()), PIPE_STATUS, b"b\n")
 
 
-def too_many_arguments(cases):
-    """Twelve arguments of 130,000 bytes have 1.5 MiB. With 3.9 MiB the program starts, and with 5.5 MiB it can also copy the
-    arguments. 4.6 MiB is between these."""
-    words = ["--", *["a" * 130_000] * 12]
-    cases.judge("1.5 MiB of arguments in 4.6 MiB", cases.run(*words, limit=4700), 5, b"", OUT_OF_MEMORY)
-
-
-def too_long_a_line(cases):
-    """With 6 MiB the program starts, and can't keep a line of 8 MiB. The lines before it are written."""
+def too_little_memory(cases):
+    """Twelve arguments of 130,000 bytes have 1.5 MiB. With 3.9 MiB the program starts, and with 5.5 MiB it can also copy the arguments. 4.6 MiB is
+    between these. In 6 MiB it can't keep a line of 8 MiB, and the lines before it are written."""
+    cases.judge("1.5 MiB of arguments in 4.6 MiB", cases.run("--", *["a" * 130_000] * 12, limit=4700), 5, b"", OUT_OF_MEMORY)
     line = b"a" * (8 * MIB)
     cases.judge("a line of 8 MiB in 6 MiB", cases.run(text=LONG + b"b\n" + line, limit=6 * 1024), 5, LONG_PRETTY + b"b\n", OUT_OF_MEMORY)
     cases.judge("a line of 8 MiB", cases.run(text=LONG + b"b\n" + line), 0, LONG_PRETTY + b"b\n" + line)
@@ -245,7 +230,7 @@ def many_lines(cases):
 
 def main(program):
     cases = Cases(program)
-    for part in (conversions, limits, slow_producer, environments, helps, arguments, *line_files.PARTS, messages,
-                 each_byte, byte_by_byte, no_bytes_yet, inputs, terminals, outputs, errors, readers_go_away, slow_reader_goes_away, too_many_arguments, too_long_a_line, many_lines):
+    for part in (conversions, runs_of_table, slow_producer, environments, calls_of_files, many_files, file_names, named_pipe, messages, each_byte, byte_by_byte,
+                 terminals, readers_go_away, slow_reader_goes_away, too_little_memory, many_lines):
         part(cases)
     return cases.end()

@@ -3,7 +3,8 @@ type that is parsed."""
 import subprocess
 import sys
 
-from lib.bench import build, calls, peers, values
+from lib.bench import build, peers, values
+from lib.bench.calls import bytes_of
 from lib.bench.counter import counted
 
 ROWS = (("u64", "plain"), ("u32", "plain"), ("f64", "plain"), ("long-f64", "plain"), ("measurement", "plain"),
@@ -45,22 +46,22 @@ def line(told, cells):
                                      for cell in cells), flush=True)
 
 
-def sizes(top, room):
+def sizes(room):
     """A line for each kind of type: bytes of a program that parses one, and how many more with a second one."""
-    build.over_copies(top, room, "parse_sizes", ["ufmt_parse"])
-    helpers = calls.memory(top, room)
+    room.mkdir()
+    build.over_copies(room, "parse_sizes", ["ufmt_parse"])
     print("%-20s%9s%9s" % ("bytes", "one", "one more"))
     for told, case in TYPES:
-        one, both = (calls.bytes_of(room, room / "module.o", helpers, "case_" + case + more) for more in ("", "_and_another"))
+        one, both = (bytes_of(room, room / "module.o", "case_" + case + more) for more in ("", "_and_another"))
         print("%-20s%9d%9d" % (told, one, both - one), flush=True)
 
 
-def table(top, room, script):
+def table(room, given):
     """Prints a line for each kind of values, and one for each kind of type. With a script, it calls that with the program in place
     of its own counting."""
-    program = build.over_copies(top, room, "parse", ["ufmt_parse"])
-    if script:
-        return subprocess.call([script, program])
+    program = build.over_copies(room, "parse", ["ufmt_parse"])
+    if given.script:
+        return subprocess.call([given.script, program])
     peer = room / "peers" / "parse" / "target" / "linked" / "parse"
     has_peer = peers.cargo(room, "parse", "program", DEPENDENCIES, [], ["linked"])
     print("%-20s%18s%18s%18s" % ("instructions", "ours", "serde_json", "ron"))
@@ -75,6 +76,5 @@ def table(top, room, script):
         # 3 and -4, so often.
         cells.append((None, one([peer, "one", other], b"%d" % (-3000 % (1 << 64))) if has_peer else None))
     line("one measurement", cells)
-    (room / "sizes").mkdir()
-    sizes(top, room / "sizes")
+    sizes(room / "sizes")
     return 0

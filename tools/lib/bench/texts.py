@@ -33,8 +33,8 @@ def texts():
     return made
 
 
-def table(top, room):
-    program = build.over_copies(top, room, "texts", ["ufmt_doc"])
+def table(room, _given):
+    program = build.over_copies(room, "texts", ["ufmt_doc"])
     made = texts()
     print("%-22s %-18s %8s" % ("instructions", "text", "a byte"))
     for call, base, name in ROWS:
@@ -43,4 +43,3 @@ def table(top, room):
         if said == b"0":
             sys.exit("x bench: %s refuses the text of %s" % (call, name))
         print("%-22s %-18s %8.1f" % (call, name, (cost - counted([program, base], text)[0]) / len(text)), flush=True)
-    return 0
