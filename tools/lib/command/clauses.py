@@ -8,10 +8,8 @@ import pathlib
 import subprocess
 import tempfile
 
-from lib.contracts.functions import Exports, functions_of
+from lib.contracts.functions import public_functions
 from lib.top import TOP
-
-TESTS = {"tests", "tests.rt"}
 
 
 class Tree:
@@ -20,16 +18,9 @@ class Tree:
     def __init__(self, top):
         self.functions = {}
         for sources in sorted((top / "crates").glob("*/src")):
-            exports = Exports(sources)
-            for path in sorted(sources.rglob("*.rt")):
-                if not TESTS & set(path.relative_to(sources).parts):
-                    self.add(sources.parent.name, exports, functions_of(path))
-
-    def add(self, crate, exports, functions):
-        for function in functions:
-            if exports.has(function):
+            for _, function in public_functions(sources):
                 key = (function.owner_name() if function.owner else "", function.name)
-                self.functions.setdefault(key, []).append((crate, function))
+                self.functions.setdefault(key, []).append((sources.parent.name, function))
 
     def like(self, key, crate, place):
         """The function of this name in the crate, or else in another one: the one at this place of several."""

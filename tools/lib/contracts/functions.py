@@ -1,7 +1,8 @@
 """The functions of a source file with their clauses, and which of them other crates can call."""
 import re
+from typing import NamedTuple
 
-from lib.contracts.source import end_of, find, joined, name_at, tokens_of
+from lib.contracts.source import closing, end_of, find, joined, name_at, sources, tokens_of
 
 CLAUSES = ("ensures", "requires")
 # What may be before an item. `extern "C"` has a text.
@@ -9,7 +10,7 @@ MODIFIERS = ("pub", "const", "unsafe", "extern", '""')
 ITEMS = ("struct", "enum", "union", "trait", "type")
 
 
-class Function(object):
+class Function:
     """A function with the `impl` or trait that it is in, the words before it, as `pub` and `const`, and its clauses."""
 
     def __init__(self, path, line, owner, name, before, clauses):
@@ -27,23 +28,23 @@ class Function(object):
         return type_name(self.owner)
 
 
-class Clause(object):
-    def __init__(self, kind, names, tokens):
-        self.kind, self.names, self.tokens = kind, names, tokens
+class Clause(NamedTuple):
+    kind: str
+    names: list
+    tokens: list
 
 
 def functions_of(path):
     tokens = tokens_of(path.read_text())
-    owners, at = [], 0
-    while at < len(tokens):
-        if tokens[at].name in ("impl", "trait"):
+    owners = []
+    for at, token in enumerate(tokens):
+        if token.name in ("impl", "trait"):
             brace = find(tokens, at, ["{", ";"])
             owners.append((brace, end_of(tokens, brace), joined(tokens[at:brace])))
-        if tokens[at].name == "fn" and re.fullmatch(r"\w+", name_at(tokens, at + 1)):
+        if token.name == "fn" and re.fullmatch(r"\w+", name_at(tokens, at + 1)):
             owner = [head for start, end, head in owners if start < at < end]
             name = tokens[at + 1]
             yield Function(path, name.line, owner[-1] if owner else "", name.name, words_before(tokens, at), clauses_of(tokens, at))
-        at += 1
 
 
 def words_before(tokens, at):
@@ -84,20 +85,11 @@ def type_name(head):
     """The name in the head of a trait or an `impl`: of the trait, or of the type without its parameters."""
     head = re.sub(r"^(impl|trait)\s*", "", head)
     if head.startswith("<"):
-        head = head[closing_angle(head) + 1 :]
+        head = head[closing(head) + 1 :]
     return re.match(r"[\s&']*(?:mut )?(\w*)", head.split(" for ")[-1])[1]
 
 
-def closing_angle(text):
-    depth = 0
-    for at, sign in enumerate(text):
-        depth += (sign == "<") - (sign == ">" and text[at - 1] not in "-=")
-        if depth == 0:
-            return at
-    return len(text)
-
-
-class Exports(object):
+class Exports:
     """What other crates see of a crate: the files of its public modules, the names that these re-export, and its types."""
 
     def __init__(self, sources):
@@ -150,6 +142,13 @@ class Exports(object):
         """The function's name with its modules and its type, as `list::Builder::entry`."""
         words = list(module_of(self.sources, function.path)) + [function.owner_name() if function.owner else "", function.name]
         return "::".join(word for word in words if word)
+
+
+def public_functions(folder):
+    """The functions of a folder of sources that other crates can call, each with its name."""
+    exports = Exports(folder)
+    functions = [function for path in sources(folder) for function in functions_of(path)]
+    return [(exports.name_of(function), function) for function in functions if exports.has(function)]
 
 
 def module_of(sources, path):

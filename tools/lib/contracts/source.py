@@ -1,5 +1,6 @@
 """A source file of Rattle as tokens."""
 import re
+from typing import NamedTuple
 
 TOKEN = re.compile(
     r"""(?P<space>\s+|//[^\n]*|/\*.*?\*/)
@@ -11,11 +12,27 @@ TOKEN = re.compile(
 ENDS = {"(": ")", "[": "]", "{": "}"}
 
 
-class Token(object):
+class Token(NamedTuple):
     """A name or a sign, with its line. A text is `""`, and what it holds is kept beside."""
 
-    def __init__(self, name, line, text=""):
-        self.name, self.line, self.text = name, line, text
+    name: str
+    line: int
+    text: str = ""
+
+
+def sources(folder, left_out=("tests", "tests.rt")):
+    """The source files in a folder, but for tests."""
+    return [path for path in sorted(folder.rglob("*.rt")) if not set(left_out) & set(path.relative_to(folder).parts)]
+
+
+def closing(text, at=0, brackets="<>"):
+    """Where the bracket closes that opens here. In a text of code `->` and `=>` close nothing."""
+    depth = 0
+    for at in range(at, len(text)):
+        depth += (text[at] in brackets[::2]) - (text[at] in brackets[1::2] and text[at - 1 : at + 1] not in ("->", "=>"))
+        if depth == 0:
+            return at
+    return len(text)
 
 
 def tokens_of(text):

@@ -1,6 +1,8 @@
 """What prints values of other types: implementations and public calls of the libraries with a bound such as `uDebug`."""
 import re
 
+from lib.contracts.source import closing, sources
+
 LIBRARIES = ("ufmt_core", "ufmt", "ufmt_snapshot", "ufmt_parse")
 # A type parameter with one of these bounds is a value, a mark, a line or a chain of values that is printed. One that is parsed is
 # printed too if the call takes it by reference.
@@ -9,23 +11,11 @@ TRAIT = re.compile(r"(?:uDebug|uDisplay|uDisplayFixed|uDisplayHex|uDisplayRadix|
 HEAD = re.compile(r"(?:\bimpl|\bpub fn (\w+))(?=<)")
 
 
-def after_parameters(text, at):
-    """Where the list of type parameters that begins here ends."""
-    depth = 0
-    for here in range(at, len(text)):
-        depth += {"<": 1, ">": -1}.get(text[here], 0)
-        if text[here] == ">" and text[here - 1] in "-=":
-            depth += 1
-        if depth == 0:
-            return here + 1
-    return len(text)
-
-
 def printers_in(text, module):
     """The names of those of a file: `uDebug for Option<T>`, `list::entry`."""
     text = re.sub(r"\s+", " ", re.sub(r"(?m)^ *//.*$", "", text))
     for found in HEAD.finditer(text):
-        end = after_parameters(text, found.end())
+        end = closing(text, found.end()) + 1
         if not BOUND.search(text[found.end() : text.index("{", end)]):
             continue
         trait = TRAIT.match(text[end:].lstrip())
@@ -39,9 +29,8 @@ def printers(top):
     """All of them, but for laws, which say what other calls print."""
     names = set()
     for crate in LIBRARIES:
-        for path in sorted((top / "crates" / crate / "src").rglob("*.rt")):
-            if not {"laws", "laws.rt", "tests", "tests.rt"} & set(path.parts):
-                names.update(printers_in(path.read_text(), path.stem))
+        for path in sources(top / "crates" / crate / "src", ("laws", "laws.rt", "tests", "tests.rt")):
+            names.update(printers_in(path.read_text(), path.stem))
     return names
 
 

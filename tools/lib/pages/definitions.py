@@ -9,16 +9,17 @@ A fault is a name of the page that is nothing, a definition that isn't listed, o
 first prints, for each list of promises, the definitions that these rest on beside the headline's, by file.
 """
 import fnmatch
+import pathlib
 import re
+from typing import NamedTuple
 
 from lib.contracts.functions import functions_of
+from lib.contracts.source import closing, end_of, name_at, tokens_of
 from lib.findings import ended
-from lib.contracts.source import end_of, name_at, tokens_of
-from lib.pages.items import items_of, promises_of, section
+from lib.pages.items import PAGE, items_of, promises_of, section
 from lib.top import TOP, is_ours
 
 CRATES = TOP / "crates"
-PAGE = TOP / "docs" / "PROMISES.md"
 IMPORT = re.compile(r"^\s*(?:ghost |pub )?use Rattle\.(\w+)\.specs\.([\w.]+)\.\{([^}]*)\}", re.M)
 BEGINS = re.compile(r"^ *(?:(?:abbrev|unfoldable|pub|inductive|data) )*(record )?([\w◌]\S*) ?(.*)$")
 # Words of the page that stand for many calls.
@@ -28,9 +29,10 @@ MANY_CALLS = {
 }
 
 
-class Definition(object):
-    def __init__(self, path, name, lines):
-        self.path, self.name, self.lines = path, name, lines
+class Definition(NamedTuple):
+    path: pathlib.Path
+    name: str
+    lines: list
 
     def identifiers(self):
         return set(re.findall(r"\w+", "\n".join(self.lines)))
@@ -47,17 +49,8 @@ def typed_name(line):
         return None, False
     rest = begins[3]
     while rest[:1] in ("(", "{"):
-        rest = rest[closing(rest) + 1 :].lstrip()
+        rest = rest[closing(rest, brackets="(){}") + 1 :].lstrip()
     return (begins[2] if rest.startswith(":") else None), bool(begins[1])
-
-
-def closing(text):
-    depth = 0
-    for at, sign in enumerate(text):
-        depth += (sign in "({") - (sign in ")}")
-        if depth == 0:
-            return at
-    return len(text)
 
 
 def definitions_of(path):
@@ -90,7 +83,7 @@ def is_promised(path):
     return is_ours(crate) and not {"tests", "tests.rt"} & set(path.parts)
 
 
-class Tree(object):
+class Tree:
     """The definitions of specs/ and the calls of src/."""
 
     def __init__(self):
@@ -119,10 +112,6 @@ class Tree(object):
                 key = self.named(*self.imports[path][identifier])
                 if key:
                     yield key
-
-    def is_known(self, name):
-        """Whether a definition, or a name in clauses or sources, is called so."""
-        return name in self.names
 
     def closed(self, keys):
         """These definitions and all that they rest on."""
@@ -176,7 +165,7 @@ def calls_in(tree, place):
         found = calls_named(tree, name, before)
         before = before if name.startswith("_") else name.split("::")[-1]
         calls += found
-        if not found and not tree.is_known(name.split("::")[-1]):
+        if not found and name.split("::")[-1] not in tree.names:
             unknown.append(name)
     return calls, names, unknown
 
@@ -204,61 +193,43 @@ def crate_of(path):
     return path.relative_to(CRATES).parts[0]
 
 
-def lists_of(text):
-    """The places of each list of promises, by its title."""
-    for part in text.split("\n### ")[1:]:
-        title, rest = part.split("\n", 1)
-        if places_in(rest):
-            yield title, places_in(rest)
-
-
 def places_in(text):
     """Where each promise is, by its calls and clauses."""
     return [place for _, place in items_of(text)]
 
 
-def names_in(text):
-    return set(re.findall(r"`(\w+)`", text))
-
-
 def beside_files(text):
-    """For each file in the headline's list, the names beside it: only these, or without these, or the whole file."""
-    found = {}
-    for file, words in items_of(text):
-        names, left_out = names_in(words), "without" in words
-        found[CRATES / file.strip("`")] = [(None if left_out else names or None, names if left_out else set())]
-    return found
+    """For each file in the headline's list the names beside it, and whether the file is listed without these; with no name it is listed whole."""
+    return {CRATES / file.strip("`"): (set(re.findall(r"`(\w+)`", words)), "without" in words or "`" not in words) for file, words in items_of(text)}
 
 
-def is_listed(tables, key):
-    return any((names is None or key[1] in names) and key[1] not in left_out for names, left_out in tables.get(key[0], []))
-
-
-def faults_of(tree, keys, tables, title):
-    """What rests on a definition that isn't in the tables, and what is in them and isn't there or isn't used."""
+def faults_of(tree, keys, table, title):
+    """What rests on a definition that isn't in the table, and what is in it and isn't there or isn't used."""
     for path, name in sorted(keys):
-        if not is_listed(tables, (path, name)):
+        names, is_without = table.get(path, ((), False))
+        if (name in names) == is_without:
             yield "%s: `%s` of %s isn't listed" % (title, name, path.relative_to(CRATES))
-    for path, ways in sorted(tables.items()):
-        for name in sorted({name for names, left_out in ways for name in (names or set()) | left_out}):
+    for path, (names, _) in sorted(table.items()):
+        for name in sorted(names):
             if (path, name) not in tree.definitions:
                 yield "%s: %s has no `%s`" % (title, path.relative_to(CRATES), name)
         if not any(key[0] == path for key in keys):
             yield "%s: nothing rests on %s" % (title, path.relative_to(CRATES))
 
 
-def listed_by_file(keys):
-    """A line for each file, with the definitions of it."""
-    for path in sorted({path for path, _ in keys}):
-        yield "  %s: %s" % (path.relative_to(CRATES), ", ".join(sorted(name for file, name in keys if file == path)))
-
-
 def show_others(tree, text, headline):
-    """The definitions that the promises of each list rest on, less those of the headline."""
-    for title, places in lists_of(text):
+    """The definitions that the promises of each list rest on, less those of the headline, by file."""
+    for part in text.split("\n### ")[1:]:
+        title, rest = part.split("\n", 1)
+        places = places_in(rest)
+        if not places:
+            continue
         crates = {crate_of(call.path) for place in places for call in calls_in(tree, place)[0]}
-        keys, _ = rests_on(tree, places, lambda path: crate_of(path) in crates)
-        print("\n".join([title, *listed_by_file(keys - headline), ""]))
+        others = rests_on(tree, places, lambda path: crate_of(path) in crates)[0] - headline
+        print(title)
+        for path in sorted({path for path, _ in others}):
+            print("  %s: %s" % (path.relative_to(CRATES), ", ".join(sorted(name for file, name in others if file == path))))
+        print()
 
 
 def main(arguments):

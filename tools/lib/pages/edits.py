@@ -11,14 +11,13 @@ its file; else that is a fault. `x list edits` prints each promise with its edit
 import re
 
 from lib.findings import ended
-from lib.pages.items import items_of, promises_of
+from lib.pages.items import PAGE, items_of, promises_of
 from lib.top import TOP
 
-PAGE = TOP / "docs" / "PROMISES.md"
 NONE = "none: "
 
 
-class Edit(object):
+class Edit:
     """A wrong body: its crate and name, the first words of the promises that it guards, and the lines that say what it changes."""
 
     def __init__(self, crate, lines):
@@ -33,11 +32,8 @@ class Edit(object):
         """The file of an edit that the gate tries."""
         return TOP / "crates" / self.crate / "must-fail" / (self.name + ".edit")
 
-    def texts(self, kind):
-        return [line[len(kind) + 2 :] for line in self.change if line.startswith(kind + ": ")]
-
     def told(self):
-        return "%s/%s: %s: `%s` becomes `%s`" % (self.crate, self.name, *(" ".join(self.texts(kind)[:1]).strip() for kind in ("file", "old", "new")))
+        return "%s/%s: %s: `%s` becomes `%s`" % (self.crate, self.name, *(text.strip() for text in next(self.pairs(), ("", "", ""))))
 
     def faults(self):
         name = "%s/%s" % (self.crate, self.name)
@@ -56,15 +52,12 @@ class Edit(object):
 
     def pairs(self):
         """Each text that is replaced, with its file and what comes in its place."""
-        file, old = "", ""
+        said = {"file": "", "old": ""}
         for line in self.change:
             kind, _, text = line.partition(": ")
-            if kind == "file":
-                file = text
-            elif kind == "old":
-                old = text
-            elif kind == "new":
-                yield file, old, text
+            said[kind] = text
+            if kind == "new":
+                yield said["file"], said["old"], text
 
 
 def edits_of(path):
@@ -72,15 +65,6 @@ def edits_of(path):
     lines = [line for line in path.read_text().split("\n") if not line.startswith("#")]
     for block in re.split(r"\n{2,}", "\n".join(lines).strip("\n")):
         yield Edit(path.parent.name, block.split("\n"))
-
-
-def every_edit():
-    return [edit for path in sorted(TOP.glob("crates/*/more-edits.txt")) for edit in edits_of(path)]
-
-
-def promises():
-    """What each item promises."""
-    return [promise for promise, _ in items_of(promises_of(PAGE.read_text()))]
 
 
 def faults_of(edits, rows):
@@ -119,8 +103,8 @@ def write(path, folder):
 
 
 def main(arguments):
-    edits, rows = every_edit(), promises()
+    edits = [edit for path in sorted(TOP.glob("crates/*/more-edits.txt")) for edit in edits_of(path)]
+    rows = [promise for promise, _ in items_of(promises_of(PAGE.read_text()))]
     if arguments:
         show(edits, rows)
-    faults = list(faults_of(edits, rows))
-    return ended(faults, "%d edits, %d promises" % (len(edits), len(rows)))
+    return ended(faults_of(edits, rows), "%d edits, %d promises" % (len(edits), len(rows)))

@@ -1,6 +1,9 @@
 """The items of the lists of docs/PROMISES.md, each of one line: what is promised, and after the last colon where, or what a call asks
 for.
 """
+from lib.top import TOP
+
+PAGE = TOP / "docs" / "PROMISES.md"
 
 
 def items_of(text):

@@ -9,42 +9,30 @@ that asks for nothing. `x list requires` prints each function with what it asks 
 """
 import fnmatch
 import re
+from typing import NamedTuple
 
-from lib.contracts.functions import Exports, functions_of
+from lib.contracts.functions import public_functions
 from lib.findings import ended
-from lib.pages.items import items_of
+from lib.pages.items import PAGE, items_of
 from lib.top import TOP, libraries
 
-PAGE = TOP / "docs" / "PROMISES.md"
 SECTION = "### What calls ask for"
 # Beside the libraries.
 OTHERS = ("ufmt_c", "ufmt_conv", "ufmt_lines")
-TESTS = {"tests", "tests.rt"}
 
 
-class Row(object):
+class Row(NamedTuple):
     """A name in the list, its line in the page, and what the list says that it asks for."""
 
-    def __init__(self, line, name, words):
-        self.line, self.name, self.words = line, name, words
+    line: int
+    name: str
+    words: str
 
     def where(self):
         return "%s:%d" % (PAGE.relative_to(TOP), self.line)
 
     def means(self, name):
         return fnmatch.fnmatchcase("::" + name, "*::" + self.name)
-
-
-def public_functions():
-    """The name of each public function, and the function."""
-    found = []
-    for crate in (*libraries(), *OTHERS):
-        sources = TOP / "crates" / crate / "src"
-        exports = Exports(sources)
-        paths = [path for path in sorted(sources.rglob("*.rt")) if not TESTS & set(path.parts)]
-        functions = [function for path in paths for function in functions_of(path)]
-        found += [("%s::%s" % (crate, exports.name_of(function)), function) for function in functions if exports.has(function)]
-    return found
 
 
 def rows():
@@ -77,7 +65,8 @@ def faults_of(functions, listed):
 
 
 def main(arguments):
-    functions, listed = public_functions(), list(rows())
+    functions = [("%s::%s" % (crate, name), function) for crate in (*libraries(), *OTHERS) for name, function in public_functions(TOP / "crates" / crate / "src")]
+    listed = list(rows())
     asking = [(name, function) for name, function in functions if function.requires]
     if arguments:
         for name, function in asking:
