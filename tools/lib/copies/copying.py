@@ -137,7 +137,7 @@ def version():
     """The version of all crates, and the commit."""
     from lib.packaging import folder
 
-    return "%s, commit %s" % (folder.version(), folder.commit())
+    return "%s, commit %s" % (top.version(), folder.commit())
 
 
 def repository_here(command):

@@ -29,8 +29,7 @@ def unproved(room):
 
 def proved():
     """The programs and the archive, as `rt` proves and builds them in their crates."""
-    for name in folder.PROGRAMS:
-        # If it isn't proved, `rt run` fails, and leaves in out/ what an earlier run built.
-        subprocess.run(["rt", "run", "--", WORDS[name]], cwd=TOP / "crates" / name, stdin=subprocess.DEVNULL, check=True)
-    subprocess.run(["rt", "lib"], cwd=folder.CRATE, stdin=subprocess.DEVNULL, check=True)
+    # If one isn't proved, `rt run` fails, and leaves in out/ what an earlier run built.
+    for crate, words in (*((TOP / "crates" / name, ["run", "--", WORDS[name]]) for name in folder.PROGRAMS), (folder.CRATE, ["lib"])):
+        subprocess.run(["rt", *words], cwd=crate, stdin=subprocess.DEVNULL, check=True)
     return [TOP / "crates" / name / "out" / name for name in folder.PROGRAMS], folder.CRATE / "out" / (folder.LIBRARY + ".a")

@@ -6,6 +6,7 @@ import shutil
 from lib import needs
 from lib.packaging import folder
 from lib.programs.cases import run
+from lib.top import version
 
 EXAMPLES = folder.CRATE / "examples"
 WARNINGS = ["-std=c99", "-Wall", "-Wextra", "-Wconversion", "-Wpedantic", "-Werror"]
@@ -22,7 +23,7 @@ def pkg_config(trial, *words):
 def from_c(trial):
     """convert.c, by the words of the page."""
     words = pkg_config(trial, "--cflags", "--libs")
-    trial.same("ufmt_c.pc", (["no"], [folder.version()]), (pkg_config(trial, "--variable=proved"), pkg_config(trial, "--modversion")))
+    trial.same("ufmt_c.pc", (["no"], [version()]), (pkg_config(trial, "--variable=proved"), pkg_config(trial, "--modversion")))
     made = trial.room / "convert_c"
     libraries = {"shared": words, "static": [word.replace("-lufmt_c", "-l:libufmt_c.a") for word in words]}
     for name, flags in libraries.items():

@@ -1,7 +1,7 @@
 """Runs `x dist` where others stand in the place of its builds, which take minutes and are made by other steps: of the compiler's, the
 archive's and the kit.
 
-What is tried is what it asks of them, where it puts what they leave, what it says, and what is left where one fails.
+What is tried is what it asks of them, where it puts what they leave, what it says, what is left where one fails, and what is in the folder.
 """
 import argparse
 import ast
@@ -13,10 +13,11 @@ import shutil
 import sys
 from unittest import mock
 
+from lib import needs
 from lib.command import dist
-from lib.packaging import building, folder, folder_trial
+from lib.packaging import building, folder
 from lib.programs.cases import run
-from lib.top import TOP, X
+from lib.top import TOP, X, version
 
 # A kit that proves nothing where it is asked so: `run` is asked of a program, and `lib` of the library.
 FAILING_KIT = '#!/bin/sh\n[ "$1" != %s ]\n'
@@ -27,8 +28,7 @@ PROVED = "import sys; sys.path.insert(0, %r); from lib.packaging import building
 
 def ran(to, is_proved):
     """What `x dist` prints. The builds are those that stand there."""
-    printed = io.StringIO()
-    with contextlib.redirect_stdout(printed):
+    with contextlib.redirect_stdout(io.StringIO()) as printed:
         dist.main(argparse.Namespace(folder=pathlib.Path(to), proved=is_proved))
     return printed.getvalue()
 
@@ -44,8 +44,8 @@ def say_how(trial, programs, library):
         told, page = (to / "BUILD").read_text(), (to / "lib" / "pkgconfig" / "ufmt_c.pc").read_text()
         trial.same("BUILD, proved: %s" % word, (told, True, True), (printed, "proved: %s\n" % word in told, "proved=%s\n" % word in page))
     told = dict(line.split(": ", 1) for line in (trial.built / "BUILD").read_text().splitlines())
-    kit = run(["rt", "version"]).output.decode().strip()
-    trial.same("BUILD", {"version": folder.version(), "kit": kit, "commit": folder.commit(), "proved": "no"}, told)
+    made_by = run(["rt", "version"]).output.decode().strip()
+    trial.same("BUILD", {"version": version(), "kit": made_by, "commit": folder.commit(), "proved": "no"}, told)
 
 
 def build_each(trial, programs, library):
@@ -89,10 +89,10 @@ def kit(trial, script):
 def prove_each(trial):
     """With --proved each program is run by `rt`, and the library is made, in their crates and with no input. What these leave is taken."""
     said = run(["env", kit(trial, KEEPING_KIT), sys.executable, "-c", PROVED % str(TOP / "tools")], b"an input")
-    crates = TOP / "crates"
-    wanted = ["%s: run -- %s, 0" % (crates / name, word) for name, word in (("ufmt_conv", "lengths"), ("ufmt_lines", "--version"))] + ["%s: lib, 0" % (crates / "ufmt_c")]
-    trial.same("x dist --proved asks of rt", wanted, (trial.room / "kit" / "rt.asked").read_text().splitlines())
-    made = [*(crates / name / "out" / name for name in folder.PROGRAMS), crates / "ufmt_c" / "out" / "libufmt_c.a"]
+    words = {"ufmt_conv": "run -- lengths", "ufmt_lines": "run -- --version", "ufmt_c": "lib"}
+    trial.same("x dist --proved asks of rt", ["%s: %s, 0" % (TOP / "crates" / name, its) for name, its in words.items()],
+               (trial.room / "kit" / "rt.asked").read_text().splitlines())
+    made = [TOP / "crates" / name / "out" / (name if name in folder.PROGRAMS else "libufmt_c.a") for name in words]
     trial.same("x dist --proved takes", " ".join(map(str, made)), said.output.decode().strip())
 
 
@@ -113,6 +113,49 @@ def go_wrong(trial):
         trial.same("x dist %s" % words, 2, run([X, "dist", *words]).status)
 
 
+def look_into_library(trial, archived):
+    """The shared library's name for the loader, and what is seen of it, if the archive has a function more. Programs can be started, and links
+    lead to the same file after the folder is moved."""
+    more, made = trial.room / "more", trial.room / "shared"
+    made.mkdir()
+    more.with_suffix(".c").write_text("int not_a_call(void);\nint not_a_call(void) { return 1; }\n")
+    shutil.copy(archived, more.with_suffix(".a"))
+    for words in (["gcc", "-c", "-fPIC", more.with_suffix(".c"), "-o", more.with_suffix(".o")], ["ar", "r", more.with_suffix(".a"), more.with_suffix(".o")]):
+        trial.same(words[0], 0, run(words).status)
+    folder.share(more.with_suffix(".a"), made)
+    library = made / ("libufmt_c.so." + version())
+    name = "Library soname: [libufmt_c.so.%s]" % ".".join(version().split(".")[:2])
+    trial.same("the shared library's name", True, name in run(["readelf", "-d", library]).output.decode())
+    seen = [line.split()[-1] for line in run(["nm", "-D", "--defined-only", library]).output.decode().splitlines()]
+    trial.same("what the shared library shows", (True, []), (bool(seen), [one for one in seen if not one.startswith("ufmt_")]))
+    trial.same("programs that can be started", [True, True], [os.access(trial.built / "bin" / one, os.X_OK) for one in folder.PROGRAMS])
+    trial.same("links that lead elsewhere", [], [path.name for path in (trial.built / "lib").iterdir() if path.is_symlink() and "/" in os.readlink(path)])
+
+
+def tell_commits(trial):
+    """A copy without git has no commit. A tree has its own, and a changed file is said, and a new one; also beside another tree of the same
+    repository, and in one."""
+    if needs.missing(["git"]):
+        print("%s: what BUILD says of a commit isn't tried" % needs.told("git"))
+        return
+    tree, beside = trial.room / "tree", trial.room / "beside"
+    (tree / "copy").mkdir(parents=True)
+    git = ["git", "-C", tree, "-c", "user.name=trial", "-c", "user.email=trial@localhost"]
+
+    def told(where=tree, **files):
+        for file, text in files.items():
+            (tree / file).write_text(text)
+        with mock.patch.object(folder, "TOP", where):
+            return folder.commit()
+
+    found = [told(file="first")]
+    for words in (["init", "--quiet"], ["add", "."], ["commit", "--quiet", "--message=first"], ["worktree", "add", "--quiet", "--detach", beside]):
+        trial.same("git " + words[0], 0, run([*git, *words]).status)
+    head = run([*git, "rev-parse", "HEAD"]).output.decode().strip()
+    found += [told(), told(file="second"), told(file="first", another="first"), told(beside), told(tree / "copy")]
+    trial.same("commits in BUILD", ["unknown", head, head + " with changes", head + " with changes", head, "unknown"], found)
+
+
 def be_of_python(trial):
     """What users run is Python 3.9."""
     for path in [X, *(TOP / "tools" / "lib").rglob("*.py")]:
@@ -127,5 +170,6 @@ def tried(trial, programs, library):
     build_each(trial, programs, library)
     prove_each(trial)
     go_wrong(trial)
-    folder_trial.tried(trial, library)
+    look_into_library(trial, library)
+    tell_commits(trial)
     be_of_python(trial)

@@ -1,10 +1,10 @@
 """The folder that x dist leaves: laid out as a prefix, with the programs, the library for C in both forms, and what says how
 they were built."""
-import re
 import shutil
 import subprocess
 
-from lib.top import TOP
+from lib.running import output_of
+from lib.top import TOP, version
 
 CRATE = TOP / "crates" / "ufmt_c"
 PROGRAMS = ("ufmt_conv", "ufmt_lines")
@@ -29,13 +29,7 @@ Cflags: -I${includedir}
 
 
 def said(*words):
-    return subprocess.run(words, cwd=TOP, stdout=subprocess.PIPE, check=True).stdout.decode().strip()
-
-
-def version():
-    """The version of all crates, as the page of a program has it."""
-    page = (TOP / "tools" / "data" / "man" / "ufmt_lines.1").read_text()
-    return re.search(r'"ufmt_lines (\S+)"', page).group(1)
+    return output_of(words, cwd=TOP).strip()
 
 
 def commit():

@@ -25,24 +25,14 @@ def files_of(folder):
     return sorted(str(path.relative_to(folder)) for path in found)
 
 
-def mode_of(file):
-    return 0o755 if file.startswith("bin/") or ".so." in file else 0o644
-
-
-def put(source, to, mode):
+def put(source, to):
     """Copies a file or a link. What is there is replaced in one step: a link isn't followed, and an open file stays as it was."""
     to.parent.mkdir(parents=True, exist_ok=True)
-    room = tempfile.mkdtemp(prefix=".x-install-", dir=to.parent)
-    try:
-        made = os.path.join(room, "made")
-        if source.is_symlink():
-            os.symlink(os.readlink(source), made)
-        else:
-            shutil.copyfile(source, made)
-            os.chmod(made, mode)
-        os.replace(made, to)
-    finally:
-        shutil.rmtree(room)
+    with tempfile.TemporaryDirectory(prefix=".x-install-", dir=to.parent) as room:
+        made = pathlib.Path(shutil.copyfile(source, os.path.join(room, "made"), follow_symlinks=False))
+        if not made.is_symlink():
+            made.chmod(0o755 if to.parent.name == "bin" or ".so." in to.name else 0o644)
+        made.replace(to)
 
 
 def install(source, prefix):
@@ -52,16 +42,13 @@ def install(source, prefix):
         sys.exit("x install: %s isn't there: run `x dist %s`" % (source / missing[0], source))
     if prefix.exists() and prefix.samefile(source):
         sys.exit("x install: %s is both folders" % source)
-    files = files_of(source)
-    earlier = listed(prefix)
-    for file in files:
-        put(source / file, prefix / file, mode_of(file))
-    put(source / "BUILD", prefix / BUILD, 0o644)
-    with tempfile.TemporaryDirectory() as room:
-        listing = pathlib.Path(room) / "FILES"
-        listing.write_text("".join(file + "\n" for file in (*files, BUILD, FILES)))
-        put(listing, prefix / FILES, 0o644)
-    remove(prefix, [file for file in earlier if file not in (*files, BUILD, FILES)])
+    earlier, files = listed(prefix), [*files_of(source), BUILD, FILES]
+    with tempfile.NamedTemporaryFile("w") as listing:
+        listing.write("".join(file + "\n" for file in files))
+        listing.flush()
+        for file in files:
+            put({BUILD: source / "BUILD", FILES: pathlib.Path(listing.name)}.get(file, source / file), prefix / file)
+    remove(prefix, [file for file in earlier if file not in files])
 
 
 def listed(prefix):

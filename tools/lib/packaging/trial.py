@@ -8,16 +8,22 @@ installation goes wrong are tried, and so is `x dist` (dist_trial.py).
 import os
 import pathlib
 import shutil
+import stat
 import tempfile
 
 from lib import findings, needs
 from lib.c import archive
 from lib.packaging import callers, dist_trial, folder, installing
-from lib.packaging.prefixes import FILES, OTHERS, PROGRAMS, Prefixes
 from lib.programs import installed
 from lib.programs.cases import run
 from lib.top import X
 
+# Each file below the prefix with its mode, and each link with where it leads.
+LINKS = {"lib/libufmt_c.so": "libufmt_c.so.0.4.0", "lib/libufmt_c.so.0.4": "libufmt_c.so.0.4.0"}
+PROGRAMS = ("bin/ufmt_conv", "bin/ufmt_lines", "lib/libufmt_c.so.0.4.0")
+OTHERS = ("include/ufmt.h", "lib/libufmt_c.a", "lib/pkgconfig/ufmt_c.pc", "share/doc/ufmt/BUILD", "share/doc/ufmt/FILES", "share/doc/ufmt/LICENSE-APACHE",
+          "share/doc/ufmt/LICENSE-MIT", "share/man/man1/ufmt_conv.1", "share/man/man1/ufmt_lines.1")
+FILES = {**LINKS, **dict.fromkeys(PROGRAMS, 0o755), **dict.fromkeys(OTHERS, 0o644)}
 # The first version has these files, too.
 GONE = ("bin/ufmt_gone", "share/man/man1/ufmt_gone.1", "share/doc/ufmt/a note")
 # A number of a user who isn't there, and a time long ago: of a build of somebody else.
@@ -26,14 +32,38 @@ STRANGER, LONG_AGO = 54321, 1_000_000_000
 WITHOUT_ROOM = """trap '' XFSZ; ulimit -f 1; exec "$@" """
 
 
-class Trial(Prefixes):
-    def installs(self, what, status, *words, command=("install",), error=None, before=(), **variables):
-        said = run(["env", "-C", self.room, *("%s=%s" % it for it in variables.items()), *before, X, *command, *words])
-        self.ends("x %s, %s" % (command[0], what), said, status, error)
+class Trial:
+    """Folders in a room: what `x dist` left, and a prefix; and the faults that were found."""
+
+    def __init__(self, room):
+        self.room, self.faults = room, []
+        self.built, self.prefix = room / "built here", room / "a prefix"
+
+    def same(self, what, wanted, got):
+        if wanted != got:
+            self.faults.append(findings.case(what, str(wanted)[:300], str(got)[:600]))
+
+    def ends(self, what, said, status, error=None):
+        """A command must end with this status, and say this, if anything, on standard error."""
+        self.same(what, (status, said.error if error is None else error.encode()), (said.status, said.error))
+
+    def has_all(self, prefix, mask=None):
+        """The prefix has the files of the table, and folders as the mask makes them."""
+        paths = [path for path in sorted(prefix.rglob("*")) if path.is_symlink() or not path.is_dir()]
+        found = {str(path.relative_to(prefix)): os.readlink(path) if path.is_symlink() else stat.S_IMODE(path.stat().st_mode) for path in paths}
+        self.same("what is installed in %s" % prefix.name, sorted(FILES.items()), sorted(found.items()))
+        before = os.umask(0)
+        os.umask(before)
+        modes = {stat.S_IMODE(path.stat().st_mode) for path in prefix.rglob("*") if path.is_dir() and not path.is_symlink()}
+        self.same("the modes of folders", {0o777 & ~(before if mask is None else mask)}, modes)
+
+    def installs(self, what, status, *words, command="install", error=None, before=(), **variables):
+        said = run(["env", "-C", self.room, *("%s=%s" % it for it in variables.items()), *before, X, command, *words])
+        self.ends("x %s, %s" % (command, what), said, status, error)
         return said
 
     def uninstalls(self, what, status, *words, **how):
-        return self.installs(what, status, *words, command=("uninstall",), **how)
+        return self.installs(what, status, *words, command="uninstall", **how)
 
     def install_and_remove(self):
         """In a prefix, below DESTDIR, with a mask, by paths from here."""

@@ -7,8 +7,8 @@ of all and of the program; and `man`, if there is one, formats it without a warn
 import re
 import shutil
 
-from lib.packaging import folder
-from lib.programs.cases import TOP, run
+from lib.programs.cases import run
+from lib.top import TOP, version
 
 # The section of each program's page with its words, the word that shows a usage, and a run: arguments, input and output.
 PROGRAMS = {
@@ -73,11 +73,11 @@ def faults_of(prefix, name):
     if words != usage:
         yield "the page of %s has %s, and its usage %s" % (name, words, usage)
     yield from wrong_texts(page.read_text(), name, shown)
-    version = re.match(r'\.TH \S+ 1 "" "(\S+) (\S+)"', page.read_text())
-    if not version or version.groups() != (name, folder.version()):
-        yield "the page of %s doesn't name the version %s" % (name, folder.version())
-    elif "--version" in usage and run([program, "--version"]).output.decode() != "%s %s\n" % version.groups():
-        yield "the page of %s has the version %s" % (name, version.group(2))
+    head = re.match(r'\.TH \S+ 1 "" "(\S+) (\S+)"', page.read_text())
+    if not head or head.groups() != (name, version()):
+        yield "the page of %s doesn't name the version %s" % (name, version())
+    elif "--version" in usage and run([program, "--version"]).output.decode() != "%s %s\n" % head.groups():
+        yield "the page of %s has the version %s" % (name, head.group(2))
     if shutil.which("man"):
         formatted = run(["man", "--warnings", "-E", "UTF-8", "-l", "-Tutf8", page])
         if formatted.status or formatted.error or not formatted.output:
