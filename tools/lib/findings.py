@@ -1,5 +1,8 @@
 """What a step found, in one form: a line for each fault, as `file:line: what` or `case: wanted .., got ..`, and last a line of counts."""
 
+import io
+import unittest
+
 # So many faults are printed.
 MOST = 50
 
@@ -28,3 +31,11 @@ def ended(faults, counts):
         print("and %d more" % (len(faults) - MOST))
     print("%s, %d faults" % (counts, len(faults)))
     return 1 if faults else 0
+
+
+def of_tests(told, *classes):
+    """Runs the tests of these classes, and prints the faults and how many tests there are."""
+    tests = [unittest.defaultTestLoader.loadTestsFromTestCase(one) for one in classes]
+    result = unittest.TextTestRunner(stream=io.StringIO()).run(unittest.TestSuite(tests))
+    faults = ["%s: %s" % (case.id().split(".", 1)[1], said.strip().replace("\n", "\n    ")) for case, said in (*result.failures, *result.errors)]
+    return ended(faults, "%d %s" % (result.testsRun, told))

@@ -12,7 +12,7 @@ from unittest import mock
 from lib import top
 from lib.command import new, update
 from lib.copies import copying, own_trial
-from lib.findings import ended
+from lib.findings import of_tests
 
 LIBRARY = {"ufmt_core": [], "ufmt_scan": ["ufmt_core"], "ufmt": ["ufmt_core"], "ufmt_parse": ["ufmt_scan", "ufmt"], "ufmt_values": ["ufmt_scan", "ufmt", "core"],
            "ufmt_snapshot": ["ufmt"], "ufmt_doc": ["ufmt_scan", "ufmt"], "ufmt_tests": ["ufmt"]}
@@ -142,8 +142,4 @@ class Case(unittest.TestCase):
 
 
 def main(_given):
-    cases = unittest.defaultTestLoader.loadTestsFromTestCase
-    result = unittest.TextTestRunner(stream=io.StringIO()).run(unittest.TestSuite([cases(Case), cases(own_trial.Library)]))
-    faults = [*result.failures, *result.errors]
-    return ended(["%s: %s" % (case.id().split(".", 1)[1], told.strip().replace("\n", "\n    ")) for case, told in faults],
-                 "%d cases of x new and x update" % result.testsRun)
+    return of_tests("cases of x new and x update", Case, own_trial.Library)

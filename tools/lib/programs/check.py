@@ -6,13 +6,16 @@ kit's own prints isn't tried here.
 """
 import os
 import pathlib
+import shutil
 import signal
 import subprocess
 import sys
+import tempfile
 import time
-from typing import NamedTuple, Tuple
+import unittest
 
-from lib.programs.cases import LATE, Cases, Ran, run
+from lib import findings
+from lib.programs.cases import LATE, Ran, run
 from lib.top import X
 
 # Keeps its folder and its arguments, prints what a file says, on standard error what another says, and ends with the status in a third.
@@ -37,144 +40,21 @@ ERROR = "src/lib.rt:4:29: error: `ensures-is_one`: `≡` is not in scope\n  4 | 
 MISUSE = "rattle: error: no file src/lib.rt\n"
 NOISE = ("logic antt-project.json: libraries=16 files=2756\nstatements std: modules loaded=21 checked=0\nlibrary base: modules loaded=4 checked=0\n"
          "crate small: modules loaded=16 checked=14\nso far: checked 3 of 14 modules\nchecked 14 of 14 modules\n")
-
-
-class Row(NamedTuple):
-    name: str
-    printed: str
-    status: int
-    shown: str
-    last: str
-    error: str = ""
-
-
-class Called(NamedTuple):
-    """A crate, the root of its sources, what it stands on, each after those below it, and the libraries of the kit."""
-
-    crate: str
-    root: str
-    below: Tuple[str, ...]
-    kit: Tuple[str, ...]
-
-
-ROWS = (
-    Row("a crate whose functions are proved", PROVED + NOISE + "only=1 proved=1\n", 0, "", "checked: 1 of 1 functions proved; "),
-    Row("one that isn't", PROVED + UNPROVED + NOISE + "only=2 proved=1\n", 1, UNPROVED, "not checked: 1 of 2 functions proved; "),
-    Row("an error beside proofs", PROVED + ERROR + "only=1 proved=1\n", 1, ERROR, "not checked: 1 of 1 functions proved; "),
-    Row("a verdict without numbers", PROVED, 0, "", "checked: "),
-    Row("an error before any proof", ERROR, 1, ERROR, "not checked: "),
-    Row("a checker that failed", ERROR, 2, ERROR, "not checked: "),
-    Row("no verdict", PROVED + NOISE, 3, "", "not checked: "),
-    Row("what is said on standard error", PROVED, 2, MISUSE, "not checked: ", MISUSE),
-)
-BASE, SMALL = "base:std,core=../base/src/lib.rt", "small:std,base=../small/src/lib.rt"
-TALL = "tall:std,small,base=../tall/src/lib.rt"
-CALLS = (
-    Called("base", "src/lib.rt", (), ("core", "std")),
-    Called("small", "src/lib.rt", (BASE,), ("core", "std")),
-    Called("tall", "src/main.rt", (BASE, SMALL), ("core", "std")),
-    Called("glue", "src/lib.rt", (BASE, SMALL), ("core", "std")),
-    Called("high", "src/lib.rt", (BASE, SMALL, TALL), ("core", "std")),
-)
-
-
-class Check:
-    """`x check` in a folder with these crates, and a script in the place of the checker."""
-
-    def __init__(self, cases):
-        self.cases = cases
-        self.kit = cases.room / "kit"
-        self.checker = self.kit / "bin" / "rattle"
-        self.checker.parent.mkdir()
-        (cases.room / "crates.txt").write_text(CRATES)
-        for called in CALLS:
-            root = self.crate(called.crate) / called.root
-            root.parent.mkdir(parents=True)
-            root.touch()
-        self.write(CHECKER)
-
-    def crate(self, name):
-        return self.cases.room / "crates" / name
-
-    def write(self, script):
-        self.checker.write_text(script)
-        self.checker.chmod(0o755)
-
-    def answer(self, printed, status, error=""):
-        """What the checker will print, also on standard error, and its status."""
-        self.checker.with_name("rattle.output").write_text(printed)
-        self.checker.with_name("rattle.error").write_text(error)
-        self.checker.with_name("rattle.status").write_text(str(status))
-
-    def command(self, folder, *words, path=None):
-        """`x check` with these words in a folder. The checker is found by `path`, or where it is."""
-        return ["env", "-C", folder, "PATH=%s:%s" % (path or self.checker.parent, os.environ["PATH"]), X, "check", *words]
-
-    def judge_call(self, called, paths):
-        """Compares the arguments of the checker with what it takes of this crate, or of these paths in it."""
-        run(self.command(self.crate(called.crate) / "src", called.crate, *paths))
-        wanted = [str(self.crate(called.crate)), "check", "--crate-name", called.crate, called.root]
-        for name in called.kit:
-            wanted += ["--extern", "%s=%s/rlibs/%s.rlib" % (name, self.kit, name)]
-        wanted += ["-L", "dependency=%s/rlibs" % self.kit, "--antt-project", "%s/rattle/logic/antt-project.json" % self.kit,
-                   "--logic-built", "%s/logic_built" % self.kit, "--jobs", str(os.cpu_count()), "--incremental", "%s/out/trusting" % self.crate(called.crate)]
-        for library in called.below:
-            wanted += ["--lib", library]
-        for path in paths or (called.crate,):
-            wanted += ["--only", path]
-        asked = self.checker.with_name("rattle.asked").read_bytes()
-        self.cases.judge("how x check calls the checker of %s %s" % (called.crate, paths), Ran(0, asked, b""), 0, "".join(word + "\n" for word in wanted).encode())
-
-    def judge_end(self, number):
-        """Compares what is left when it is ended by this signal before the verdict: nothing of the checker."""
-        self.write(SLOW_CHECKER)
-        process = subprocess.Popen(self.command(self.cases.room, "small"), stdout=subprocess.PIPE, stderr=subprocess.PIPE)
-        started = int(process.stdout.readline())
-        process.send_signal(number)
-        output, said = process.communicate(timeout=LATE)
-        name = signal.Signals(number).name
-        self.cases.judge("x check after %s" % name, Ran(process.returncode, output, said), 1, line="not checked: ended before the verdict")
-        self.cases.judge("the checker's own process, after %s" % name, Ran(0, state_of(started), b""), 0, b"ended")
-
-    def judge_link(self):
-        """A kit is where its checker is, also where a link on the path leads to that."""
-        linked = self.cases.room / "linked"
-        linked.mkdir()
-        (linked / "rattle").symlink_to(self.checker)
-        run(self.command(self.cases.room, "base", path=linked))
-        asked = (linked / "rattle.asked") if (linked / "rattle.asked").exists() else self.checker.with_name("rattle.asked")
-        wanted = b"core=%s/rlibs/core.rlib" % str(self.kit).encode()
-        self.cases.judge("the kit of a link", Ran(0, b"\n".join(line for line in asked.read_bytes().splitlines() if line.startswith(b"core=")), b""), 0, wanted)
-
-    def judge_nearest(self):
-        """Of two repositories, one in the other, the inner one is meant."""
-        inner = self.crate("small") / "inner"
-        source = inner / "crates" / "nested" / "src" / "lib.rt"
-        source.parent.mkdir(parents=True)
-        source.touch()
-        (inner / "crates.txt").write_text("nested: core\n")
-        self.answer(PROVED, 0)
-        self.cases.judge("x check in a repository in another", run(self.command(source.parent, "nested")), 0, b"checked: the libraries are trusted\n")
-
-    def judge_kept(self):
-        """What the checker keeps of a crate stays from one run to the next."""
-        kept = self.crate("small") / "out" / "trusting" / "kept"
-        kept.write_text("kept")
-        self.answer(PROVED, 0)
-        run(self.command(self.cases.room, "small"))
-        self.cases.judge("what the checker kept", Ran(0, kept.read_bytes() if kept.exists() else b"", b""), 0, b"kept")
-
-    def judge_words(self):
-        """What is said where words are wrong, or the kit isn't there."""
-        for words, status in ((("--help",), 0), ((), 2), (("--job", "x", "small"), 2)):
-            self.cases.judge("the status of x check %s" % (words,), Ran(run(self.command(self.cases.room, *words)).status, b"", b""), status)
-        self.cases.judge("x check of no crate", run(self.command(self.cases.room, "none")), 1, line="x check: crates.txt names no crate none")
-        without = self.cases.room / "without"
-        without.mkdir()
-        (without / "python3").symlink_to(sys.executable)
-        ran = run(["/usr/bin/env", "-C", self.cases.room, "PATH=%s" % without, X, "check", "small"])
-        self.cases.judge("x check without a kit", ran, 1, line="x check: no rattle on the path (the Rattle kit has it)")
-        self.cases.judge("x check outside of crates", run(self.command("/", "small")), 1, line="x check: no crates.txt here or above")
+# What the checker prints, its status, what is shown of that, how the last line begins, and what the checker says on standard error.
+ROWS = {
+    "a crate whose functions are proved": (PROVED + NOISE + "only=1 proved=1\n", 0, "", "checked: 1 of 1 functions proved; ", ""),
+    "one that isn't": (PROVED + UNPROVED + NOISE + "only=2 proved=1\n", 1, UNPROVED, "not checked: 1 of 2 functions proved; ", ""),
+    "an error beside proofs": (PROVED + ERROR + "only=1 proved=1\n", 1, ERROR, "not checked: 1 of 1 functions proved; ", ""),
+    "a verdict without numbers": (PROVED, 0, "", "checked: ", ""),
+    "an error before any proof": (ERROR, 1, ERROR, "not checked: ", ""),
+    "a checker that failed": (ERROR, 2, ERROR, "not checked: ", ""),
+    "no verdict": (PROVED + NOISE, 3, "", "not checked: ", ""),
+    "what is said on standard error": (PROVED, 2, MISUSE, "not checked: ", MISUSE),
+}
+BASE, SMALL, TALL = "base:std,core=../base/src/lib.rt", "small:std,base=../small/src/lib.rt", "tall:std,small,base=../tall/src/lib.rt"
+# The root of each crate's sources, and what it stands on, each after those below it.
+CALLS = {"base": ("src/lib.rt", []), "small": ("src/lib.rt", [BASE]), "tall": ("src/main.rt", [BASE, SMALL]), "glue": ("src/lib.rt", [BASE, SMALL]),
+         "high": ("src/lib.rt", [BASE, SMALL, TALL])}
 
 
 def state_of(number):
@@ -182,26 +62,107 @@ def state_of(number):
     status = pathlib.Path("/proc/%d/status" % number)
     for _ in range(10 * LATE):
         if not status.exists() or "State:\tZ" in status.read_text():
-            return b"ended"
+            return "ended"
         time.sleep(0.1)
-    return b"there"
+    return "there"
+
+
+class Check(unittest.TestCase):
+    """`x check` in a folder with these crates, and a script in the place of the checker."""
+
+    def setUp(self):
+        self.room = pathlib.Path(tempfile.mkdtemp(prefix="x-check-")).resolve()
+        self.addCleanup(shutil.rmtree, self.room)
+        self.kit, self.crates = self.room / "kit", self.room / "crates"
+        self.checker = self.kit / "bin" / "rattle"
+        self.checker.parent.mkdir(parents=True)
+        (self.room / "crates.txt").write_text(CRATES)
+        for crate, (root, _) in CALLS.items():
+            self.touch(self.crates / crate / root)
+        self.answer(PROVED, 0)
+
+    def touch(self, path):
+        path.parent.mkdir(parents=True)
+        path.touch()
+
+    def answer(self, printed, status, error="", script=CHECKER):
+        """What the checker will print, also on standard error, and its status."""
+        self.checker.write_text(script)
+        self.checker.chmod(0o755)
+        for name, text in (("output", printed), ("error", error), ("status", str(status))):
+            self.checker.with_name("rattle." + name).write_text(text)
+
+    def command(self, folder, *words, path=None):
+        """`x check` with these words in a folder. The checker is found by `path`, or where it is."""
+        return ["/usr/bin/env", "-C", folder, "PATH=%s" % (path or "%s:%s" % (self.checker.parent, os.environ["PATH"])), X, "check", *words]
+
+    def says(self, ran, status, output="", error=""):
+        self.assertEqual(Ran(status, output.encode(), error.encode()), ran)
+
+    def test_what_is_shown(self):
+        for name, (printed, status, shown, last, error) in ROWS.items():
+            with self.subTest(name):
+                self.answer(printed, status, error)
+                self.says(run(self.command(self.room, "small")), status, shown + last + "the libraries are trusted\n")
+
+    def test_how_the_checker_is_called(self):
+        for crate, (root, below) in CALLS.items():
+            for paths in ([], ["types", "types::Pair::swap"]):
+                run(self.command(self.crates / crate / "src", crate, *paths))
+                wanted = [str(self.crates / crate), "check", "--crate-name", crate, root]
+                for name in ("core", "std"):
+                    wanted += ["--extern", "%s=%s/rlibs/%s.rlib" % (name, self.kit, name)]
+                wanted += ["-L", "dependency=%s/rlibs" % self.kit, "--antt-project", "%s/rattle/logic/antt-project.json" % self.kit, "--logic-built",
+                           "%s/logic_built" % self.kit, "--jobs", str(os.cpu_count()), "--incremental", "%s/out/trusting" % (self.crates / crate)]
+                wanted += [word for library in below for word in ("--lib", library)] + [word for path in paths or [crate] for word in ("--only", path)]
+                with self.subTest(crate, paths=paths):
+                    self.assertEqual(wanted, self.checker.with_name("rattle.asked").read_text().splitlines())
+
+    def test_a_link(self):
+        """A kit is where its checker is, also where a link on the path leads to that."""
+        linked = self.room / "linked"
+        linked.mkdir()
+        (linked / "rattle").symlink_to(self.checker)
+        run(self.command(self.room, "base", path="%s:%s" % (linked, os.environ["PATH"])))
+        asked = (linked / "rattle.asked") if (linked / "rattle.asked").exists() else self.checker.with_name("rattle.asked")
+        self.assertEqual(["core=%s/rlibs/core.rlib" % self.kit], [line for line in asked.read_text().splitlines() if line.startswith("core=")])
+
+    def test_the_nearest_repository(self):
+        """Of two repositories, one in the other, the inner one is meant."""
+        source = self.crates / "small" / "inner" / "crates" / "nested" / "src" / "lib.rt"
+        self.touch(source)
+        (self.crates / "small" / "inner" / "crates.txt").write_text("nested: core\n")
+        self.says(run(self.command(source.parent, "nested")), 0, "checked: the libraries are trusted\n")
+
+    def test_what_the_checker_kept(self):
+        """It stays from one run to the next."""
+        kept = self.crates / "small" / "out" / "trusting" / "kept"
+        self.touch(kept)
+        run(self.command(self.room, "small"))
+        self.assertTrue(kept.exists())
+
+    def test_wrong_words(self):
+        for words, status in ((["--help"], 0), ([], 2), (["--job", "x", "small"], 2)):
+            self.assertEqual(status, run(self.command(self.room, *words)).status, words)
+        self.says(run(self.command(self.room, "none")), 1, error="x check: crates.txt names no crate none\n")
+        self.says(run(self.command("/", "small")), 1, error="x check: no crates.txt here or above\n")
+        without = self.room / "without"
+        without.mkdir()
+        (without / "python3").symlink_to(sys.executable)
+        self.says(run(self.command(self.room, "small", path=without)), 1, error="x check: no rattle on the path (the Rattle kit has it)\n")
+
+    def test_an_end_before_the_verdict(self):
+        """Of the checker nothing is left."""
+        self.answer("", 0, script=SLOW_CHECKER)
+        for number in (signal.SIGINT, signal.SIGTERM):
+            process = subprocess.Popen(self.command(self.room, "small"), stdout=subprocess.PIPE, stderr=subprocess.PIPE)
+            started = int(process.stdout.readline())
+            process.send_signal(number)
+            output, said = process.communicate(timeout=LATE)
+            with self.subTest(number):
+                self.says(Ran(process.returncode, output, said), 1, error="not checked: ended before the verdict\n")
+                self.assertEqual("ended", state_of(started))
 
 
 def main(_given):
-    cases = Cases(X)
-    (cases.room / "kit").mkdir()
-    check = Check(cases)
-    for row in ROWS:
-        check.answer(row.printed, row.status, row.error)
-        output = row.shown + row.last + "the libraries are trusted\n"
-        cases.judge("x check, %s" % row.name, run(check.command(cases.room, "small")), row.status, output.encode())
-    for called in CALLS:
-        for paths in ((), ("types", "types::Pair::swap")):
-            check.judge_call(called, paths)
-    check.judge_link()
-    check.judge_nearest()
-    check.judge_kept()
-    check.judge_words()
-    for number in (signal.SIGINT, signal.SIGTERM):
-        check.judge_end(number)
-    return cases.end()
+    return findings.of_tests("trials of x check", Check)
