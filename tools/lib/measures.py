@@ -17,7 +17,6 @@ FEW = 40
 
 
 def bound(label, measured):
-    """The bound of a count. The label of steps ends with that word."""
     return int(FACTOR * max(measured, FEW)) if label.endswith(STEPS) else measured
 
 

@@ -10,7 +10,6 @@ PACKAGES = {"valgrind": "valgrind", "cc": "gcc", "gcc": "gcc", "g++": "g++", "ru
 
 
 def missing(names):
-    """The names of programs that this machine hasn't."""
     return [name for name in names if not shutil.which(name)]
 
 
@@ -27,7 +26,6 @@ def require(command, *names):
 
 
 def built(name):
-    """The built program of a crate."""
     path = TOP / "crates" / name / "out" / name
     if not os.access(path, os.X_OK):
         sys.exit("%s isn't there: `rt ci` builds it, and so does `rt run` in its crate" % path.relative_to(TOP))

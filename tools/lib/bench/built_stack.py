@@ -86,7 +86,6 @@ def is_code_short(name):
 
 
 def is_run_within(name, words, frame, shapes, levels):
-    """Whether the program ends well on each shape with the stack of its bound."""
     size, level = PROGRAMS[name]
     allowed = -(-(size + level * DEPTH + OUTSIDE) // PAGE) * PAGE
     failed = [shape for shape in shapes if not runs([str(needs.built(name)), *words], frame(text_of(shape, levels, DEPTH)), allowed)]

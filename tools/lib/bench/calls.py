@@ -29,7 +29,6 @@ def bytes_of(room, library, entry):
 
 
 def instructions(words, name, number):
-    """How many instructions a call takes, with the loop around it."""
     few, many = (counted([*words, name, turns, number])[0] for turns in (1000, 3000))
     return (many - few) // 2000
 

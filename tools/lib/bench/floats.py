@@ -17,7 +17,6 @@ def instructions(program, value):
 
 
 def table(room, _given):
-    """Prints a line for each value."""
     made = [build_in(room / name) for name, build_in in (("ours", programs.ours), ("rustc", programs.theirs), ("ryu", programs.ryu))]
     print("%-24s%8s%12s%8s" % ("instructions", "ours", "core::fmt", "ryu"))
     for value in VALUES:

@@ -91,8 +91,6 @@ def frame(lines, starts, own):
 
 
 class Frames:
-    """The frames of a program's functions."""
-
     def __init__(self, program):
         self.program = program
         lines, self.names = code(program)
@@ -155,7 +153,6 @@ class Frames:
         return most._replace(size=most.size + RETURN_ADDRESS)
 
     def frame_of(self, name):
-        """The frame of the function with this name."""
         return self.frames[self.addresses[name]]
 
     def most_at(self, start):

@@ -11,7 +11,6 @@ ARGUMENTS = {"pretty": [], "plain": ["--plain"]}
 
 
 def table(room, given):
-    """Prints a line for each shape, of a program that is built in this folder unless another one is given."""
     program = given.program.resolve() if given.program else build.program(room, "ufmt_lines", build.of_sources(room, "ufmt_lines"))
     meter = log_costs.Meter(devices.Program(program), ARGUMENTS, room)
     print("%-40s %-6s %10s %8s" % ("instructions a byte", "to", "measured", "table"))

@@ -34,7 +34,6 @@ def cost(kind, text_format, parsing, reading, result):
 
 
 def one(words, result):
-    """Instructions for one call on one struct."""
     (few, _), (many, said) = (counted([*words, count]) for count in (1000, 3000))
     if said != result:
         sys.exit("x bench: the struct isn't parsed")

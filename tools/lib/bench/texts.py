@@ -21,7 +21,6 @@ UNITS = {"ASCII": "All work and no play. ", "escapes": 'a\tb "c" d\\e\n', "accen
 
 
 def texts():
-    """Each text by its name."""
     made = {name: (unit * (SIZE // len(unit.encode()))).encode() for name, unit in UNITS.items()}
     for name, make in (("numbers", values.wide), ("texts", values.of_texts)):
         listed = values.many(make, SIZE)

@@ -70,7 +70,6 @@ def document(value):
 
 
 def as_json(value):
-    """What JSON has of a value."""
     if isinstance(value, Struct):
         fields = {name: as_json(it) for name, it in value.fields.items()}
         return {value.name: fields} if value.is_variant else fields

@@ -47,7 +47,6 @@ def in_one_line(text):
 
 
 def write():
-    """Writes each file."""
     count = 0
     for count, (name, text) in enumerate(files(), 1):
         path = TOP / name

@@ -25,7 +25,6 @@ def conditions(count):
 
 
 def field(count, place):
-    """What stands for a field."""
     return {"A": TYPES[place], "a": TYPES[place].lower(), "P": PARSERS[place], "n": str(place), "v": "v" if count == 1 else "v.%d" % place,
             "{are}": "are" + ".1" * place + ".0", "{lead}": " " if place % 6 else "\n            "}
 

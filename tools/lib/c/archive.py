@@ -17,7 +17,6 @@ def exported(module):
 
 
 def unproved(room):
-    """The archive, built in this folder."""
     below = build.of_sources(room, "ufmt_c")
     source = room / "crates" / "ufmt_c" / "src"
     main = (TOP / "tools" / "data" / "c" / "calls.rt.txt").read_text()

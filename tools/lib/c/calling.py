@@ -56,7 +56,6 @@ def rooms(case):
 
 
 def request(case, room):
-    """The line that asks tools/data/c/calls.c for this call."""
     words = [case.call]
     kinds = [kind for kind in cases.CALLS[case.call] if kind not in ("buffer", "number")]
     if cases.has_buffer(case):
@@ -99,7 +98,6 @@ def wrong(case, room, result, detail, left):
 
 
 def compare(faults, how, tried, answers):
-    """Compares each answer with what its case expects."""
     for (case, room), (result, detail, left) in zip(tried, answers):
         told = wrong(case, room, result, detail, left)
         if told:
@@ -113,7 +111,6 @@ def answer(line):
 
 
 def by_program(faults, program, tried, before=(), how="C", seconds=SECONDS):
-    """Tries cases by the program in C, or the one in Rust."""
     return compare(faults, how, tried, map(answer, lines_of(program, asked_of(tried), before, seconds=seconds)))
 
 
@@ -149,7 +146,6 @@ def under_valgrind(faults, program, made):
 
 
 def caller_in_c(room, library):
-    """The program that makes each call, of tools/data/c/calls.c."""
     program = room / "calls"
     run(["gcc", "-std=c11", "-D_GNU_SOURCE", *WARNINGS, "-O1", "-g", "-I", HEADER.parent, DATA / "calls.c", library, "-o", program])
     return program

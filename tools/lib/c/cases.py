@@ -85,7 +85,6 @@ def style(name, *members):
 
 
 def arguments(call, words):
-    """The arguments of a row's words."""
     words, found = list(words), []
     for kind in CALLS[call]:
         if kind == "bytes":
@@ -184,7 +183,6 @@ def or_not_utf8(call, arguments, texts, **made):
 
 
 def field_case(text_class, line, name):
-    """The field with this name in a line, by the model."""
     found = log_model.field(text_class, line, name) if valid_up_to(name) is None else None
     place = {"result": NO_TEXT} if found is None else {"result": len(found[1]), "detail": found[0]}
     return or_not_utf8("field", (CLASSES[text_class], line, name), [name], **place)

@@ -28,12 +28,10 @@ TOLD = "Of `x try c`: steps"
 
 
 def opened_in(data):
-    """How many opening brackets there are."""
     return sum(map(data.count, (b"(", b"[", b"{")))
 
 
 def most_steps(case, room):
-    """The bound of a call's steps."""
     inputs = [data for data in case.arguments if isinstance(data, bytes)]
     text = len(case.text or b"") if case.length is None else 0
     if case.call == "field":

@@ -34,7 +34,6 @@ def laid_out(structs, constants):
 
 
 def interface():
-    """What the file has."""
     text = re.sub(r"/\*.*?\*/", "", HEADER.read_text(), flags=re.S)
     lines = [line.rstrip() for line in text.splitlines() if line.strip()]
     constants = re.findall(r"^#define (UFMT_\w+) +\S*\d", text, re.M)

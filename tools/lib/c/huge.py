@@ -17,7 +17,6 @@ def long_text(call, arguments, parts):
 
 
 def number_case(call, number, width, pad, upper, prefix):
-    """A number in base 16 or 2, with these options."""
     base, mark = {"hexadecimal": ("x", "0x"), "binary": ("b", "0b")}[call]
     digits, before = format(number, base), mark * prefix
     if upper and base == "x":
@@ -39,7 +38,6 @@ def wide_numbers():
 
 
 def column_case(text, width, fill, align):
-    """A text in a column of this width, filled with this character."""
     missing = max(width - len(text), 0)
     before = (0, missing // 2, missing)[align]
     shown = b" " if fill == "\0" else fill.encode()
@@ -52,7 +50,6 @@ MOST_DECIMALS = 1074
 
 
 def fixed_case(bits, decimals):
-    """A float with so many decimals."""
     text, more = floats.fixed(bits, 64, min(decimals, MOST_DECIMALS)).encode(), max(decimals - MOST_DECIMALS, 0)
     parts = [(text, 1), (b"0", more * text[-1:].isdigit())]
     return long_text("float_fixed", (bits, decimals), parts)
@@ -84,7 +81,6 @@ def dump_rows(data, per_row, group, first):
 
 
 def dump_case(data, per_row, group, first, has_offsets, has_text):
-    """A dump with these options."""
     parts = []
     for offset, digits, missing, shown in dump_rows(data, per_row, group, first):
         parts += [(offset.encode(), has_offsets), (digits.encode(), 1)]

@@ -16,7 +16,6 @@ LETTERS = {"0": "\0", "t": "\t", "n": "\n", "r": "\r"}
 
 
 def matches(pattern, data):
-    """Whether these bytes are such a text."""
     return valid_up_to(data) is None and bool(pattern.fullmatch(data.decode()))
 
 
@@ -49,7 +48,6 @@ NUMBERS = {"parse_unsigned": range(2**64), "parse_signed": range(-(2**63), 2**63
 
 
 def number_read(call, data):
-    """What a call that reads a whole number makes of these bytes."""
     found = DIGITS.match(data)
     number = int(found.group()) if found and found.group() != b"-0" and int(found.group()) in NUMBERS[call] else None
     if number is not None and found.end() == len(data):
@@ -75,7 +73,6 @@ FLOATS = [bits ^ sign for bits in (*patterns.hard(64), 0, 1, 0x7FF0 << 48) for s
 
 
 def float_read(data):
-    """What the call that reads a float makes of these bytes."""
     front = FLOAT_FRONT.match(data).group()
     bits = NAN if front == b"NaN" else floats.reads(front.decode(), 64)
     if bits is None:

@@ -18,7 +18,6 @@ RESULTS = {"is_text": ctypes.c_bool, "version": ctypes.c_uint32}
 
 
 def float_of(bits):
-    """A float by its bits."""
     return packing.unpack("<d", packing.pack("<Q", bits))[0]
 
 
@@ -31,8 +30,6 @@ STRUCTS = {name: struct(name) for name in STYLES}
 
 
 class Library:
-    """The shared object at a path."""
-
     def __init__(self, path):
         self.library = ctypes.CDLL(str(path))
 

@@ -144,7 +144,6 @@ class RandomCases:
         return [cases.or_not_utf8("in_column", (data, style("column", width, ord(fill), align)), [data])]
 
     def size_but(self, size):
-        """A size that the struct doesn't have."""
         found = self.whole_number(SIZE_MAX)
         return found if found != size else 0
 

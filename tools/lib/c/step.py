@@ -52,7 +52,6 @@ def at_random(faults, program, seed):
 
 
 def by_rust(faults, room, library, tried):
-    """Tries cases by the program in Rust."""
     if not here("rustc", "no call is made from Rust"):
         return 0
     program = room / "calls_rust"

@@ -28,7 +28,6 @@ NOISE = ("logic ", "statements ", "library ", "crate ", "checked ", "so far: che
 
 
 def command(folder, crate, lines, paths, jobs, tests):
-    """The call of `rattle check`."""
     kit = pathlib.Path(CHECKER).resolve().parent.parent
     below = top.closure([crate], lines)
     libraries = sorted({name for one in below for name in lines[one] if name not in lines} | {"std"})

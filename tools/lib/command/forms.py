@@ -34,8 +34,6 @@ KEPT = ("src", "specs", "proofs", "out/incremental", "out/rlib")
 
 
 class Form:
-    """A form, and what its head comment says of it."""
-
     def __init__(self, path):
         self.path, self.name = path, path.name.removesuffix(".rt.txt")
         self.says, self.uses, self.command = [], [], "check"
@@ -57,7 +55,6 @@ class Form:
             shutil.copy(spec, crate / "specs" / "Lib.antt")
 
     def fault(self, room):
-        """What is wrong with the form, or None."""
         if not self.says:
             return "no line `//! says:`"
         ran = subprocess.run(["rt", self.command, "--jobs", "1"], cwd=room / "crates" / self.name, stdin=subprocess.DEVNULL,

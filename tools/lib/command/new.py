@@ -34,22 +34,14 @@ def add_arguments(parser):
 
 
 def line_of(wanted):
-    """The line of a crate that does all this."""
     return list(dict.fromkeys([name for feature in wanted for name in NEEDS[feature]] + ["ufmt"]))
 
 
 def refuse(name, repository):
-    """Ends where there can be no such crate."""
     if not re.fullmatch(r"[a-z][a-z0-9_]*", name):
         sys.exit("x new: %s is no name of a crate: small letters, digits and `_`" % name)
-    if name in top.listed() and name in copied_from_here(repository):
+    if name in (top.listed() if repository != top.TOP else top.closure([name for names in NEEDS.values() for name in names])):
         sys.exit("x new: %s is a crate of the library" % name)
-
-
-def copied_from_here(repository):
-    from lib.copies import copying
-
-    return set(top.listed()) if repository != top.TOP else set(copying.closure([name for names in NEEDS.values() for name in names]))
 
 
 def main(given):
@@ -64,7 +56,7 @@ def main(given):
     there = copies.lines.below(given.name)
     line = list(dict.fromkeys([*(there or []), *line_of(given.features)]))
     if not is_here:
-        copies.take(copying.closure(line_of(given.features)), given.name)
+        copies.take(top.closure(line_of(given.features)), given.name)
     if line != there:
         copies.lines.put(given.name, line)
     written = first.write(repository, copies.crates / given.name, given.features, given.program)

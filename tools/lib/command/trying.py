@@ -96,7 +96,6 @@ def main(given):
 
 
 def closing(results):
-    """Prints how many steps passed and which failed, and returns the status."""
     counts = [sum(result.said() == word for result in results) for word in ("passed", "FAILED", "skipped")]
     failed = [result.name for result in results if result.status]
     if failed:

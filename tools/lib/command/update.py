@@ -18,7 +18,7 @@ def main(_given):
     copies = copying.Copies(copying.repository_here("update"))
     if copies.repository == top.TOP or not copies.names():
         sys.exit("x update: nothing was copied to %s: `x new NAME` does that" % copies.repository)
-    before, crates = copies.kept.version, copying.closure([name for name in copies.names() if name in top.listed()])
+    before, crates = copies.kept.version, top.closure([name for name in copies.names() if name in top.listed()])
     copies.take(crates, copies.names()[0])
     copies.drop(crates)
     copies.end()

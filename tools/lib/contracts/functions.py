@@ -56,7 +56,6 @@ def words_before(tokens, at):
 
 
 def is_pub(tokens, at):
-    """Whether the item at `at` is public where its module is."""
     return "pub" in words_before(tokens, at)
 
 

@@ -15,22 +15,6 @@ LICENCES = ("LICENSE-APACHE", "LICENSE-MIT")
 PROVED = ("out/incremental", "out/rlib", "out/rlibs")
 
 
-def closure(names):
-    """These crates of this repository and those below them, lowest first."""
-    listed, found = top.listed(), []
-
-    def add(name):
-        for below in listed[name]:
-            if below in listed and below not in found:
-                add(below)
-        if name not in found:
-            found.append(name)
-
-    for name in names:
-        add(name)
-    return found
-
-
 def files_of(crate):
     """The files of a crate that are copied, by their paths below the folder of crates."""
     folder, found = top.TOP / "crates" / crate, {}
@@ -53,7 +37,6 @@ class Copies:
         self.kept, self.said, self.count = Kept(self.crates), [], 0
 
     def names(self):
-        """The crates that were copied."""
         return sorted(self.kept.lines)
 
     def older(self):
@@ -71,16 +54,17 @@ class Copies:
                 self.take_proved(crate)
             self.take_line(crate, top.listed()[crate], before)
 
+    def stays(self, path, why):
+        self.said.append("%s: stays: %s" % (path.relative_to(self.repository), why))
+
     def take_file(self, file, path):
         """Copies a file, unless another one is there that isn't ours."""
         to, wanted = self.crates / file, sum_of(path)
         if os.path.lexists(to) and not to.is_file():
-            self.said.append("%s: stays: it isn't a file" % to.relative_to(self.repository))
-            return
+            return self.stays(to, "it isn't a file")
         if to.exists() and sum_of(to) != wanted:
             if not self.kept.is_ours(self.crates, file):
-                self.said.append("%s: stays: it was changed here" % to.relative_to(self.repository))
-                return
+                return self.stays(to, "it was changed here")
             to.unlink()
         if not to.exists():
             to.parent.mkdir(parents=True, exist_ok=True)
@@ -96,8 +80,7 @@ class Copies:
     def take_line(self, crate, below, before):
         there = self.lines.below(crate)
         if there is not None and there not in (below, self.kept.lines.get(crate)):
-            self.said.append("crates.txt: %s: stays: its line was changed here" % crate)
-            return
+            return self.stays(self.lines.path, "the line of %s was changed here" % crate)
         if there != below:
             self.lines.put(crate, below, before)
         self.kept.lines[crate] = below
@@ -108,14 +91,14 @@ class Copies:
         for file in sorted(set(self.kept.sums) - wanted):
             path = self.crates / file
             if path.is_file() and not self.kept.is_ours(self.crates, file):
-                self.said.append("%s: stays: it was changed here, and is gone from the library" % path.relative_to(self.repository))
+                self.stays(path, "it was changed here, and is gone from the library")
             elif path.is_file():
                 path.unlink()
                 self.remove_empty(path.parent)
                 self.count += 1
             del self.kept.sums[file]
         for crate in set(self.kept.lines) - set(crates):
-            self.said.append("crates.txt: %s: stays: the library has no such crate any more" % crate)
+            self.stays(self.lines.path, "the line of %s: the library has no such crate any more" % crate)
             del self.kept.lines[crate]
 
     def remove_empty(self, folder):

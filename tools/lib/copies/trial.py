@@ -1,9 +1,11 @@
-"""Makes crates by `x new` in folders of each kind and updates them by `x update`, over a small library (of this one: own_trial.py)."""
+"""Makes crates by `x new` in folders of each kind and updates them by `x update`, over a small library, and looks at what they write and copy of
+this one."""
 import argparse
 import contextlib
 import io
 import os
 import pathlib
+import re
 import shutil
 import tempfile
 import unittest
@@ -11,7 +13,7 @@ from unittest import mock
 
 from lib import top
 from lib.command import new, update
-from lib.copies import copying, own_trial
+from lib.copies import copying, first
 from lib.findings import of_tests
 
 LIBRARY = {"ufmt_core": [], "ufmt_scan": ["ufmt_core"], "ufmt": ["ufmt_core"], "ufmt_parse": ["ufmt_scan", "ufmt"], "ufmt_values": ["ufmt_scan", "ufmt", "core"],
@@ -99,7 +101,7 @@ class Case(unittest.TestCase):
         self.put(self.library, {UFMT: "newer", CORE: "newer"})
         for _ in range(2):
             said = self.said(update.main)
-            self.assertTrue(STAYS in said and "crates.txt: ufmt: stays: its line was changed here\n" in said)
+            self.assertTrue(STAYS in said and "crates.txt: stays: the line of ufmt was changed here\n" in said)
             self.has(**{UFMT: "mine", CORE: "newer"})
         self.assertIn("ufmt: ufmt_core mine\n", self.text())
 
@@ -141,5 +143,24 @@ class Case(unittest.TestCase):
         self.assertFalse((self.library / "crates/ufmt/COPIED").exists())
 
 
+class Library(unittest.TestCase):
+    def test_first_files_use_what_their_crates_list(self):
+        for name in ("lib.rt.txt", "main.rt.txt"):
+            for features in ([], *([feature] for feature in new.NEEDS), list(new.NEEDS)):
+                text = first.text_of(name, features)
+                used = set(re.findall(r"^\s*(?:ghost )?use (?:Rattle\.)?(ufmt\w*)", text, re.M))
+                self.assertLessEqual(used, set(new.line_of(features)), (name, features))
+                self.assertEqual([], re.findall(r"// \[", text))
+
+    def test_what_is_copied(self):
+        everything = top.closure([name for names in new.NEEDS.values() for name in names])
+        for crate in everything:
+            files = copying.files_of(crate)
+            sources = {"%s/%s" % (crate, path.relative_to(top.TOP / "crates" / crate)) for path in (top.TOP / "crates" / crate).rglob("*")
+                       if path.suffix in (".rt", ".antt") and "out" not in path.parts and "must-fail" not in path.parts}
+            self.assertLessEqual(sources, set(files), crate)
+        self.assertEqual([], [crate for crate in everything if not top.is_ours(crate) or crate in ("ufmt_conv", "ufmt_lines", "ufmt_c")])
+
+
 def main(_given):
-    return of_tests("cases of x new and x update", Case, own_trial.Library)
+    return of_tests("cases of x new and x update", Case, Library)

@@ -243,7 +243,6 @@ def value_of(kind, count):
 
 
 def print_function(function, name, variants, outer):
-    """A function that prints an enum by `variants!`."""
     return """
 fn %s(value: &%s, out: &mut Output<Page>) -> Outcome<(), Full> {
     variants!(out, value, %s { %s }%s)
@@ -288,7 +287,6 @@ def snapshot_test():
 
 
 def source(is_all):
-    """The whole file."""
     counts = MORE_COUNTS if is_all else COUNTS
     parts = [(data.DATA / FOLDER / "head.rt.txt").read_text(), "\n#[derive(Drop)]\nstruct Unit;\n"]
     parts += [types(count) for count in sorted({*counts, *PARSED})]

@@ -17,15 +17,12 @@ MAIN = "\nfn main(rt: HostRuntime) {}\n"
 
 
 class Snippet:
-    """A line that must not compile."""
-
     def __init__(self, path, number, items, function, messages, code):
         self.place = "%s/%s:%d" % (path.parent.name, path.name, number)
         self.items, self.function, self.messages, self.code = items, function, messages, code
 
 
 def snippets_in(path):
-    """The snippets of a file, in order."""
     items, _, rest = path.read_text().partition("--\n")
     function, messages, is_open = None, [], False
     for number, line in enumerate(rest.splitlines(), items.count("\n") + 2):
@@ -41,8 +38,6 @@ def snippets_in(path):
 
 
 class Refused:
-    """A crate of such lines."""
-
     def __init__(self, room, name, snippets):
         self.room, self.name, self.snippets = room, name, snippets
         text, self.lines = ROOT, {}
@@ -66,7 +61,6 @@ class Refused:
         return found
 
     def compare(self, line, messages):
-        """The faults of one line."""
         if line not in self.lines:
             yield "line %d of %s gave\n%s" % (line, self.name, "\n".join(messages))
             return

@@ -36,8 +36,6 @@ def results_in(said):
 
 
 class Tests:
-    """The crate of tests, of these files."""
-
     def __init__(self, room, files):
         self.room, self.wanted = room, {}
         for module, text in files.items():
@@ -48,7 +46,6 @@ class Tests:
         tried.write(room, "tests", {"lib.rt": ROOT, "tests.rt": "//! All of them.\n" + modules, **written})
 
     def counts(self):
-        """How many tests must pass, and how many must fail."""
         failing = sum(message is not None for message in self.wanted.values())
         return len(self.wanted) - failing, failing
 
@@ -60,7 +57,6 @@ class Tests:
         return [fault for test in sorted({*self.wanted, *given}) for fault in self.compare(test, given)]
 
     def compare(self, test, given):
-        """The faults of one test."""
         name = "%s::%s" % test
         if test not in given:
             yield "the test %s didn't run" % name

@@ -12,7 +12,6 @@ WORDS = {"ufmt_conv": "lengths", "ufmt_lines": "--version"}
 
 
 def built(place, name):
-    """A program, built in this folder with nothing proved."""
     return build.program(place, name, build.of_sources(place, name))
 
 

@@ -78,7 +78,6 @@ def build_each(trial, programs, library):
 
 
 def kit(trial, script):
-    """The path with this script as `rt`."""
     made = trial.room / "kit"
     made.mkdir(exist_ok=True)
     (made / "rt").write_text(script)

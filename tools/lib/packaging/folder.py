@@ -40,7 +40,6 @@ def commit():
 
 
 def facts(is_proved):
-    """What the build says of itself."""
     return {"version": version(), "kit": said("rt", "version"), "commit": commit(), "proved": "yes" if is_proved else "no"}
 
 

@@ -52,7 +52,6 @@ def install(source, prefix):
 
 
 def listed(prefix):
-    """The files that are installed there."""
     return (prefix / FILES).read_text().splitlines() if (prefix / FILES).is_file() else []
 
 

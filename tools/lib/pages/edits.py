@@ -29,7 +29,6 @@ class Edit:
             self.change = self.path().read_text().rstrip("\n").split("\n")
 
     def path(self):
-        """The file of an edit that the gate tries."""
         return TOP / "crates" / self.crate / "must-fail" / (self.name + ".edit")
 
     def told(self):

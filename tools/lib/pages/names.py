@@ -53,7 +53,6 @@ def sources():
 
 
 def module(crate, side, names):
-    """The file of a module, or None."""
     for above in (TOP / "crates", KIT):
         folder = above / crate / side
         file = folder.joinpath(*names).with_suffix(".antt")

@@ -36,7 +36,6 @@ class Row(NamedTuple):
 
 
 def rows():
-    """Each name of the section's list."""
     lines = PAGE.read_text().split("\n")
     at = lines.index(SECTION) + 1
     while at < len(lines) and not lines[at].startswith("#"):

@@ -44,8 +44,6 @@ class Ran(NamedTuple):
 
 
 class Cases:
-    """Counts cases and faults of one program."""
-
     def __init__(self, program):
         self.program = pathlib.Path(program).resolve()
         self.room = pathlib.Path(tempfile.mkdtemp(prefix="cases-"))
@@ -90,7 +88,6 @@ class Cases:
                 self.judge("%s: %s %s, of %s" % (part, words, devices, text[:40]), ran, int(status), filled(output), filled(line))
 
     def end(self):
-        """Prints the counts, and returns the tool's status."""
         shutil.rmtree(self.room)
         print("%d cases, %d faults" % (self.count, self.faults))
         return 1 if self.faults else 0
@@ -136,7 +133,6 @@ class Cases:
         return copy
 
     def byte_by_byte(self, *arguments, text):
-        """Runs the program with devices that move one byte at a call."""
         return self.run(*arguments, text=text, variables={"LD_PRELOAD": str(self.meter.library), "COUNTS_READ": "1", "COUNTS_WRITE": "1"})
 
     def judge_messages(self, name, arguments, lines):
@@ -256,5 +252,4 @@ def shown(ran):
 
 
 def texts(name):
-    """The plain text and the pretty text of this name."""
     return tuple((data.DATA / "texts" / (name + end)).read_bytes() for end in (".plain", ".pretty"))

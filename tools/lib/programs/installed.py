@@ -41,7 +41,6 @@ def texts_of_page(page, section):
 
 
 def statuses_of(calling):
-    """The table of statuses in a CALLING.md."""
     return dict(re.findall(r"^\| (\d+) \| (.*) \|$", calling, re.MULTILINE))
 
 

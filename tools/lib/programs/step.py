@@ -19,7 +19,6 @@ def built(name, build=""):
 
 
 def examples():
-    """The programs of the pages."""
     cases = Cases(built("example_parse_program"))
     cases.table("parse.txt", {})
     # Each of the five pieces is a write.
