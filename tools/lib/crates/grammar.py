@@ -23,7 +23,7 @@ def names(count):
     return ["f%d" % number for number in range(1, count + 1)]
 
 
-def listed(items, comma):
+def listed(items, comma=False):
     return ", ".join(items) + ("," if comma and items else "")
 
 
@@ -45,88 +45,73 @@ def commas(count):
     return ((count % 2 == 0, count % 2 == 0),)
 
 
+def pairs(values, form="%s: %d"):
+    """The fields' names with these values."""
+    return [form % pair for pair in zip(names(len(values)), values)]
+
+
+def braced(name, items):
+    return "%s { %s }" % (name, listed(items))
+
+
 def struct_text(name, values):
-    if not values:
-        return name
-    return "%s { %s }" % (name, ", ".join("f%d: %d" % pair for pair in enumerate(values, 1)))
-
-
-def dotted_text(name, values):
-    """The text of a struct that ends in dots. The values are pairs of a field's name and number."""
-    return "%s { %s }" % (name, ", ".join(["%s: %d" % pair for pair in values] + [".."]))
+    return braced(name, pairs(values)) if values else name
 
 
 def tuple_text(name, values):
-    return "%s(%s)" % (name, ", ".join(map(str, values))) if values else name
+    return "%s(%s)" % (name, listed(map(str, values))) if values else name
 
 
 def types(count):
-    typed = ", ".join("%s: u8" % name for name in names(count))
-    return "\n#[derive(Drop)]\nstruct Named%d { %s }\n\n#[derive(Drop)]\nstruct Tuple%d(%s);\n" % (
-        count, typed, count, ", ".join(["u8"] * count))
+    return "\n#[derive(Drop)]\nstruct %s\n\n#[derive(Drop)]\nstruct Tuple%d(%s);\n" % (
+        braced("Named%d" % count, ["%s: u8" % name for name in names(count)]), count, listed(["u8"] * count))
 
 
 def field_forms(count, inner, outer):
     """The calls of `fields!` for so many fields, and their texts."""
-    end = "," if outer else ""
-    values = list(range(1, count + 1))
-    fields = listed(names(count), inner)
-    valued = ["%s: %du8" % pair for pair in zip(names(count), values)]
-    yield "fields!(out, named, Named%d { %s }%s)" % (count, fields, end), struct_text("Named%d" % count, values)
-    yield "fields!(out, tuple, Tuple%d(%s)%s)" % (count, fields, end), tuple_text("Tuple%d" % count, values)
-    yield "fields!(out, Other { %s }%s)" % (listed(valued, inner), end), struct_text("Other", values)
-    unnamed = listed(["%du8" % value for value in values], inner)
-    yield "fields!(out, Other(%s)%s)" % (unnamed, end), tuple_text("Other", values)
+    values = range(1, count + 1)
+    fields, valued = listed(names(count), inner), listed(pairs(values, "%s: %du8"), inner)
+    yield "named, Named%d { %s }" % (count, fields), struct_text("Named%d" % count, values), outer
+    yield "tuple, Tuple%d(%s)" % (count, fields), tuple_text("Tuple%d" % count, values), outer
+    yield "Other { %s }" % valued, struct_text("Other", values), outer
+    yield "Other(%s)" % listed(["%du8" % value for value in values], inner), tuple_text("Other", values), outer
     if count:
-        yield "fields!(out, Local { %s }%s)" % (fields, end), struct_text("Local", values)
-        yield "fields!(out, Local(%s)%s)" % (fields, end), tuple_text("Local", values)
+        yield "Local { %s }" % fields, struct_text("Local", values), outer
+        yield "Local(%s)" % fields, tuple_text("Local", values), outer
     else:
-        yield "fields!(out, unit, Unit%s)" % end, "Unit"
-        yield "fields!(out, Variant%s)" % end, "Variant"
+        yield "unit, Unit", "Unit", outer
+        yield "Variant", "Variant", outer
 
 
 def dotted_forms(count, outer):
     """The calls of `fields!` with dots for so many fields, and their texts."""
-    end = "," if outer else ""
-    pairs = list(zip(names(count), range(1, count + 1)))
-    apart = [pairs, pairs[-1:], []] if count else [[]]
-    for shown in apart:
-        fields = ", ".join([name for name, _ in shown] + [".."])
-        yield "fields!(out, named, Named%d { %s }%s)" % (count, fields, end), dotted_text("Named%d" % count, shown)
-    valued = ", ".join(["%s: %du8" % pair for pair in pairs] + [".."])
-    yield "fields!(out, Other { %s }%s)" % (valued, end), dotted_text("Other", pairs)
+    fields, values = names(count), pairs(range(1, count + 1))
+    for some in [slice(0, count), slice(count - 1, count), slice(0, 0)] if count else [slice(0, 0)]:
+        yield braced("named, Named%d" % count, fields[some] + [".."]), braced("Named%d" % count, values[some] + [".."]), outer
+    yield braced("Other", pairs(range(1, count + 1), "%s: %du8") + [".."]), braced("Other", values + [".."]), outer
     if count:
-        fields = ", ".join(names(count) + [".."])
-        yield "fields!(out, Local { %s }%s)" % (fields, end), dotted_text("Local", pairs)
+        yield braced("Local", fields + [".."]), braced("Local", values + [".."]), outer
 
 
 def fields_test(count):
-    values = ", ".join("%s: %d" % pair for pair in zip(names(count), range(1, count + 1)))
-    lines = ["    let named = Named%d { %s };" % (count, values)]
-    lines.append("    let tuple = Tuple%d(%s);" % (count, ", ".join(map(str, range(1, count + 1)))))
-    if count:
-        numbers = ", ".join("%du8" % value for value in range(1, count + 1))
-        lines.append("    let [%s] = [%s];" % (", ".join(names(count)), numbers))
-    else:
-        lines.append("    let unit = Unit;")
+    values = range(1, count + 1)
+    lines = ["    let named = %s;" % braced("Named%d" % count, pairs(values)), "    let tuple = Tuple%d(%s);" % (count, listed(map(str, values)))]
+    lines.append("    let [%s] = [%s];" % (listed(names(count)), listed("%du8" % value for value in values)) if count else "    let unit = Unit;")
     forms = [form for pair in commas(count) for form in field_forms(count, *pair)]
     forms += [form for outer in (False, True) for form in dotted_forms(count, outer)]
-    lines += [row(source, text, number) for number, (source, text) in enumerate(forms, 1)]
+    lines += [row("fields!(out, %s%s)" % (source, "," if outer else ""), text, number) for number, (source, text, outer) in enumerate(forms, 1)]
     return test("fields_%d" % count, lines)
 
 
 def lines_of(kinds):
     """Lines of pieces: each kind by itself, and as the first of three, in the middle and as the last."""
-    for kind in range(len(kinds)):
-        yield [kinds[kind]]
-    for kind in range(len(kinds)):
-        yield [kinds[kind], kinds[(kind + 1) % len(kinds)], kinds[(kind + 5) % len(kinds)]]
+    yield from ([kind] for kind in kinds)
+    yield from ([kinds[(at + by) % len(kinds)] for by in (0, 1, 5)] for at in range(len(kinds)))
 
 
 def line(pieces, first):
     """The pieces in a row, with a number of its own for each, and their text."""
-    forms = ("d", "04x", "04o", "010b")
-    numbers = [[format(number, form) for form in forms] for number in range(first, first + len(pieces))]
+    numbers = [[format(number, form) for form in ("d", "04x", "04o", "010b")] for number in range(first, first + len(pieces))]
     filled = [(source.format(*each), text.format(*each)) for each, (source, text) in zip(numbers, pieces)]
     return ", ".join(source for source, _ in filled), "".join(text for _, text in filled)
 
@@ -168,78 +153,64 @@ fn %s(text: &str) -> Outcome<%s, NoValue> {
 
 def parsed_row(name, shape, fields, text, values, number):
     """A row that parses a text, and compares the fields that come with `values`, or with none if there is no value."""
-    wanted = "&[%s]" % ", ".join(map(str, values)) if values is not None else "&[]"
-    found = "Right(%s) => same_parts(&rt, %s, &[%s], %s)," % (shape, quoted("row %d" % number), fields, wanted)
-    if values is None:
-        found = "Wrong(NoValue::NotText) => {}"
-    return "    match %s(%s) {\n        %s\n        _ => same_parts(&rt, %s, &[255], %s),\n    }" % (
-        name, quoted(text), found, quoted("row %d" % number), wanted)
+    wanted, place = "&[%s]" % listed(map(str, values or [])), quoted("row %d" % number)
+    found = "Wrong(NoValue::NotText) => {}" if values is None else "Right(%s) => same_parts(&rt, %s, &[%s], %s)," % (shape, place, fields, wanted)
+    return "    match %s(%s) {\n        %s\n        _ => same_parts(&rt, %s, &[255], %s),\n    }" % (name, quoted(text), found, place, wanted)
 
 
 def parse_fields_tests(count):
-    fields, values = ", ".join(names(count)), list(range(101, 101 + count))
-    exchanged = list(reversed(names(count)))
-    rows = []
+    fields, values, rows = ", ".join(names(count)), list(range(101, 101 + count)), []
     for number, (inner, outer) in enumerate(commas(count), 1):
-        list_of, end = listed(names(count), inner), "," if outer else ""
-        for word, kind, text in (("named", "Named%d { %s }", struct_text), ("tuple", "Tuple%d(%s)", tuple_text)):
-            name = "%s_%d_%d" % (word, count, number)
-            call = "parse_fields!((), &mut parser, %s%s)" % (kind % (count, list_of), end)
-            yield parse_function(name, kind.split("%")[0] + str(count), call)
-            title = kind.split("%")[0] + str(count)
-            rows.append(parsed_row(name, kind % (count, fields), fields, text(title, values), values, number))
-            rows.append(parsed_row(name, kind % (count, fields), fields, text(title + "x", values), None, number))
-            rows.append(parsed_row(name, kind % (count, fields), fields, text(title, values + [1]), None, number))
-    swapped = "Named%d { %s }" % (count, ", ".join("%s: 1" % name for name in exchanged))
+        for word, form, text in (("named", "%s { %s }", struct_text), ("tuple", "%s(%s)", tuple_text)):
+            name, title = "%s_%d_%d" % (word, count, number), "%s%d" % (word.capitalize(), count)
+            yield parse_function(name, title, "parse_fields!((), &mut parser, %s%s)" % (form % (title, listed(names(count), inner)), "," if outer else ""))
+            for its, found in ((text(title, values), values), (text(title + "x", values), None), (text(title, values + [1]), None)):
+                rows.append(parsed_row(name, form % (title, fields), fields, its, found, number))
     if count == 0:
         yield parse_function("unit", "Unit", "parse_fields!((), &mut parser, Unit)")
-        rows.append(parsed_row("unit", "Unit", "", "Unit", [], 0))
-        rows.append(parsed_row("unit", "Unit", "", "Unit1", None, 0))
+        rows += [parsed_row("unit", "Unit", "", "Unit", [], 0), parsed_row("unit", "Unit", "", "Unit1", None, 0)]
     if count > 1:
+        swapped = braced("Named%d" % count, ["%s: 1" % name for name in reversed(names(count))])
         rows.append(parsed_row("named_%d_1" % count, "Named%d { %s }" % (count, fields), fields, swapped, None, 0))
     yield test("parse_fields_%d" % count, rows)
 
 
-def variant(kind, count, comma=False):
-    """A variant: how it is declared, how it is written for the macros, and its text for some values."""
-    title, listed_names = "%s%d" % (kind, count), listed(names(count), comma)
-    if kind == "Unit":
-        return title, title, lambda values: title
-    if kind == "Struct":
-        declared = ", ".join("%s: u8" % name for name in names(count))
-        written = "%s { %s }" % (title, listed_names)
-        return "%s { %s }" % (title, declared), written, lambda values: struct_text(title, values)
-    declared = "%s(%s)" % (title, ", ".join(["u8"] * count))
-    return declared, "%s(%s)" % (title, listed_names), lambda values: tuple_text(title, values)
+class Variant:
+    """A variant of an enum, `Unit1`, `Struct2` or `Tuple2`, with its fields."""
+
+    def __init__(self, kind, count):
+        self.kind, self.title, self.count = kind, "%s%d" % (kind, count), 0 if kind == "Unit" else count
+
+    def of(self, items):
+        return {"Unit": self.title, "Struct": "%s { %s }" % (self.title, items), "Tuple": "%s(%s)" % (self.title, items)}[self.kind]
+
+    def declared(self):
+        return self.of(listed(["u8"] * self.count if self.kind == "Tuple" else ["%s: u8" % name for name in names(self.count)]))
+
+    def written(self, comma):
+        """How it is written for the macros."""
+        return self.of(listed(names(self.count), comma))
+
+    def value(self):
+        """An expression, with the values 1, 2 and so on."""
+        return self.of(listed(map(str, range(1, self.count + 1)) if self.kind == "Tuple" else pairs(range(1, self.count + 1))))
+
+    def text(self, first):
+        """The text for values from this one on."""
+        values = range(first, first + self.count)
+        return {"Unit": lambda *_: self.title, "Struct": struct_text, "Tuple": tuple_text}[self.kind](self.title, values)
 
 
 def enum_test(name, members, inner, outer):
     """An enum with these variants, each of which is parsed. Further texts are no variant's. `inner` also says whether the fields of each
     variant end in a comma."""
-    made = [variant(*member, inner) for member in members]
-    yield "\n#[derive(Drop)]\nenum %s { %s }\n" % (name, ", ".join(declared for declared, _, _ in made))
-    listed_variants = listed([written for _, written, _ in made], inner)
-    call = "parse_variants!((), &mut parser, %s { %s }%s)" % (name, listed_variants, "," if outer else "")
-    yield parse_function("parse_%s" % name.lower(), name, call)
-    rows = []
-    for number, ((kind, count), (_, written, text)) in enumerate(zip(members, made), 1):
-        count = 0 if kind == "Unit" else count
-        values = list(range(100 + number, 100 + number + count))
-        shape = "%s::%s" % (name, written)
-        rows.append(parsed_row("parse_%s" % name.lower(), shape, ", ".join(names(count)), text(values), values, number))
-    for number, text in enumerate(("Unit99", "7", "Tuple1(7, 8)", "[]"), 90):
-        rows.append(parsed_row("parse_%s" % name.lower(), "", "", text, None, number))
-    yield test("parse_%s_variants" % name.lower(), rows)
-
-
-def value_of(kind, count):
-    """The variant as an expression, with the values 1, 2 and so on."""
-    title, values = "%s%d" % (kind, count), range(1, count + 1)
-    if kind == "Unit":
-        return title
-    if kind == "Struct":
-        return "%s { %s }" % (title, ", ".join("f%d: %d" % (value, value) for value in values))
-    return "%s(%s)" % (title, ", ".join(map(str, values)))
+    yield "\n#[derive(Drop)]\nenum %s\n" % braced(name, [one.declared() for one in members])
+    function, variants = "parse_%s" % name.lower(), listed([one.written(inner) for one in members], inner)
+    yield parse_function(function, name, "parse_variants!((), &mut parser, %s { %s }%s)" % (name, variants, "," if outer else ""))
+    rows = [parsed_row(function, "%s::%s" % (name, one.written(inner)), ", ".join(names(one.count)), one.text(100 + number),
+                       list(range(100 + number, 100 + number + one.count)), number) for number, one in enumerate(members, 1)]
+    rows += [parsed_row(function, "", "", text, None, number) for number, text in enumerate(("Unit99", "7", "Tuple1(7, 8)", "[]"), 90)]
+    yield test("%s_variants" % function, rows)
 
 
 def print_function(function, name, variants, outer):
@@ -252,30 +223,22 @@ fn %s(value: &%s, out: &mut Output<Page>) -> Outcome<(), Full> {
 
 def print_variants_test(name, members, inner, outer):
     """Each variant of an enum printed by `variants!`, with and without a comma at the end of its fields."""
-    texts = [variant(kind, count)[2](list(range(1, count + 1))) for kind, count in members]
     rows = []
     for comma in (False, True):
         function = "print_%s_%d" % (name.lower(), comma)
-        written = [variant(*member, comma)[1] for member in members]
-        yield print_function(function, name, listed(written, inner), outer)
-        calls = ["%s(&%s::%s, out)" % (function, name, value_of(*member)) for member in members]
-        rows += [row(call, text, number) for number, (call, text) in enumerate(zip(calls, texts), 1)]
+        yield print_function(function, name, listed([one.written(comma) for one in members], inner), outer)
+        rows += [row("%s(&%s::%s, out)" % (function, name, one.value()), one.text(1), number) for number, one in enumerate(members, 1)]
     yield test("print_%s_variants" % name.lower(), rows)
 
 
 def variants_tests():
-    kinds = (("Unit", 1), ("Struct", 2), ("Tuple", 3))
-    number = 0
-    for first in range(3):
-        for inner in (False, True):
-            number += 1
-            outer = number % 4 < 2
-            members = [kinds[(first + place) % 3] for place in range(3)]
-            yield from enum_test("E%d" % number, members, inner, outer)
-            yield from print_variants_test("E%d" % number, members, inner, outer)
-    wide = [(kind, count) for count in PARSED for kind in ("Struct", "Tuple")]
-    yield from enum_test("Wide", wide, False, False)
-    bare = [("Tuple", 0), ("Struct", 0), ("Unit", 1)]
+    kinds = (Variant("Unit", 1), Variant("Struct", 2), Variant("Tuple", 3))
+    for number in range(1, 7):
+        members, inner, outer = [kinds[((number - 1) // 2 + place) % 3] for place in range(3)], number % 2 == 0, number % 4 < 2
+        yield from enum_test("E%d" % number, members, inner, outer)
+        yield from print_variants_test("E%d" % number, members, inner, outer)
+    yield from enum_test("Wide", [Variant(kind, count) for count in PARSED for kind in ("Struct", "Tuple")], False, False)
+    bare = [Variant("Tuple", 0), Variant("Struct", 0), Variant("Unit", 1)]
     yield from enum_test("Bare", bare, False, False)
     yield from print_variants_test("Bare", bare, False, False)
 
