@@ -1,7 +1,7 @@
 """Bytes of stack that calls take at most."""
 from lib import data, measures
 from lib.bench import build, frames
-from lib.findings import case
+from lib.findings import case, ended
 
 # A program, the library that it is over, and its calls: what each does, and its functions.
 PROGRAMS = [(*part.split(), [(told, *names.split()) for told, names in (row.split(" => ") for row in rows)])
@@ -26,9 +26,8 @@ def past_bounds(room, programs):
         print("%-32s %8d %14s" % (told, taken[0], taken[1] or "-"), flush=True)
         if any(count > bound for count, bound in zip(taken, bounds[name])):
             past.append(case(told, "at most %d bytes of stack, and %d a level" % tuple(bounds[name]), "%d and %d" % tuple(taken)))
-    print("\n".join(past) if past else "each is within its bound")
     return past
 
 
 def table(room, _given):
-    return 1 if past_bounds(room, PROGRAMS) else 0
+    return ended(past_bounds(room, PROGRAMS), "calls beside their bounds")

@@ -17,15 +17,15 @@ inputs that are no texts and options that mean nothing (cases.py says where what
 
 With `--write` it writes tools/data/c/rows.tsv again, by rustc and xxd, and interface.txt, and stops.
 """
+import ctypes
 import pathlib
 import shutil
 import tempfile
 
 from lib import measures
-from lib.c import archive, callers, cases, costs, header, leaves, stored
+from lib.c import archive, callers, cases, costs, header, leaves, library as by_python, stored
 from lib.c import huge as huge_options
-from lib.c.calling import CRATE, DATA, DETAIL, FILL, VALGRIND, by_program, caller_in_c, compare, here, rooms, run, under_valgrind, without_detail
-from lib.c.library import Library
+from lib.c.calling import CRATE, DATA, VALGRIND, by_program, caller_in_c, compare, here, rooms, run, under_valgrind, without_detail
 from lib.c.random_cases import RandomCases
 from lib.findings import ended
 
@@ -102,8 +102,8 @@ def main(given):
         by_all += without_detail(faults, program, tried[:: 1 if len(tried) < 1000 else 7])
         from_rust = by_rust(faults, room, library, tried)
         by_valgrind = under_valgrind(faults, program, made + huge)
-        loaded = Library(shared)
-        compare(faults, "Python", tried, (loaded.make(case, size, FILL, DETAIL) for case, size in tried))
+        loaded = ctypes.CDLL(str(shared))
+        compare(faults, "Python", tried, (by_python.make(loaded, case, size) for case, size in tried))
         by_pages = callers.by_callers(faults, room, library, shared, made)
     counts = len(made) + len(huge), len(cases.CALLS), by_all, from_rust, by_valgrind + len(some), randomly, steps, by_pages
     return ended((fault[:600] for fault in faults), "%d cases of %d calls: %d calls from C and as many from Python, %d from Rust, %d under valgrind, %d at random, "
