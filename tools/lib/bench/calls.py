@@ -21,7 +21,8 @@ def bytes_of(room, library, entry):
     """How many bytes of code and constants a program without a C library has that only makes this call."""
     helpers, made = room / "memory.o", room / "alone"
     if not helpers.exists():
-        output_of(["gcc", "-Os", "-ffreestanding", "-fno-builtin", "-ffunction-sections", "-c", TOP / "tools" / "data" / "bench" / "memory.c", "-o", helpers])
+        source = TOP / "tools" / "data" / "bench" / "memory.c"
+        output_of(["gcc", "-Os", "-ffreestanding", "-fno-builtin", "-ffunction-sections", "-c", source, "-o", helpers])
     output_of(["gcc", "-nostdlib", "-static", "-no-pie", "-Wl,--gc-sections", "-Wl,-e," + entry, "-Wl,-u," + entry, "-o", made,
                "-Wl,--start-group", library, helpers, "-Wl,--end-group"])
     found = re.findall(r"\]\s+\.(?:text|rodata|data)\S*\s+\S+\s+\S+\s+\S+\s+([0-9a-f]+)", output_of(["readelf", "-SW", made]))
@@ -52,8 +53,8 @@ def sizes(room):
 
 
 def counts(program):
-    for told, name, number in CALLS:
-        yield told, instructions([program], name, number), lambda folder, peer, name=name, number=number: instructions([folder / "calls", peer], name, number)
+    for told, *its in CALLS:
+        yield told, instructions([program], *its), lambda folder, peer, its=its: instructions([folder / "calls", peer], *its)
 
 
 def table(room, given):

@@ -31,7 +31,8 @@ def wrong(case, is_printed, ran):
 
 def by_callers(faults, room, library, shared, made):
     """Runs each caller on texts that fit its buffer, texts that don't, and inputs that are no texts."""
-    usable = [case for case in made if case.call == "convert" and case.arguments[:2] == (0, 1) and b"\0" not in case.arguments[2] and valid_up_to(case.arguments[2]) is None]
+    usable = [case for case in made if case.call == "convert" and case.arguments[:2] == (0, 1)]
+    usable = [case for case in usable if b"\0" not in case.arguments[2] and valid_up_to(case.arguments[2]) is None]
     texts = [case for case in usable if case.text is not None and len(case.text) <= 256]
     short = texts[::25] + [case for case in texts if not case.arguments[2].isascii()][:3]
     long = [case for case in usable if case.text is not None and len(case.text) > 256][:3]
@@ -40,8 +41,8 @@ def by_callers(faults, room, library, shared, made):
         sys.exit("no texts for the callers")
     count = 0
     for name, words in callers(room, library, shared):
-        told = [("%r" % case.arguments[2], wrong(case, case in short or name == "Python" and case in long, programs.run([*words, case.arguments[2].decode()])))
-                for case in short + long + none]
+        printed = short + (long if name == "Python" else [])
+        told = [("%r" % case.arguments[2], wrong(case, case in printed, programs.run([*words, case.arguments[2].decode()]))) for case in short + long + none]
         if name in WITHOUT_A_TEXT:
             ran, (status, error) = programs.run(words), WITHOUT_A_TEXT[name]
             told.append(("no text", None if ran == (status, b"", error) else "wanted status %d, %r, got %s" % (status, error, ran)))

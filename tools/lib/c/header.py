@@ -11,12 +11,14 @@ import tempfile
 
 from lib.c import cases
 from lib.c.calling import DATA, HEADER, WARNINGS, here, run
+from lib.top import TOP
 
 STANDARDS = (("gcc", "c", "c99"), ("gcc", "c", "c17"), ("g++", "c++", "c++11"), ("g++", "c++", "c++17"))
 # By these the header is only compiled. What a compiler takes by default has more names than the standard.
 MORE_STANDARDS = (*(("gcc", "c", name) for name in ("c11", "c2x", "gnu99", "gnu11", "gnu17", "gnu2x")),
                   *(("g++", "c++", name) for name in ("c++14", "c++20", "c++23", "gnu++11", "gnu++17", "gnu++20", "gnu++23")))
 STORED = DATA / "interface.txt"
+TOLD = HEADER.relative_to(TOP)
 
 
 def laid_out(structs, constants):
@@ -49,8 +51,9 @@ def header(faults, library, needed):
     exported = set(re.findall(r" T (\w+)", run(["nm", "--defined-only", library])))
     declared = set(re.findall(r"^\w+ (ufmt_\w+)\(", HEADER.read_text(), re.M))
     if interface() != STORED.read_text():
-        faults.append("crates/ufmt_c/include/ufmt.h:1: not as tools/data/c/interface.txt has it: an old caller may break; `x try c --write` writes it again")
-    for where, names, told in (("crates/ufmt_c/include/ufmt.h", declared, "declared"), ("tools/lib/c/cases.py", {"ufmt_" + call for call in cases.CALLS}, "tried")):
+        faults.append("%s:1: not as tools/data/c/interface.txt has it: an old caller may break; `x try c --write` writes it again" % TOLD)
+    tried = {"ufmt_" + call for call in cases.CALLS}
+    for where, names, told in ((TOLD, declared, "declared"), ("tools/lib/c/cases.py", tried, "tried")):
         faults += ["%s:1: %s: wanted exported and %s, got one of both" % (where, name, told) for name in sorted(exported ^ names)]
     more = set(run(["nm", "--undefined-only", library]).split()[1:]) - {"U", *needed}
     if more:

@@ -163,7 +163,8 @@ def parse_fields_tests(count):
     for number, (inner, outer) in enumerate(commas(count), 1):
         for word, form, text in (("named", "%s { %s }", struct_text), ("tuple", "%s(%s)", tuple_text)):
             name, title = "%s_%d_%d" % (word, count, number), "%s%d" % (word.capitalize(), count)
-            yield parse_function(name, title, "parse_fields!((), &mut parser, %s%s)" % (form % (title, listed(names(count), inner)), "," if outer else ""))
+            written = form % (title, listed(names(count), inner)) + ("," if outer else "")
+            yield parse_function(name, title, "parse_fields!((), &mut parser, %s)" % written)
             for its, found in ((text(title, values), values), (text(title + "x", values), None), (text(title, values + [1]), None)):
                 rows.append(parsed_row(name, form % (title, fields), fields, its, found, number))
     if count == 0:

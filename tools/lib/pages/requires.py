@@ -64,7 +64,8 @@ def faults_of(functions, listed):
 
 
 def main(arguments):
-    functions = [("%s::%s" % (crate, name), function) for crate in (*libraries(), *OTHERS) for name, function in public_functions(TOP / "crates" / crate / "src")]
+    functions = [("%s::%s" % (crate, name), function) for crate in (*libraries(), *OTHERS)
+                 for name, function in public_functions(TOP / "crates" / crate / "src")]
     listed = list(rows())
     asking = [(name, function) for name, function in functions if function.requires]
     if arguments:

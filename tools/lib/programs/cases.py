@@ -83,8 +83,9 @@ class Cases:
                 columns = row.split(" => ")
                 words, text, status, output, line, devices = columns + ["%", "%", ""][len(columns) - 3 :]
                 streams = dict(device.split("=") for device in devices.split() if "=" in device)
-                ran = self.run(*([] if words == "-" else map(filled, words.split(" "))), text=filled(text), source=streams.get("in"), sink=streams.get("out"),
-                               error=streams.get("err"), as_nobody="nobody" in devices)
+                arguments = [] if words == "-" else map(filled, words.split(" "))
+                ran = self.run(*arguments, text=filled(text), source=streams.get("in"), sink=streams.get("out"), error=streams.get("err"),
+                               as_nobody="nobody" in devices)
                 self.judge("%s: %s %s, of %s" % (part, words, devices, text[:40]), ran, int(status), filled(output), filled(line))
 
     def end(self):
@@ -112,9 +113,10 @@ class Cases:
             if is_other:
                 os.setuid(NOBODY)
 
+        program, taken_in = self.for_all() if is_other else self.program, {"input": text} if source is None else {"stdin": streams[0]}
         try:
-            ran = subprocess.run([self.for_all() if is_other else self.program, *arguments], **({"input": text} if source is None else {"stdin": streams[0]}),
-                                 stdout=streams[1], stderr=streams[2], cwd=self.room, preexec_fn=prepared, env=dict(os.environ, **(variables or {})), timeout=SECONDS)
+            ran = subprocess.run([program, *arguments], **taken_in, stdout=streams[1], stderr=streams[2], cwd=self.room, preexec_fn=prepared,
+                                 env=dict(os.environ, **(variables or {})), timeout=SECONDS)
             return Ran(ran.returncode, ran.stdout or b"", ran.stderr or b"")
         except subprocess.TimeoutExpired:
             return Ran(None, b"", b"")

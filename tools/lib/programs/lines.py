@@ -24,8 +24,8 @@ CHUNK = 64 * 1024
 LONG = b"got [1, 12345678901234567890, 23456789012345678901]\n"
 LONG_PRETTY = b"got [\n    1,\n    12345678901234567890,\n    23456789012345678901,\n]\n"
 # Of the table.
-TEXTS = {"plain": PLAIN, "pretty": PRETTY, "help": HELP, "usage": USAGE.encode(), "line": LONG, "cut": LONG[:20], "rest": LONG[20:], "group": LONG_PRETTY,
-         "group-cut": LONG_PRETTY[:20], "group-rest": LONG_PRETTY[20:], "long-name": b"b" * 300}
+TEXTS = {"plain": PLAIN, "pretty": PRETTY, "help": HELP, "version": VERSION, "usage": USAGE.encode(), "line": LONG, "cut": LONG[:20], "rest": LONG[20:],
+         "group": LONG_PRETTY, "group-cut": LONG_PRETTY[:20], "group-rest": LONG_PRETTY[20:], "long-name": b"b" * 300}
 # Logs by their names, each with what it becomes, and those that stay, in each mode.
 LOGS = data.named("programs/logs.txt")
 
@@ -40,7 +40,8 @@ def bytes_of(shown):
 
 
 def conversions(cases):
-    for name, (plain, pretty) in {"a line": (PLAIN, PRETTY), "the example": map(bytes_of, ("example.log", "example.pretty")), **LOGS["both ways"]}.items():
+    example = bytes_of("example.log"), bytes_of("example.pretty")
+    for name, (plain, pretty) in {"a line": (PLAIN, PRETTY), "the example": example, **LOGS["both ways"]}.items():
         cases.judge(name, cases.run(text=plain), 0, pretty)
         cases.judge("--plain: " + name, cases.run("--plain", text=pretty), 0, plain)
     for row, logs in ((), {"a pretty text": [PRETTY], **LOGS["plain stay"]}), (("--plain",), {"a plain text": [PLAIN], **LOGS["pretty stay"]}):
@@ -131,7 +132,8 @@ def named_pipe(cases):
 
 def messages(cases):
     """Each message is one write."""
-    cases.judge_messages("a missing file and a folder", ("none", "folder"), [cannot_read("none", IS_MISSING), cannot_read("folder", "Is a directory (os error 21)")])
+    missing, folder = cannot_read("none", IS_MISSING), cannot_read("folder", "Is a directory (os error 21)")
+    cases.judge_messages("a missing file and a folder", ("none", "folder"), [missing, folder])
     cases.judge_messages("an unknown option", ("-x",), ["ufmt_lines: unknown option: -x\n" + USAGE])
     cases.judge_messages("an argument that isn't UTF-8", (b"\xff",), ["ufmt_lines: an argument isn't UTF-8\n" + USAGE])
 
@@ -159,7 +161,8 @@ def terminals(cases):
     middle: the reason is said, and a line that had begun continues in the next file. Nor can one that went away be written."""
     leader, follower = pty.openpty()
     os.write(leader, LONG + b"\x04")
-    cases.judge("a terminal with one end of file, and a missing file", cases.run("-", "none", source=follower), 3, LONG_PRETTY, cannot_read("none", IS_MISSING))
+    ran = cases.run("-", "none", source=follower)
+    cases.judge("a terminal with one end of file, and a missing file", ran, 3, LONG_PRETTY, cannot_read("none", IS_MISSING))
     os.close(leader)
     os.close(follower)
     leader, follower = pty.openpty()
