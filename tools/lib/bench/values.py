@@ -6,7 +6,7 @@ import functools
 import json
 from typing import NamedTuple
 
-from lib.model.model import Block, plain, pretty, quoted
+from lib.model.document import Block, plain, pretty, quoted
 
 MASK = (1 << 64) - 1
 WORDS = ("status", "the line is open", "a, b: [c]", "x", "sensor 4 of 12", "valve",
