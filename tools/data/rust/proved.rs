@@ -3,8 +3,8 @@
 //! The tool that exports this crate writes `a[proved(i)]` for each index `a[i]`, `n / nonzero(d)` for each division by a variable,
 //! `.proved()` for `.unwrap()`, `encoded(c, &mut bytes)` for `c.encode_utf8(&mut bytes)`, and `ending(bytes)` for
 //! `bytes.last_chunk().unwrap()`. Without the feature `proved` they do what Rust does, which is to test. With it nothing is tested: the
-//! proofs say that each index is in bounds, that no divisor is 0, that each of these options is `Some`, and that a character has at
-//! most four bytes.
+//! proofs say that each index is in bounds, that no divisor is 0, that each of these options is `Some`, that a character has at most
+//! four bytes, and that a number's text begins in its buffer (`within`).
 #![allow(dead_code, unused_imports)]
 
 #[cfg(not(feature = "proved"))]
@@ -17,6 +17,11 @@ mod tested {
     #[inline(always)]
     pub(crate) fn nonzero<N>(divisor: N) -> N {
         divisor
+    }
+
+    #[inline(always)]
+    pub(crate) fn within<const N: usize>(start: usize) -> usize {
+        N - ((N - 1 - start) % N.next_power_of_two() + 1)
     }
 
     #[inline(always)]
@@ -96,6 +101,16 @@ mod untested {
         divisor
     }
 
+    #[inline(always)]
+    pub(crate) fn within<const N: usize>(start: usize) -> usize {
+        debug_assert!(start < N);
+        if start >= N {
+            // SAFETY: the contract of `end_of` requires that the start is within the buffer.
+            unsafe { core::hint::unreachable_unchecked() }
+        }
+        start
+    }
+
     // Core's function tests that there is room, and isn't inlined at `opt-level` "z".
     #[inline]
     pub(crate) fn encoded(character: char, bytes: &mut [u8; 4]) -> &str {
@@ -140,6 +155,6 @@ mod untested {
 }
 
 #[cfg(not(feature = "proved"))]
-pub(crate) use tested::{IsSome, encoded, ending, ending_mut, nonzero, proved};
+pub(crate) use tested::{IsSome, encoded, ending, ending_mut, nonzero, proved, within};
 #[cfg(feature = "proved")]
-pub(crate) use untested::{IsSome, encoded, ending, ending_mut, nonzero, proved};
+pub(crate) use untested::{IsSome, encoded, ending, ending_mut, nonzero, proved, within};

@@ -3,12 +3,25 @@ import re
 
 from lib.rust.lexer import Edits, Source, outside_texts
 
-CLAUSES = ("requires", "ensures")
 ATTRIBUTES = ("tactic", "cycle")
 # Words that no line of Rust here has. One that is left after the removal is a form that the tool doesn't know.
 UNKNOWN = ("ghost", "requires", "ensures", "tactic", "cycle", "Model", "Drop", "prove")
-# What is left where lines were removed.
-BLANK_LINES = ((r"\n\n\n+", r"\n\n"), (r"\{\n\n+", r"{\n"), (r"\n\n+( *\})", r"\n\1"))
+# `Drop` as a bound or in a `derive`, and `Model`: of forms that aren't here the words stay, and `check` finds them.
+BOUNDS = (
+    (r"(?m)^ *#\[derive\(Drop\)\]\n", ""),
+    (r"(#\[derive\(.*), Drop\)\]", r"\1)]"),
+    (r" \+ Drop\b(?![<(])", ""),
+    (r"\n *where\n *[\w:]+: Drop,(?=\n *[{;])", ""),
+    (r"\n *[\w:]+: Drop,(?=\n)", ""),
+    (r": Drop\b(?=[ >,])", ""),
+    (r"(?m)^use (?:core|std)::marker::Model;\n", ""),
+    (r"(?m)(?:^//.*\n)*^impl Model for [^{]*\{\s*\}\n", ""),
+)
+# What is left where lines were removed; a brace or a semicolon that stood after clauses goes to the line before it.
+SHAPE = (
+    (r"\n\n\n+", r"\n\n"), (r"\{\n\n+", r"{\n"), (r"\n\n+( *\})", r"\n\1"),
+    (r"\n *;\n", r";\n"), (r"([^\s,{}])\n *(\{\}?)\n", r"\1 \2\n"),
+)
 MATHEMATICS = re.compile(r"[^\x00-\x7f]")
 
 
@@ -20,16 +33,16 @@ def without_ghost(path, text):
         if token.name in REMOVERS and token.kind in ("name", "sign"):
             REMOVERS[token.name](source, edits, at)
     left = edits.apply()
-    for pattern, new in BLANK_LINES:
+    for pattern, new in BOUNDS + SHAPE:
         left = outside_texts(path, left, pattern, new)
     return left.lstrip("\n")
 
 
-def check(path, text, allowed=()):
+def check(path, text):
     """Ends with the place of the first word or sign of the prover that is left."""
     source = Source(path, text)
     for at, token in enumerate(source.tokens):
-        if token.kind == "name" and token.name in UNKNOWN and token.name not in allowed:
+        if token.kind == "name" and token.name in UNKNOWN:
             raise source.fault(at, "a form with `%s` that tools/lib/rust/ghost.py doesn't know" % token.name)
         if token.kind in ("name", "sign") and MATHEMATICS.search(token.name):
             raise source.fault(at, "`%s` is left of a ghost form" % token.name)
@@ -61,14 +74,10 @@ def group_after(source, at):
 def first_of_item(source, at):
     """The index of the `pub` or the attribute that an item begins with."""
     while True:
-        if source.name(at - 1) == "pub":
-            at -= 1
-        elif source.name(at - 1) == ")" and source.name(source.tokens[at - 1].pair - 1) == "pub":
-            at = source.tokens[at - 1].pair - 1
-        elif source.name(at - 1) == "]" and source.name(source.tokens[at - 1].pair - 1) == "#":
-            at = source.tokens[at - 1].pair - 1
-        else:
+        first = source.tokens[at - 1].pair - 1 if source.name(at - 1) in (")", "]") else at - 1
+        if source.name(first) not in ("pub", "#"):
             return at
+        at = first
 
 
 def with_comments(source, at):
@@ -95,64 +104,10 @@ def remove_clause(source, edits, at):
 
 
 def remove_attribute(source, edits, at):
-    """`#[tactic(..)]`, `#![tactic(..)]` and `#[cycle(..)]`, and `Drop` in a `derive`."""
+    """`#[tactic(..)]`, `#![tactic(..)]` and `#[cycle(..)]`."""
     bracket = at + 1 + (source.name(at + 1) == "!")
-    if source.name(bracket) != "[":
-        return
-    end = source.tokens[bracket].pair
-    if source.name(bracket + 1) in ATTRIBUTES:
-        edits.remove_lines(source.tokens[at].start, source.tokens[end].end)
-    if source.name(bracket + 1) == "derive":
-        names = [source.name(it) for it in range(bracket + 3, end - 1) if source.is_word(it)]
-        if names == ["Drop"]:
-            edits.remove_lines(source.tokens[at].start, source.tokens[end].end)
-        elif "Drop" in names:
-            kept = ", ".join(name for name in names if name != "Drop")
-            edits.replace(source.tokens[bracket + 3].start, source.tokens[end - 1].start, kept)
+    if source.name(bracket) == "[" and source.name(bracket + 1) in ATTRIBUTES:
+        edits.remove_lines(source.tokens[at].start, source.tokens[source.tokens[bracket].pair].end)
 
 
-def remove_drop(source, edits, at):
-    """`Drop` as a bound: `X: Drop`, `X: Y + Drop` and `X: Drop + Y`."""
-    token, before, after = source.tokens[at], source.name(at - 1), source.name(at + 1)
-    if before == "+":
-        edits.replace(source.tokens[at - 2].end, token.end, "")
-    elif before == ":" and after == "+":
-        edits.replace(token.start, source.tokens[at + 2].start, "")
-    elif before == ":" and after == ",":
-        remove_predicate(source, edits, at)
-    elif before == ":":
-        edits.replace(source.tokens[at - 2].end, token.end, "")
-
-
-def remove_predicate(source, edits, at):
-    """`I::IntoIter: Drop,` after `where`; also the `where`, if nothing else is after it."""
-    start = at - 1
-    while source.name(start - 1) not in ("where", ",", "<"):
-        start -= 1
-    if source.name(start - 1) == "<":
-        edits.replace(source.tokens[at - 2].end, source.tokens[at].end, "")
-        return
-    alone = source.name(start - 1) == "where" and source.name(at + 2) in CLAUSES + ("{", ";")
-    edits.remove_lines(source.tokens[start - alone].start, source.tokens[at + 1].end)
-
-
-def remove_model(source, edits, at):
-    """`impl Model for X { .. }`, and the import of `Model`."""
-    if source.name(at - 1) == "impl" and source.name(at + 1) == "for":
-        brace = source.find(at, ["{"])
-        edits.remove_lines(with_comments(source, at - 1), source.tokens[source.tokens[brace].pair].end)
-    elif source.name(at + 1) == ";":
-        start = at
-        while source.name(start) != "use":
-            start -= 1
-        edits.remove_lines(source.tokens[start].start, source.tokens[at + 1].end)
-
-
-REMOVERS = {
-    "ghost": remove_ghost,
-    "requires": remove_clause,
-    "ensures": remove_clause,
-    "#": remove_attribute,
-    "Drop": remove_drop,
-    "Model": remove_model,
-}
+REMOVERS = {"ghost": remove_ghost, "requires": remove_clause, "ensures": remove_clause, "#": remove_attribute}

@@ -78,16 +78,6 @@ class Source(object):
             at = (token.pair if token.pair is not None else at) + 1
         return at
 
-    def angle_end(self, at):
-        """The index of the `>` that belongs to the `<` at `at`."""
-        depth = 0
-        while at < len(self.tokens):
-            depth += {"<": 1, "<<": 2, ">": -1}.get(self.name(at), 0)
-            if depth == 0:
-                return at
-            at = (self.tokens[at].pair if self.name(at) in OPENING else at) + 1
-        raise self.fault(len(self.tokens) - 1, "a `<` without its `>`")
-
 
 def outside_texts(path, text, pattern, new):
     """The text with each match of this pattern replaced, except of those that begin in a literal."""

@@ -3,15 +3,19 @@ from lib.rust.converted import RULES
 from lib.rust.table import SUBSTITUTIONS
 
 PAGE_HEAD = ["| Why | In the sources → in Rust |", "|---|---|"]
-TESTS_HEAD = ["", "In the sources' own tests it puts these in the place of patterns, as Python writes them.", "", "| Pattern | In Rust |", "|---|---|"]
-FILE_HEAD = ["# Substitutions", "", "`x rust` puts each of these texts in the place of that of the sources.", "", "| File | In the sources | In Rust | Why |", "|---|---|---|---|"]
+TESTS_HEAD = ["", "Of the sources' own tests it replaces these patterns, as Python writes them.", "", "| Pattern | In Rust |", "|---|---|"]
+FILE_HEAD = [
+    "# Substitutions", "", "`x rust` puts each of these texts in the place of that of the sources.", "",
+    "| File | In the sources | In Rust | Why |", "|---|---|---|---|",
+]
 
 
 def table():
     """A row for each reason."""
     pairs = {}
     for each in SUBSTITUTIONS:
-        pair = "%s → %s" % (code(each.shown or each.old), code(each.new_shown or each.new))
+        old, _, new = each.shown.partition(" →")
+        pair = "%s → %s" % (code(old), code(new))
         if pair not in pairs.setdefault(each.why, []):
             pairs[each.why].append(pair)
     return "\n".join(PAGE_HEAD + ["| %s | %s |" % (why, "<br>".join(its)) for why, its in pairs.items()]) + "\n"

@@ -1,42 +1,18 @@
 """Tries the package that `x rust` writes, with the rustc and cargo that are there."""
 import os
-import pathlib
 import re
 import shutil
 import subprocess
 
-from lib.rust import export, linking, page, wrong
+from lib.rust import cores, export, linking, page, wrong
+from lib.rust.table import DATA
 
-DATA = linking.DATA / "rust"
+LIBRARY = '[lib]\npath = "lib.rs"\ncrate-type = ["staticlib"]'
 # Bytes of a program that makes one call, with the feature `proved` at O3: at most these.
-BYTES = {"ours_number": 470, "ours_struct": 1401, "ours_two": 1700, "ours_eight": 7187}
-PROFILES = """
-[workspace]
-
-[profile.release]
-panic = "abort"
-codegen-units = 1
-lto = true
-
-[profile.small]
-inherits = "release"
-opt-level = "s"
-
-[profile.smallest]
-inherits = "release"
-opt-level = "z"
-
-[profile.tested]
-inherits = "release"
-lto = false
-overflow-checks = true
-
-[profile.unlinked]
-inherits = "release"
-lto = false
-"""
-RUSTC = os.environ.get("RUSTC", "rustc")
+BYTES = {"ours_number": 456, "ours_struct": 1401, "ours_two": 1700, "ours_eight": 7187}
 LEVELS = {"release": "3", "small": "s", "smallest": "z", "unlinked": "3, without LTO"}
+# The profiles and features of programs that have no panicking branch.
+WITHOUT_PANICS = (("release", "proved"), ("small", "proved"), ("smallest", "proved"), ("smallest", "proved,small"), ("unlinked", "proved"))
 
 
 class Trial(object):
@@ -51,9 +27,9 @@ class Trial(object):
         self.faults += 1
         print(message, flush=True)
 
-    def cargo(self, words, folder=None, strict=True):
-        """Runs cargo. Its result is what cargo said, or None after a fault."""
-        environment = dict(self.environment, RUSTFLAGS="-D warnings", RUSTDOCFLAGS="-D warnings") if strict else self.environment
+    def cargo(self, words, folder=None, **more):
+        """Runs cargo with this in its environment. Its result is what cargo said, or None after a fault."""
+        environment = {**self.environment, "RUSTFLAGS": "-D warnings", "RUSTDOCFLAGS": "-D warnings", **more}
         ran = subprocess.run(["cargo", *words], cwd=folder or self.package, env=environment, stdin=subprocess.DEVNULL,
                              stdout=subprocess.PIPE, stderr=subprocess.STDOUT, text=True, errors="replace")
         if ran.returncode:
@@ -63,7 +39,7 @@ class Trial(object):
 
     def features(self):
         """The package compiles without warnings with each choice of features."""
-        for features in ("", "alloc", "std", "proved", "alloc,proved"):
+        for features in ("", "alloc", "std", "proved", "alloc,proved", "small"):
             self.cargo(["check", "--quiet", "-p", "ufmt", "--features", features])
 
     def tests(self):
@@ -74,6 +50,14 @@ class Trial(object):
             if said and sum(counts) < 110:
                 self.fault("only %d tests ran with the features `%s`" % (sum(counts), features))
 
+    def memory(self):
+        """Valgrind sees no wrong access in what the tests call out of order, nor where a writer refuses a piece."""
+        if not shutil.which("valgrind"):
+            print("no valgrind here, so it isn't asked")
+            return
+        runner = {"CARGO_TARGET_%s_RUNNER" % linking.HOST.upper().replace("-", "_"): "valgrind --quiet --error-exitcode=9"}
+        self.cargo(["test", "--quiet", "-p", "ufmt_tests", "--test", "out_of_order", "--test", "refused_pieces", "--features", "proved"], **runner)
+
     def lints(self):
         """No warning by `cargo doc`, nor by clippy where it is there."""
         self.cargo(["doc", "--quiet", "--no-deps", "-p", "ufmt", "--features", "std"])
@@ -83,45 +67,51 @@ class Trial(object):
         for features in ("", "std,proved"):
             self.cargo(["clippy", "--quiet", "-p", "ufmt", "--features", features, "--", "-D", "warnings"])
 
-    def library(self, name, source, profile, features, target=None):
-        """The static library of this source over the package, or None."""
+    def build(self, name, source, profile, features, target=linking.HOST, **form):
+        """Builds this source over the package, with this in its manifest. Its result is the folder of what cargo made, or None."""
         folder = self.room / name
         folder.mkdir(exist_ok=True)
         (folder / "lib.rs").write_text(source)
-        manifest = (DATA / "library.toml").read_text() % {"name": name, "ufmt": self.package / "ufmt"}
-        (folder / "Cargo.toml").write_text(manifest + PROFILES)
-        words = ["build", "--quiet", "--profile", profile, "--features", features, *(["--target", target, *self.words_of_core(target)] if target else [])]
-        if self.cargo(words, folder, strict=False) is None:
-            return None
-        made = self.room / "target" / (target or "") / profile / ("lib%s.a" % name)
-        return shutil.copy(made, self.room / ("%s-%s-%s.a" % (name, profile, features or "plain")))
+        form = {"name": name, "root": LIBRARY, "ours": "ufmt", "package": self.package / "ufmt", "peer": "", **form}
+        (folder / "Cargo.toml").write_text((DATA / "one.toml").read_text() % form)
+        words = ["build", "--quiet", "--profile", profile, "--features", features, "--target", target]
+        flags = "" if target == linking.HOST else cores.flags(self.room, target)
+        return None if self.cargo(words, folder, RUSTFLAGS=flags) is None else self.room / "target" / target / profile
 
-    def panics(self, target=None):
-        """No call's program has a symbol of `core::panicking` with `proved`. Without it most have: so the test finds them."""
+    def library(self, name, source, profile, features, target=linking.HOST, **form):
+        """The static library of this source over the package, or None."""
+        made = self.build(name, source, profile, features, target, **form)
+        return made and shutil.copy(made / ("lib%s.a" % name), self.room / ("%s-%s-%s.a" % (name, profile, features.replace(",", "-") or "plain")))
+
+    def panics(self, target=linking.HOST):
+        """No call's program has a symbol of `core::panicking` with `proved`. Without it most have: so the test finds them.
+
+        One program of all calls has what the programs of each have together. Only if it has such a symbol, each call is linked alone.
+        """
         source = (DATA / "calls" / "lib.rs").read_text()
-        linker = linking.Linker(self.room, target or linking.HOST)
+        linker = linking.Linker(self.room, target)
         names = re.findall(r"^    (case_\w+) ", source, re.M)
-        for profile in LEVELS:
-            library = self.library("calls", source, profile, "proved", target)
-            found = {name: linker.panics(library, name) for name in names} if library else {}
-            for name, symbols in found.items():
-                if symbols != []:
-                    self.fault("%s at opt-level %s for %s: %s" % (name, LEVELS[profile], linker.target, symbols or "isn't linked"))
+        for profile, features in WITHOUT_PANICS:
+            library = self.library("calls", source, profile, features, target)
+            if library and linker.panics(library, *names) != []:
+                found = {name: linker.panics(library, name) for name in names}
+                said = ["%s: %s" % (name, symbols or "isn't linked") for name, symbols in found.items() if symbols != []]
+                self.fault("at opt-level %s with %s for %s: %s" % (LEVELS[profile], features, target, "\n".join(said) or "all together"))
         library = self.library("calls", source, "release", "", target)
         sample = names[::4]
         kept = sum(bool(linker.panics(library, name)) for name in sample) if library else 0
         if kept < len(sample) // 2:
             self.fault("without `proved` only %d of %d programs test what they index" % (kept, len(sample)))
-        print("no panicking branch in %d calls for %s, at opt-level %s" % (len(names), linker.target, "; ".join(LEVELS.values())), flush=True)
+        print("no panicking branch in %d calls for %s, at opt-level %s" % (len(names), target, "; ".join(LEVELS.values())), flush=True)
 
-    def source_of_sizes(self):
-        """The programs whose bytes are measured, the peers' before ours."""
-        source = (linking.DATA / "bench" / "peers" / "sizes.rs").read_text() + (DATA / "measured" / "sizes.rs").read_text()
-        return source.replace("use ours::", "use ufmt::")
+    def library_of_sizes(self, profile, features, target=linking.HOST, peer=""):
+        """The library of the programs whose bytes are measured, the peers' and ours."""
+        source = (DATA.parent / "bench" / "peers" / "sizes.rs").read_text() + (DATA / "measured" / "sizes.rs").read_text()
+        return self.library("sizes", source, profile, features, target, ours="ours", peer=peer)
 
     def sizes(self):
         """Programs stay within their bounds."""
-        library = self.library("sizes", self.source_of_sizes(), "release", "proved")
+        library = self.library_of_sizes("release", "proved")
         linker = linking.Linker(self.room, linking.HOST)
         for name, bound in BYTES.items() if library else ():
             size = linker.size(library, name)
@@ -146,37 +136,15 @@ class Trial(object):
         target = "i686-unknown-linux-gnu"
         library = self.library("narrow", (DATA / "narrow" / "lib.rs").read_text(), "tested", "", target)
         made = linking.Linker(self.room, target).link(library, "_start") if library else None
-        if made is None:
-            self.fault("the rows for %s aren't linked" % target)
-            return
-        status = subprocess.run([str(made)]).returncode
+        status = subprocess.run([str(made)]).returncode if made else "that no program is linked with"
         if status:
-            self.fault("the rows for %s end with status %d" % (target, status))
+            self.fault("the rows for %s end with status %s" % (target, status))
         else:
             print("the rows hold for %s" % target, flush=True)
 
     def narrow_targets(self):
         """The 32-bit targets whose `core` is there, or is built from rustc's sources."""
-        return [target for target in linking.NARROW if shutil.which("ld.lld") and (has_core(target) or self.words_of_core(target))]
-
-    def words_of_core(self, target):
-        """What cargo is told so that it builds `core` from rustc's sources, which takes minutes: so only of a rustc that `RUSTC` names.
-        Nothing if `core` is there, or the sources aren't."""
-        sysroot = linking.run([RUSTC, "--print", "sysroot"])
-        library = pathlib.Path((sysroot or "").strip()) / "lib" / "rustlib" / "src" / "rust" / "library"
-        if "RUSTC" not in os.environ or has_core(target) or not (library / "core").is_dir():
-            return []
-        self.environment["RUSTC_BOOTSTRAP"] = "1"
-        words = ["-Zbuild-std=core", "-Zbuild-std-features=compiler-builtins-mem"]
-        if (library / "vendor").is_dir():
-            words += ["--config", 'source.crates-io.replace-with="rustc"', "--config", 'source.rustc.directory="%s"' % (library / "vendor")]
-        return words
-
-
-def has_core(target):
-    """Whether this rustc has `core` for the target."""
-    where = linking.run([RUSTC, "--print", "target-libdir", "--target", target])
-    return bool(where and list(pathlib.Path(where.strip()).glob("libcore*.rlib")))
+        return [target for target in linking.NARROW if shutil.which("ld.lld") and cores.flags(self.room, target) is not None]
 
 
 def everything(room):
@@ -187,6 +155,7 @@ def everything(room):
     trial.example()
     trial.features()
     trial.tests()
+    trial.memory()
     trial.lints()
     trial.panics()
     trial.sizes()
@@ -196,5 +165,5 @@ def everything(room):
     if "i686-unknown-linux-gnu" in targets:
         trial.rows_of_32_bits()
     if not targets:
-        print("this rustc has no `core` for %s, so no 32-bit program is linked" % " or ".join(linking.NARROW))
+        print("this rustc has neither `core` for %s nor its sources, so no 32-bit program is linked" % " or ".join(linking.NARROW))
     return trial.faults

@@ -1,7 +1,7 @@
 """Wrong sources: the tool must end with the place of each, and not write a package of it."""
 import pathlib
 
-from lib.rust import decisions, ghost, rewrite, substitute
+from lib.rust import decisions, ghost, rewrite, table
 from lib.rust.lexer import Fault
 
 PATH = pathlib.Path("wrong.rt")
@@ -15,6 +15,10 @@ SOURCES = (
     ("a formula outside of a clause", "fn f() {\n    a ≡ b;\n}\n", "wrong.rt:2: `≡` is left"),
     ("a bracket without its partner", "fn f() {\n", "wrong.rt:1: a bracket"),
     ("an import that the table doesn't have", "use std::thread::spawn;\n", "wrong.rt:1: an import"),
+)
+UNDECIDED = (
+    ("a public function that requires something", "/// Says nothing.\npub fn undecided(n: u8)\n    requires { n < 2 }\n{}\n", "no decision"),
+    ("a public field with an invariant", "pub struct Open {\n    pub n: u8,\n    ghost small: { n < 2 },\n}\n", "have an invariant"),
 )
 # A removal must leave these as they are.
 KEPT = (
@@ -34,11 +38,7 @@ def fault_of(work):
 
 
 def through(text):
-    text = ghost.without_ghost(PATH, text)
-    for rule in rewrite.RULES:
-        text = rule(PATH, text)
-    ghost.check(PATH, text)
-    return text
+    return rewrite.in_rust(PATH, ghost.without_ghost(PATH, text))
 
 
 def faults(crates, room):
@@ -51,15 +51,15 @@ def faults(crates, room):
         if through(text) != text:
             yield "a text of Rust is changed: %s" % through(text)
     wrong = room / "wrong.rt"
-    wrong.write_text("/// Says nothing.\npub fn undecided(n: u8)\n    requires { n < 2 }\n{}\n")
-    if "no decision" not in fault_of(lambda: decisions.check(room, [wrong])):
-        yield "a public function that requires something needs no decision"
-    wrong.write_text("pub struct Open {\n    pub n: u8,\n    ghost small: { n < 2 },\n}\n")
-    if "have an invariant" not in fault_of(lambda: decisions.check(room, [wrong])):
-        yield "a public field with an invariant needs no decision"
-    if "no public function" not in fault_of(lambda: decisions.decided(decisions.DECISIONS[3], PATH, "fn other() {}\n")):
-        yield "a decision for a function that isn't there is taken"
-    if "has this text 0 times" not in fault_of(lambda: substitute.replaced(PATH, "fn f() {}", "fn g", "fn h", 1)):
-        yield "a text of the table that isn't there is taken"
-    if "isn't there" not in fault_of(lambda: substitute.check_paths(set())):
-        yield "a file of the table that isn't there is taken"
+    for name, text, said in UNDECIDED:
+        wrong.write_text(text)
+        if said not in fault_of(lambda: decisions.check(room, [wrong])):
+            yield "%s needs no decision" % name
+    for name, work, said in (
+        ("a decision for a function that isn't there", lambda: decisions.decided("put", "unsafe", PATH, "fn other() {}\n"), "no public function"),
+        ("a text of the table that isn't there", lambda: table.replaced(PATH, "fn f() {}", "fn g", "fn h", 1), "has this text 0 times"),
+        ("a file of the table that isn't there", lambda: table.check_paths(set()), "isn't there"),
+        ("a substitution without its end", lambda: list(table.substitutions("a.rt\nwhy: b\n<<<\nc\n===\nd\n")), "isn't of the form"),
+    ):
+        if said not in fault_of(work):
+            yield "%s is taken" % name

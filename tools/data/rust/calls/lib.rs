@@ -1,4 +1,4 @@
-//! Each call of `ufmt` as a function of its own, which a program is linked from that makes only this call. `tools/try-rust` finds no
+//! Each call of `ufmt` as a function of its own, which a program may have alone. `x try rust` finds no
 //! symbol of `core::panicking` in it.
 #![no_std]
 use core::cell::{Cell, RefCell};
