@@ -2,9 +2,10 @@
 
 First the steps of `x try` that only look at the sources, which take seconds. Then `rt ci`, which proves every crate and runs every test
 and program. Then the other steps of `x try`, some side by side. It ends early if the sources or `rt ci` fail, and last prints a table of
-steps, with the seconds of each and what it found. The status is 0 if nothing failed.
+steps, with the seconds of each and what it found, and the processor minutes. The status is 0 if nothing failed.
 """
 import re
+import resource
 import subprocess
 import time
 
@@ -36,18 +37,27 @@ def proved():
     yield trying.Result("rt ci", time.monotonic() - began, process.wait(), last)
 
 
+def processor_minutes():
+    """Of all commands that have ended."""
+    used = resource.getrusage(resource.RUSAGE_CHILDREN)
+    return (used.ru_utime + used.ru_stime) / 60
+
+
 def main(given):
     needs.require("ci", "rt")
     trying.say_missing(steps.STEPS)
-    began, results = time.monotonic(), []
+    began, results, minutes = time.monotonic(), [], []
     times.say_last("ci", "no run here ended well yet")
     cheap, others = ([step for step in steps.STEPS if (step.kind == steps.SOURCES) == is_cheap] for is_cheap in (True, False))
     for group in (trying.all_of(cheap, [], given.jobs), proved(), trying.all_of(others, [], given.jobs)):
+        before = processor_minutes()
         results += list(group)
+        minutes.append(processor_minutes() - before)
         if any(result.status for result in results):
             break
     for result in results:
         print("%-10s %-8s %6d s  %s" % (result.name, result.said(), result.seconds, result.found[:150]))
+    print("processor minutes: %s" % ", ".join("%.1f for %s" % said for said in zip(minutes, ("the sources", "`rt ci`", "the other steps"))))
     status = trying.closing(results)
     if not status:
         times.keep("ci", time.monotonic() - began)
