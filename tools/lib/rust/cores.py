@@ -8,7 +8,9 @@ import pathlib
 
 from lib.rust.linking import RUSTC, run
 
-WORDS = ("--edition", "2024", "--crate-type", "rlib", "-Copt-level=3", "-Cembed-bitcode=yes", "-Zforce-unstable-if-unmarked", "--cap-lints", "allow")
+# A program without std has nothing that unwinds, so `core` doesn't name it either.
+WORDS = ("--edition", "2024", "--crate-type", "rlib", "-Copt-level=3", "-Cpanic=abort", "-Cembed-bitcode=yes", "-Zforce-unstable-if-unmarked",
+         "--cap-lints", "allow")
 # What the build script of `compiler_builtins` sets.
 BUILTINS = 'feature="compiler-builtins" feature="mem" feature="unstable-intrinsics" intrinsics_enabled arch_enabled optimizations_enabled'.split()
 SET = {"RUSTC_BOOTSTRAP": "1", "CFG_CARGO_FEATURES": "", "CFG_OPT_LEVEL": "3", "CFG_TARGET_FEATURES": ""}
