@@ -43,6 +43,7 @@ STEPS = (
     Step("rust", UNPROVED, "lib.rust.step", "the package for Rust: its tests, no panicking branch, bytes", ("cargo", "rustc", "gcc", "nm"), ("clippy-driver",)),
     Step("memory", BUILT, "lib.alloc_failures.step", "what each call returns when one allocation after another is refused", ("cc",)),
     Step("programs", BUILT, "lib.programs.step", "the programs as a shell runs them, built by each of the two compilers", ("cc",)),
+    Step("rows", BUILT, "lib.rows.step", "tables of texts, values, numbers with options and dumps, by the program and by the model"),
     Step("expected", BUILT, "lib.expected.step", "what rustc prints of values of std, by the model and by the library"),
     Step("check", SOURCES, "lib.programs.check", "how `x check` calls a checker, and what it says of its lines"),
 )

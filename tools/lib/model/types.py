@@ -23,6 +23,7 @@ PLAIN = {**dict(integers()), "f32": Float(32), "f64": Float(64), "Decimal": Deci
          "String": Quoted('"'), "()": Word("()"), "Ordering": Word("Less", "Equal", "Greater", is_whole=True), "RangeFull": Word(".."),
          "Tree": values.Tree(), "Node": values.Node()}
 BYTE, CHARACTER, TEXT = PLAIN["u8"], PLAIN["char"], PLAIN["String"]
+PLAIN["Set"] = Fields("struct", "Set", [("channel", BYTE), ("level", PLAIN["i16"])])
 # What each makes of its parameters.
 GENERIC = {
     "Option": values.option,

@@ -3,8 +3,8 @@ use crate::digest::Digest;
 use crate::parse::parsing::parse_in_mode;
 use crate::parse::shapes;
 use crate::parse::types::{
-    Decimals, Floats, FurtherKeys, Keyed, Leaves, Lists, Nested, NonZeros, Numbers, Owned, Results,
-    Shared, Slices, Tuples, Types, Wrappers,
+    Decimals, Floats, Further, FurtherKeys, Keyed, Leaves, Lists, Nested, NonZeros, Numbers, Owned,
+    Results, Shared, Slices, Tuples, Types, Wrappers,
 };
 use crate::pieces::Pieces;
 use crate::read::calls::Calls;
@@ -68,6 +68,7 @@ fn letters(calls: Calls<'_>) -> Result<TypeLetters, Fault> {
     Tuples::add_all(calls, (), "αβγδεζηθικλμ", &mut letters)?;
     Floats::add_all(calls, (), "пр", &mut letters)?;
     Decimals::add_all(calls, (), "д", &mut letters)?;
+    Further::add_all(calls, alloc, "wxyz9лтфц", &mut letters)?;
     Ok(letters)
 }
 

@@ -2,14 +2,14 @@
 use crate::parse::parsed::{TypeLetters, add};
 use crate::read::calls::Calls;
 use crate::read::fault::{Fault, agree};
-use example_parse::{Node, Tree};
+use example_parse::{Node, Set, Tree};
 use std::alloc::Global;
 use std::boxed::{BoxedSlice, BoxedStr};
 use std::cmp::{Ordering, Reverse};
 use std::collections::{BTreeMap, BTreeSet, LinkedList, VecDeque};
 use std::num::{
-    NonZeroI8, NonZeroI16, NonZeroI32, NonZeroI64, NonZeroIsize, NonZeroU8, NonZeroU16, NonZeroU32,
-    NonZeroU64, NonZeroUsize, Saturating, Wrapping,
+    NonZeroI8, NonZeroI16, NonZeroI32, NonZeroI64, NonZeroI128, NonZeroIsize, NonZeroU8,
+    NonZeroU16, NonZeroU32, NonZeroU64, NonZeroU128, NonZeroUsize, Saturating, Wrapping,
 };
 use std::ops::{Bound, ControlFlow, RangeFull};
 use std::rc::{Rc, RcSlice, RcStr};
@@ -206,6 +206,24 @@ pub type FurtherKeys = (
 
 /// Types that hold themselves: `678`.
 pub type Nested = (Tree, (Node, (Vec<Tree>, ())));
+
+/// Types in other types, a struct of a user's, and the widest nonzero numbers: `wxyz9лтфц`.
+pub type Further = (
+    Vec<String>,
+    (
+        BTreeMap<u8, bool>,
+        (
+            Vec<BTreeSet<u8>>,
+            (
+                Option<[u8; 2]>,
+                (
+                    BTreeSet<String>,
+                    (Set, (Option<Node>, (NonZeroU128, (NonZeroI128, ())))),
+                ),
+            ),
+        ),
+    ),
+);
 
 type B = bool;
 

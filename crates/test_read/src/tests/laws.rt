@@ -1,16 +1,15 @@
 //! Tests that call each law.
-use super::verdict::has_text;
 use super::{holds, same};
 use std::alloc::Global;
 use ufmt::class::Class;
 use ufmt::layout::Mode;
-use ufmt::uDebug;
+use ufmt::plain_text;
 use ufmt_doc::doc::{DebugDoc, Doc};
 use ufmt_doc::laws::*;
-use ufmt_doc::{ReadError, read_debug, read_plain};
+use ufmt_doc::{ReadError, StructName, Tree, read_debug, read_plain};
 
 // Texts that come back, each with the class of its document.
-const TEXTS: [(Class, Mode, &str); 4] = [
+const TEXTS: [(Class, Mode, &str); 6] = [
     (Class::Token, Mode::Plain, "S { a: [x], b: {} }"),
     (
         Class::Token,
@@ -22,6 +21,12 @@ const TEXTS: [(Class, Mode, &str); 4] = [
         Class::Debug,
         Mode::Pretty,
         "S {\n    a: [\n        1.5,\n    ],\n    b: 0..5,\n}",
+    ),
+    (Class::Debug, Mode::Plain, "S { a: T { .. }, .. }"),
+    (
+        Class::Debug,
+        Mode::Pretty,
+        "S {\n    a: T { .. },\n    ..\n}",
     ),
 ];
 
@@ -56,29 +61,29 @@ fn debug_texts_do_not_come_back_as_tokens(rt: HostRuntime) {
     }
 }
 
-fn is_document<D: uDebug + Drop>(
+// Whether the document has this plain text. Without memory this is false.
+fn is_document<N: StructName>(
     alloc: Global,
-    outcome: Result<D, ReadError>,
-    plain: &[u8],
+    outcome: Result<Tree<N>, ReadError>,
+    plain: &str,
 ) -> bool {
-    match outcome {
-        Ok(doc) => has_text(alloc, Mode::Plain, &doc, plain),
-        Err(_) => false,
+    match outcome.map(|doc| plain_text(alloc, &doc)) {
+        Ok(Ok(text)) => text.as_str() == plain,
+        _ => false,
     }
 }
 
 // Whether a document comes back by its text in this mode.
 fn comes_back(alloc: Global, mode: Mode) -> Result<bool, ReadError> {
-    let plain = b"S { a: [x], b: {} }";
-    let doc = read_plain(alloc, plain)?;
+    let plain = "S { a: [x], b: {} }";
+    let doc = read_plain(alloc, plain.as_bytes())?;
     let normal = normal_by_way_of_text(alloc, Class::Token, mode, &doc);
     Ok(is_document(alloc, normal, plain))
 }
 
 // The same of a debug document that is no token document.
-fn debug_document_comes_back(alloc: Global, mode: Mode) -> Result<bool, ReadError> {
-    let plain = b"(1.5, S)";
-    let doc = read_debug(alloc, Mode::Plain, plain)?;
+fn debug_document_comes_back(alloc: Global, mode: Mode, plain: &str) -> Result<bool, ReadError> {
+    let doc = read_debug(alloc, Mode::Plain, plain.as_bytes())?;
     let normal = normal_by_way_of_text(alloc, Class::Debug, mode, &doc);
     let refused = normal_by_way_of_text(alloc, Class::Token, mode, &doc);
     Ok(is_document(alloc, normal, plain) && matches!(refused, Err(ReadError::NotText)))
@@ -88,8 +93,10 @@ fn debug_document_comes_back(alloc: Global, mode: Mode) -> Result<bool, ReadErro
 fn documents_come_back(rt: HostRuntime) {
     for mode in [Mode::Plain, Mode::Pretty] {
         same(&rt, comes_back(rt.alloc(), mode), Ok(true), "a document");
-        let given = debug_document_comes_back(rt.alloc(), mode);
-        same(&rt, given, Ok(true), "a debug document");
+        for plain in ["(1.5, S)", "S { a: T { .. }, .. }"] {
+            let given = debug_document_comes_back(rt.alloc(), mode, plain);
+            same(&rt, given, Ok(true), plain);
+        }
     }
 }
 

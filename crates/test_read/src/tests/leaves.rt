@@ -1,39 +1,23 @@
-//! Tests of `is_leaf`, `is_word`, `is_symbol` and `split_escaped`.
+//! Tests of `is_symbol` and `split_escaped`.
 use super::same;
-use ufmt_scan::leaf::{is_leaf, is_symbol, is_word};
+use ufmt_scan::leaf::is_symbol;
 use ufmt_scan::quoted::split_escaped;
 
-// The kind of a text, and the text.
-const TEXTS: [(&str, &str); 14] = [
-    ("none", ""),
-    ("word", "-"),
-    ("word", "az_AZ-09"),
-    ("none", "a b"),
-    ("none", "a,"),
-    ("none", "\u{e9}"),
-    ("symbol", "()"),
-    ("none", "()()"),
-    ("symbol", "\"\""),
-    ("none", "\"a\"b"),
-    ("none", "\"\\u{7F}\""),
-    ("symbol", "'\u{e9}'"),
-    ("none", "''"),
-    ("none", "'ab'"),
-];
-
-fn kind(text: &str) -> &'static str {
-    match (is_leaf(text), is_word(text), is_symbol(text)) {
-        (true, true, false) => "word",
-        (true, false, true) => "symbol",
-        (false, false, false) => "none",
-        _ => "calls that disagree",
-    }
-}
-
 #[test]
-fn texts_are_words_symbols_or_no_leaves(rt: HostRuntime) {
-    for (wanted, text) in TEXTS {
-        same(&rt, kind(text), wanted, text);
+fn symbols_are_leaves_that_are_no_words(rt: HostRuntime) {
+    for (text, wanted) in [
+        ("()", true),
+        ("\"\"", true),
+        ("'\u{e9}'", true),
+        ("", false),
+        ("az_AZ-09", false),
+        ("()()", false),
+        ("\"a\"b", false),
+        ("\"\\u{7F}\"", false),
+        ("''", false),
+        ("'ab'", false),
+    ] {
+        same(&rt, is_symbol(text), wanted, text);
     }
 }
 

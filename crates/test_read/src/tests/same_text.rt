@@ -5,8 +5,7 @@ use super::shape::{debug_made, made};
 use std::alloc::{AllocError, Global};
 use ufmt::layout::Mode;
 use ufmt_doc::doc::{DebugDoc, Doc, same_text};
-use ufmt_doc::plain_reader::{ReadError, read_plain};
-use ufmt_doc::read_debug;
+use ufmt_doc::{ReadError, read_debug};
 
 // What `same_text` returns, if both are token documents.
 fn same_text_of_tokens(a: &Doc, b: &Doc) -> Option<bool> {
@@ -86,52 +85,6 @@ fn same_text_of_other_documents_is_true_if_they_have_one_normal_form(rt: HostRun
             _ => None,
         };
         same(&rt, given, Some((false, is_same)), case);
-    }
-}
-
-// Texts of documents.
-const READ: [&str; 19] = [
-    "x",
-    "[]",
-    "{}",
-    "[x]",
-    "[x, y]",
-    "[y, x]",
-    "[[x], y]",
-    "{x}",
-    "{x, y}",
-    "{x: y}",
-    "{x: y, y: x}",
-    "(x,)",
-    "(x, y)",
-    "n(x)",
-    "S { a: x }",
-    "S { b: x }",
-    "S { a: x, b: y }",
-    "T { a: x }",
-    "T { a: {x: ()} }",
-];
-
-fn same_text_of_read(alloc: Global, a: &Doc, b: &str) -> Result<Option<bool>, ReadError> {
-    let b = read_plain(alloc, b.as_bytes())?;
-    Ok(same_text_of_tokens(a, &b))
-}
-
-// Whether the document of this text has the same text as only one of `READ`, its own.
-fn has_only_its_own_text(alloc: Global, text: &str) -> Result<bool, ReadError> {
-    let doc = read_plain(alloc, text.as_bytes())?;
-    for other in READ {
-        if same_text_of_read(alloc, &doc, other)? != Some(text == other) {
-            return Ok(false);
-        }
-    }
-    Ok(true)
-}
-
-#[test]
-fn same_text_is_true_of_read_documents_if_their_texts_are_equal(rt: HostRuntime) {
-    for text in READ {
-        same(&rt, has_only_its_own_text(rt.alloc(), text), Ok(true), text);
     }
 }
 
@@ -245,8 +198,24 @@ fn same_text_is_true_of_debug_documents_with_one_text(rt: HostRuntime) {
     }
 }
 
-// Texts of debug documents, with a semicolon between them.
-const READ_AS_DEBUG: [&str; 21] = [
+// Texts of documents.
+const READ_AS_DEBUG: [&str; 37] = [
+    "x",
+    "[]",
+    "{}",
+    "[x]",
+    "[x, y]",
+    "[y, x]",
+    "[[x], y]",
+    "{x}",
+    "{x: y}",
+    "{x: y, y: x}",
+    "(x,)",
+    "(x, y)",
+    "n(x)",
+    "S { a: x }",
+    "S { b: x }",
+    "S { a: x, b: y }",
     "1.5",
     "1.50",
     "0..5",

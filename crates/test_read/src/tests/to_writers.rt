@@ -1,6 +1,5 @@
-//! Tests of conversions to writers and into buffers of each size, also of inputs that are no text.
+//! Tests of conversions to writers and into buffers of each size.
 use super::holds;
-use super::texts::{NODE_PLAIN, NODE_PRETTY};
 use std::alloc::{AllocError, Global};
 use ufmt::class::Class;
 use ufmt::layout::Mode;
@@ -12,6 +11,7 @@ use ufmt_doc::scan::ScanError;
 // prefix and fails with `Full`.
 fn is_fitted(
     alloc: Global,
+    class: Class,
     to: Mode,
     text: &[u8],
     other: &[u8],
@@ -19,7 +19,7 @@ fn is_fitted(
 ) -> Result<bool, AllocError> {
     let mut bytes = vec![in alloc; 0u8; size]?;
     let mut cursor = Cursor::new(bytes.as_mut_slice());
-    let is_right = match write_converted(&mut cursor, Class::Token, to, text) {
+    let is_right = match write_converted(&mut cursor, class, to, text) {
         Ok(()) => size >= other.len() && cursor.written() == other,
         Err(ScanError::Sink(Full)) => size < other.len() && other.starts_with(cursor.written()),
         Err(ScanError::NotText) => false,
@@ -28,10 +28,16 @@ fn is_fitted(
 }
 
 // For how many sizes that holds, from no byte to one more than the result has.
-fn fitted(alloc: Global, to: Mode, text: &str, other: &str) -> Result<usize, AllocError> {
+fn fitted(
+    alloc: Global,
+    class: Class,
+    to: Mode,
+    text: &str,
+    other: &str,
+) -> Result<usize, AllocError> {
     let mut count = 0usize;
     for size in 0..=other.len().saturating_add(1) {
-        if is_fitted(alloc, to, text.as_bytes(), other.as_bytes(), size)? {
+        if is_fitted(alloc, class, to, text.as_bytes(), other.as_bytes(), size)? {
             count = count.saturating_add(1);
         }
     }
@@ -43,35 +49,19 @@ fn conversions_fail_with_full_only_if_the_buffer_is_too_short(rt: HostRuntime) {
     let plain = "{a: [\"b\", ()], N: {}, (c,): {d, e}}";
     let pretty =
         "{\n    a: [\n        \"b\",\n        (),\n    ],\n    N: {},\n    (\n        c,\n    ): {\n        d,\n        e,\n    },\n}";
+    let (dotted, dotted_pretty) = (
+        "S { a: (1.5,), .. }",
+        "S {\n    a: (\n        1.5,\n    ),\n    ..\n}",
+    );
     let rows = [
-        (Mode::Pretty, plain, pretty),
-        (Mode::Plain, pretty, plain),
-        (Mode::Pretty, NODE_PLAIN, NODE_PRETTY),
-        (Mode::Plain, NODE_PRETTY, NODE_PLAIN),
+        (Class::Token, Mode::Pretty, plain, pretty),
+        (Class::Token, Mode::Plain, pretty, plain),
+        (Class::Debug, Mode::Pretty, dotted, dotted_pretty),
+        (Class::Debug, Mode::Plain, dotted_pretty, dotted),
     ];
-    for (to, text, other) in rows {
-        let sizes = fitted(rt.alloc(), to, text, other);
+    for (class, to, text, other) in rows {
+        let sizes = fitted(rt.alloc(), class, to, text, other);
         holds(&rt, sizes == Ok(other.len().saturating_add(2)), text);
-    }
-}
-
-// Whether the conversion to a buffer with room enough fails with `NotText`.
-fn is_no_text(to: Mode, text: &[u8]) -> bool {
-    let mut bytes = [0u8; 64];
-    let mut cursor = Cursor::new(&mut bytes);
-    match write_converted(&mut cursor, Class::Token, to, text) {
-        Err(ScanError::NotText) => true,
-        Ok(()) | Err(ScanError::Sink(_)) => false,
-    }
-}
-
-#[test]
-fn inputs_that_are_no_text_fail_with_not_text(rt: HostRuntime) {
-    for text in ["", "[a", "[a, b", "[a,b]", "S { a }", "{a: b, c}"] {
-        holds(&rt, is_no_text(Mode::Pretty, text.as_bytes()), text);
-    }
-    for text in ["", "[a]", "[\n    a\n]", "[\n    a,\n] "] {
-        holds(&rt, is_no_text(Mode::Plain, text.as_bytes()), text);
     }
 }
 

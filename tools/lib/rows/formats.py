@@ -1,0 +1,83 @@
+"""Rows of values that a part's formats print: `{:#010b}|` and so on, as a format of Rust has them, and what the program is asked for each."""
+import re
+import struct
+
+from lib.model import floats
+from lib.model.dumps import dump
+from lib.model.model import quoted
+from lib.model.pieces import with_zeros
+from lib.model.requests import Request, hexadecimal, in_column, with_places
+
+SPEC = re.compile(r"\{:?(?:(.)([<^>]))?(#?)(0?)(\d*)([xXbo?]?)\}")
+ALIGNS = "<^>"
+BITS = re.compile(r"(?:NonZero)?[iuIU](\d+|size)")
+
+
+def text_of(pieces):
+    """The text of pieces that a writer is passed."""
+    return b"".join(piece[1:] for piece in pieces.split(b"\xff")).decode()
+
+
+def number(request, spec, kind, value):
+    """A number in the digits of a radix, or in decimal digits with zeros before them."""
+    _fill, _align, _prefix, _zero, width, letter = spec.groups()
+    if letter in ("x", "X", "b", "o"):
+        size = BITS.fullmatch(kind)[1]
+        return text_of(hexadecimal(request, int(value), 64 if size == "size" else int(size), letter.lower())[1])
+    return text_of(with_zeros(format(int(value), "0%dd" % int(width or 0)) if width else value))
+
+
+def asked(spec, kind, value):
+    """The request for a value by a format, and the text that the model says."""
+    fill, align, prefix, zero, width, letter = spec.groups()
+    request = Request(width=int(width or 0), pad=48 if zero else 32, pad_length=int(width or 0), prefix=int(bool(prefix)), upper_case=int(letter == "X"),
+                      payload=value.encode())
+    if kind == "str":
+        request = request._replace(align=ALIGNS.index(align or "<"), fill=ord(fill or " "))
+        return request, text_of(in_column(request, value, b"t" + value.encode() + b"\xff"))
+    if kind in ("f32", "f64"):
+        size = int(kind[1:])
+        bits = int.from_bytes(struct.pack({32: ">f", 64: ">d"}[size], float(value)), "big")
+        return request._replace(payload=b"%d" % bits), (floats.debug if letter == "?" else floats.display)(bits, size)
+    if kind == "Decimal":
+        digits, _, places = value.partition("e-")
+        request = request._replace(pad=int(places), payload=digits.encode())
+        return request, text_of(with_places(int(digits), int(places), int(width or 0)))
+    if kind == "char":
+        return request, quoted(value, "'") if letter == "?" else value
+    return request, number(request, spec, kind, value)
+
+
+def formats(words, cells):
+    """A value by each format of the part, and what stands between them."""
+    kind, value, wanted = cells
+    answers = [asked(spec, kind, value) for spec in SPEC.finditer(" ".join(words))]
+    texts = iter(text for _request, text in answers)
+    whole = SPEC.sub(lambda _spec: next(texts), " ".join(words))
+    for request, _text in answers:
+        yield request.data(), wanted, whole
+
+
+# What a word of `xxd` asks for.
+OPTIONS = {"-c": "per_row", "-g": "group", "-o": "offset"}
+
+
+def dumped(words, cells):
+    """The dump of bytes, in hexadecimal digits, as `xxd` prints it with the words of the part; and without its offsets, and without its texts."""
+    options = dict({"per_row": 16, "group": 2}, **{OPTIONS[word[:2]]: int(word[2:], 0) for word in words})
+    data, wanted = bytes.fromhex(cells[0]), cells[1]
+    request = Request(payload=data, **options)
+    yield request.data(), wanted, text_of(dump(request))
+    for offset in (options.get("offset", 0), 2**32):
+        for has_texts in (1, 0):
+            other = request._replace(offset=offset, ascii=has_texts)
+            yield other.data(), columns(wanted, offset < 2**32, has_texts), text_of(dump(other))
+
+
+def columns(text, has_offsets, has_texts):
+    """A dump with these columns alone."""
+    rows = []
+    for row in text.splitlines():
+        offset, rest = row.split(": ", 1)
+        rows.append((offset + ": " if has_offsets else "") + (rest if has_texts else rest.split("  ", 1)[0]) + "\n")
+    return "".join(rows)

@@ -1,0 +1,40 @@
+"""Compares the rows of tools/data/rows with what the model says, and what the built probe_model says of each row's text with all that the
+model says of it. The program is crates/probe_model/out/probe_model, which `rt ci` leaves there, or the one that `--program` names.
+
+A row is a text with what rustc, xxd or a hand made of it: its other text, its pieces, the value that it is, the place where it stops to be one.
+"""
+import pathlib
+import sys
+
+from lib.findings import case, ended
+from lib.model import verdicts
+from lib.programs import cases
+from lib.rows.questions import QUESTIONS
+from lib.rows.tables import rows
+from lib.top import TOP
+
+sys.setrecursionlimit(20_000)
+
+
+def asked(row, faults):
+    """The texts that a row passes to the program. Where the model says something else than the row wants, that is a fault."""
+    question, *words = row.words
+    for text, wanted, found in QUESTIONS[question](words, row.cells):
+        if found != wanted:
+            faults.append(case(row.place, repr(wanted), "%r by the model" % found))
+        yield text if isinstance(text, bytes) else text.encode(errors="surrogateescape")
+
+
+def main(given):
+    program = pathlib.Path(given.program or TOP / "crates/probe_model/out/probe_model").resolve()
+    faults, places, count = [], {}, 0
+    for row in rows():
+        count += 1
+        for text in asked(row, faults):
+            places.setdefault(text, row.place)
+    lines, unended = cases.answers(program, list(places))
+    for (text, place), line in zip(places.items(), lines):
+        wanted = verdicts.verdict(text)[0]
+        if line != wanted:
+            faults.append(case(place, wanted, line))
+    return ended(faults + unended, "%d rows, %d texts" % (count, len(places)))
