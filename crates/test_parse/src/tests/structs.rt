@@ -4,14 +4,12 @@ ghost use Rattle.std.specs.Prelude.{[], ◌∷◌, IfSome, ⊤};
 ghost use Rattle.ufmt.specs.ValueDocuments.{named_struct, named_tuple, number, string};
 ghost use Rattle.ufmt_parse.specs.Values.{is_u8, is_u64};
 
-use super::{first_wrong, same};
+use super::{first_other, first_wrong, same};
 use example_parse::{Measurement, Set, Switch, parse_command, parse_measurement};
 use std::alloc::Global;
 use ufmt::{Formatter, fields, uDebug, uWrite};
 use ufmt_parse::ParseError::NotText;
-use ufmt_parse::{
-    Expected, Fault, ParseError, ParseMode, Parser, parse, parse_fields, parse_pretty, uParse,
-};
+use ufmt_parse::{Expected, Fault, ParseMode, Parser, parse_fields, parse_pretty, uParse};
 
 /// Two truth values, each of which is one document or another.
 #[derive(Clone, Copy, PartialEq, Eq, Debug, Drop)]
@@ -193,148 +191,25 @@ fn structs_are_parsed(rt: HostRuntime) {
 }
 
 #[test]
-fn options_are_parsed_without_an_allocator(rt: HostRuntime) {
-    let rows: [(&str, Result<Option<bool>, ParseError>); 11] = [
-        ("None", Ok(None)),
-        ("Some(true)", Ok(Some(true))),
-        ("Some(false)", Ok(Some(false))),
-        (
-            "true",
-            Err(NotText {
-                at: 0,
-                expected: Expected::Name,
-            }),
-        ),
-        (
-            "",
-            Err(NotText {
-                at: 0,
-                expected: Expected::Name,
-            }),
-        ),
-        (
-            "None ",
-            Err(NotText {
-                at: 4,
-                expected: Expected::End,
-            }),
-        ),
-        (
-            "Some(truth)",
-            Err(NotText {
-                at: 5,
-                expected: Expected::Name,
-            }),
-        ),
-        (
-            "Some(true",
-            Err(NotText {
-                at: 9,
-                expected: Expected::Punctuation,
-            }),
-        ),
-        (
-            "Some(true,)",
-            Err(NotText {
-                at: 9,
-                expected: Expected::Punctuation,
-            }),
-        ),
-        (
-            "Some(true))",
-            Err(NotText {
-                at: 10,
-                expected: Expected::End,
-            }),
-        ),
-        (
-            "Some(\n    true,\n)",
-            Err(NotText {
-                at: 5,
-                expected: Expected::Name,
-            }),
-        ),
-    ];
-    for (text, wanted) in rows {
-        same(&rt, parse((), text.as_bytes()), wanted, text);
-    }
-}
-
-#[test]
 fn structs_are_parsed_up_to_what_does_not_fit(rt: HostRuntime) {
-    let flags = Flags {
-        on: true,
-        off: false,
-    };
     let rows = [
-        ("Flags { on: true, off: false }", Ok(flags)),
-        (
-            "Flag { on: true, off: false }",
-            Err(NotText {
-                at: 0,
-                expected: Expected::Name,
-            }),
-        ),
-        (
-            "Flags{ on: true, off: false }",
-            Err(NotText {
-                at: 5,
-                expected: Expected::Punctuation,
-            }),
-        ),
-        (
-            "Flags { off: true, on: false }",
-            Err(NotText {
-                at: 8,
-                expected: Expected::Name,
-            }),
-        ),
-        (
-            "Flags { on: true }",
-            Err(NotText {
-                at: 16,
-                expected: Expected::Punctuation,
-            }),
-        ),
-        (
-            "Flags { on: true,off: false }",
-            Err(NotText {
-                at: 16,
-                expected: Expected::Punctuation,
-            }),
-        ),
-        (
-            "Flags { on: true, off: 0 }",
-            Err(NotText {
-                at: 23,
-                expected: Expected::Name,
-            }),
-        ),
-        (
-            "Flags { on: true, off: false",
-            Err(NotText {
-                at: 28,
-                expected: Expected::Punctuation,
-            }),
-        ),
-        (
-            "Flags { on: true, off: false, }",
-            Err(NotText {
-                at: 28,
-                expected: Expected::Punctuation,
-            }),
-        ),
-        (
-            "Flags { on: true, off: false }x",
-            Err(NotText {
-                at: 30,
-                expected: Expected::End,
-            }),
-        ),
+        ("Flags { on: true, off: false }", ""),
+        ("Flag { on: true, off: false }", "0 Name"),
+        ("Flags{ on: true, off: false }", "5 Punctuation"),
+        ("Flags { off: true, on: false }", "8 Name"),
+        ("Flags { on: true }", "16 Punctuation"),
+        ("Flags { on: true,off: false }", "16 Punctuation"),
+        ("Flags { on: true, off: 0 }", "23 Name"),
+        ("Flags { on: true, off: false", "28 Punctuation"),
+        ("Flags { on: true, off: false, }", "28 Punctuation"),
+        ("Flags { on: true, off: false }x", "30 End"),
     ];
-    for (text, wanted) in rows {
-        same(&rt, parse((), text.as_bytes()), wanted, text);
-    }
+    same(
+        &rt,
+        first_other::<Flags>(rt.alloc(), &rows),
+        None,
+        "by rows",
+    );
 }
 
 #[test]
@@ -346,22 +221,17 @@ fn pretty_texts_are_parsed_with_their_indentation(rt: HostRuntime) {
     let text =
         "Both(\n    Flags {\n        on: false,\n        off: true,\n    },\n    Some(\n        true,\n    ),\n)";
     let less = "Both(\n    Flags {\n        on: false,\n       off: true,\n    },\n    None,\n)";
+    let plain = "Both(Flags { on: false, off: true }, None)";
+    let stopped = |at| {
+        Err(NotText {
+            at,
+            expected: Expected::Punctuation,
+        })
+    };
     let rows = [
         (text, Ok(Both(flags, Some(true)))),
-        (
-            less,
-            Err(NotText {
-                at: 37,
-                expected: Expected::Punctuation,
-            }),
-        ),
-        (
-            "Both(Flags { on: false, off: true }, None)",
-            Err(NotText {
-                at: 4,
-                expected: Expected::Punctuation,
-            }),
-        ),
+        (less, stopped(37)),
+        (plain, stopped(4)),
     ];
     for (text, wanted) in rows {
         same(&rt, parse_pretty((), text.as_bytes()), wanted, text);
@@ -369,74 +239,38 @@ fn pretty_texts_are_parsed_with_their_indentation(rt: HostRuntime) {
 }
 
 #[test]
-fn a_command_line_is_parsed_from_a_fixed_buffer(rt: HostRuntime) {
+fn lines_are_parsed_by_the_calls_of_the_examples(rt: HostRuntime) {
     let set = Set {
         channel: 3,
         level: -4,
     };
-    let rows = [
-        ("Set { channel: 3, level: -4 }", Ok(set)),
-        (
-            "Set { channel: 300, level: -4 }",
-            Err(NotText {
-                at: 15,
-                expected: Expected::Number,
-            }),
-        ),
-        (
-            "Set { level: -4, channel: 3 }",
-            Err(NotText {
-                at: 6,
-                expected: Expected::Name,
-            }),
-        ),
-        (
-            "Set { channel: 3 }",
-            Err(NotText {
-                at: 16,
-                expected: Expected::Punctuation,
-            }),
-        ),
-    ];
-    for (text, wanted) in rows {
-        same(&rt, parse_command(text.as_bytes()), wanted, text);
-    }
-}
-
-#[test]
-fn a_measurement_with_long_names_is_parsed(rt: HostRuntime) {
+    let given = parse_command(b"Set { channel: 3, level: -4 }");
+    same(&rt, given, Ok(set), "a command");
     let measurement = Measurement {
         channel: 255,
         celsius: -2147483648,
     };
+    let given = parse_measurement(b"Measurement { channel: 255, celsius: -2147483648 }");
+    same(&rt, given, Ok(measurement), "a measurement");
     let rows = [
-        (
-            "Measurement { channel: 255, celsius: -2147483648 }",
-            Ok(measurement),
-        ),
+        ("Measurement { channel: 255, celsius: -2147483648 }", ""),
         (
             "Measuremant { channel: 255, celsius: -2147483648 }",
-            Err(NotText {
-                at: 0,
-                expected: Expected::Name,
-            }),
+            "0 Name",
         ),
         (
             "Measurement { channel: 255, celsium: -2147483648 }",
-            Err(NotText {
-                at: 28,
-                expected: Expected::Name,
-            }),
+            "28 Name",
         ),
         (
             "Measurement { channel: 255, celsius: -2147483649 }",
-            Err(NotText {
-                at: 37,
-                expected: Expected::Number,
-            }),
+            "37 Number",
         ),
     ];
-    for (text, wanted) in rows {
-        same(&rt, parse_measurement(text.as_bytes()), wanted, text);
-    }
+    same(
+        &rt,
+        first_other::<Measurement>(rt.alloc(), &rows),
+        None,
+        "by rows",
+    );
 }

@@ -4,10 +4,9 @@ ghost use Rattle.ufmt.specs.ValueDocuments.{integer, named, named_struct, named_
 ghost use Rattle.test_parse.specs.declared.tests.enums.long_names.Link.TheVariants.{Up, Disconnected, Interrupted, Reconfigured, AwaitingCalibrationOfSensor};
 ghost use Rattle.ufmt_parse.specs.Values.{is_i16, is_u8, is_u32, is_u64};
 
-use crate::tests::same;
+use crate::tests::{first_other, same};
 use ufmt::{Formatter, fields, uDebug, uWrite};
-use ufmt_parse::ParseError::NotText;
-use ufmt_parse::{Expected, Fault, ParseMode, Parser, parse, parse_pretty, parse_variants, uParse};
+use ufmt_parse::{Fault, ParseMode, Parser, parse, parse_variants, uParse};
 
 /// What became of a device.
 #[derive(Clone, Copy, PartialEq, Eq, Debug, Drop)]
@@ -96,84 +95,31 @@ impl<A: Copy> uParse<A> for Link {
     }
 }
 
-const RECONFIGURED: Link = Link::Reconfigured {
-    temperature: -40,
-    channel: 7,
-};
-
-const AWAITING: Link = Link::AwaitingCalibrationOfSensor {
-    seconds_since_the_last_value: 18446744073709551615,
-};
-
 #[test]
 fn long_names_are_parsed(rt: HostRuntime) {
     let rows = [
-        ("Up", Ok(Link::Up)),
-        ("Disconnected", Ok(Link::Disconnected)),
-        ("Interrupted(4294967295)", Ok(Link::Interrupted(4294967295))),
-        (
-            "Reconfigured { temperature: -40, channel: 7 }",
-            Ok(RECONFIGURED),
-        ),
+        ("Up", ""),
+        ("Disconnected", ""),
+        ("Interrupted(4294967295)", ""),
+        ("Reconfigured { temperature: -40, channel: 7 }", ""),
         (
             "AwaitingCalibrationOfSensor { seconds_since_the_last_value: 18446744073709551615 }",
-            Ok(AWAITING),
+            "",
         ),
-        (
-            "Disconnecte",
-            Err(NotText {
-                at: 0,
-                expected: Expected::Name,
-            }),
-        ),
-        (
-            "Disconnectedd",
-            Err(NotText {
-                at: 0,
-                expected: Expected::Name,
-            }),
-        ),
-        (
-            "Interrupted(4294967296)",
-            Err(NotText {
-                at: 12,
-                expected: Expected::Number,
-            }),
-        ),
-        (
-            "Reconfigured { temperatuer: -40 }",
-            Err(NotText {
-                at: 15,
-                expected: Expected::Name,
-            }),
-        ),
+        ("Disconnecte", "0 Name"),
+        ("Disconnectedd", "0 Name"),
+        ("Interrupted(4294967296)", "12 Number"),
+        ("Reconfigured { temperatuer: -40 }", "15 Name"),
         (
             "AwaitingCalibrationOfSensor { seconds_since_the_last_valeu: 1 }",
-            Err(NotText {
-                at: 30,
-                expected: Expected::Name,
-            }),
+            "30 Name",
         ),
     ];
-    for (text, wanted) in rows {
-        same(&rt, parse((), text.as_bytes()), wanted, text);
-    }
-}
-
-#[test]
-fn long_names_are_parsed_from_pretty_texts(rt: HostRuntime) {
-    let rows = [
-        ("Disconnected", Ok(Link::Disconnected)),
-        (
-            "Reconfigured {\n    temperature: -40,\n    channel: 7,\n}",
-            Ok(RECONFIGURED),
-        ),
-        (
-            "AwaitingCalibrationOfSensor {\n    seconds_since_the_last_value: 18446744073709551615,\n}",
-            Ok(AWAITING),
-        ),
-    ];
-    for (text, wanted) in rows {
-        same(&rt, parse_pretty((), text.as_bytes()), wanted, text);
-    }
+    same(&rt, first_other::<Link>(rt.alloc(), &rows), None, "by rows");
+    let link = parse((), b"Reconfigured { temperature: -40, channel: 7 }");
+    let wanted = Link::Reconfigured {
+        temperature: -40,
+        channel: 7,
+    };
+    same(&rt, link, Ok(wanted), "its fields");
 }

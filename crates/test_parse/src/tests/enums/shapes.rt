@@ -6,14 +6,10 @@ ghost use Rattle.ufmt_parse.specs.Values.{is_u8};
 ghost use Rattle.test_parse.specs.declared.tests.enums.shapes.Event.TheVariants.{Started, Said, Lost};
 ghost use Rattle.test_parse.specs.declared.tests.enums.shapes.Eight.TheVariants.{First, Second, Third, Fourth, Fifth, Sixth, Seventh, Eighth};
 
-use crate::tests::same;
+use crate::tests::{first_other, same};
 use std::alloc::Global;
-use ufmt::{Formatter, fields, plain_text, uDebug, uWrite};
-use ufmt_parse::ParseError::NotText;
-use ufmt_parse::{
-    Expected, Fault, ParseError, ParseMode, Parser, parse, parse_fields, parse_pretty,
-    parse_variants, uParse,
-};
+use ufmt::{Formatter, fields, uDebug, uWrite};
+use ufmt_parse::{Fault, ParseMode, Parser, parse, parse_fields, parse_variants, uParse};
 
 /// Variants of each shape.
 #[derive(Clone, Copy, PartialEq, Eq, Debug, Drop)]
@@ -230,237 +226,87 @@ impl<A: Copy> uParse<A> for Marker {
 
 #[test]
 fn variants_of_each_shape_are_parsed(rt: HostRuntime) {
-    let rows: [(&str, Result<Eight<bool>, ParseError>); 16] = [
-        ("First", Ok(Eight::First)),
-        ("Second(7)", Ok(Eight::Second(7))),
-        ("Third(255, true)", Ok(Eight::Third(255, true))),
-        ("Fourth", Ok(Eight::Fourth())),
-        (
-            "Fifth { channel: 3, level: false }",
-            Ok(Eight::Fifth {
-                channel: 3,
-                level: false,
-            }),
-        ),
-        ("Sixth(true)", Ok(Eight::Sixth(true))),
-        (
-            "Seventh { value: true }",
-            Ok(Eight::Seventh { value: true }),
-        ),
-        ("Eighth", Ok(Eight::Eighth {})),
-        (
-            "Ninth",
-            Err(NotText {
-                at: 0,
-                expected: Expected::Name,
-            }),
-        ),
-        (
-            "first",
-            Err(NotText {
-                at: 0,
-                expected: Expected::Name,
-            }),
-        ),
-        (
-            "First()",
-            Err(NotText {
-                at: 0,
-                expected: Expected::Name,
-            }),
-        ),
-        (
-            "Fourth()",
-            Err(NotText {
-                at: 0,
-                expected: Expected::Name,
-            }),
-        ),
-        (
-            "Second",
-            Err(NotText {
-                at: 6,
-                expected: Expected::Punctuation,
-            }),
-        ),
-        (
-            "Second(256)",
-            Err(NotText {
-                at: 7,
-                expected: Expected::Number,
-            }),
-        ),
-        (
-            "Third(1, 1)",
-            Err(NotText {
-                at: 9,
-                expected: Expected::Name,
-            }),
-        ),
-        (
-            "Fifth { level: false, channel: 3 }",
-            Err(NotText {
-                at: 8,
-                expected: Expected::Name,
-            }),
-        ),
+    let rows = [
+        ("First", ""),
+        ("Second(7)", ""),
+        ("Third(255, true)", ""),
+        ("Fourth", ""),
+        ("Fifth { channel: 3, level: false }", ""),
+        ("Sixth(true)", ""),
+        ("Seventh { value: true }", ""),
+        ("Eighth", ""),
+        ("Ninth", "0 Name"),
+        ("first", "0 Name"),
+        ("First()", "0 Name"),
+        ("Fourth()", "0 Name"),
+        ("Second", "6 Punctuation"),
+        ("Second(256)", "7 Number"),
+        ("Third(1, 1)", "9 Name"),
+        ("Fifth { level: false, channel: 3 }", "8 Name"),
     ];
-    for (text, wanted) in rows {
-        same(&rt, parse((), text.as_bytes()), wanted, text);
-    }
+    same(
+        &rt,
+        first_other::<Eight<bool>>(rt.alloc(), &rows),
+        None,
+        "by rows",
+    );
+    let fifth = Eight::Fifth {
+        channel: 3,
+        level: false,
+    };
+    let text = b"Fifth { channel: 3, level: false }";
+    same(&rt, parse::<Eight<bool>, ()>((), text), Ok(fifth), "fields");
 }
 
 #[test]
 fn names_are_compared_whole(rt: HostRuntime) {
-    let alloc = rt.alloc();
-    // Each text is parsed and printed again, or isn't parsed past so many bytes.
     let rows = [
-        ("A", Ok(())),
-        ("AB(7, None)", Ok(())),
-        ("AB(255, Some(true))", Ok(())),
-        ("ABC { on: true, level: 0, text: \"AB\" }", Ok(())),
-        (
-            "ABCD",
-            Err(NotText {
-                at: 0,
-                expected: Expected::Name,
-            }),
-        ),
-        (
-            "A-B",
-            Err(NotText {
-                at: 0,
-                expected: Expected::Name,
-            }),
-        ),
-        (
-            "A:B",
-            Err(NotText {
-                at: 0,
-                expected: Expected::Name,
-            }),
-        ),
-        (
-            "AB",
-            Err(NotText {
-                at: 2,
-                expected: Expected::Punctuation,
-            }),
-        ),
-        (
-            "AB { on: true }",
-            Err(NotText {
-                at: 2,
-                expected: Expected::Punctuation,
-            }),
-        ),
-        (
-            "ABC(7, None)",
-            Err(NotText {
-                at: 3,
-                expected: Expected::Punctuation,
-            }),
-        ),
-        (
-            "A(7)",
-            Err(NotText {
-                at: 1,
-                expected: Expected::End,
-            }),
-        ),
-        (
-            "A ",
-            Err(NotText {
-                at: 1,
-                expected: Expected::End,
-            }),
-        ),
-        (
-            "A: ",
-            Err(NotText {
-                at: 1,
-                expected: Expected::End,
-            }),
-        ),
-        (
-            "",
-            Err(NotText {
-                at: 0,
-                expected: Expected::Name,
-            }),
-        ),
+        ("A", ""),
+        ("AB(7, None)", ""),
+        ("AB(255, Some(true))", ""),
+        ("ABC { on: true, level: 0, text: \"AB\" }", ""),
+        ("ABCD", "0 Name"),
+        ("A-B", "0 Name"),
+        ("A:B", "0 Name"),
+        ("AB", "2 Punctuation"),
+        ("AB { on: true }", "2 Punctuation"),
+        ("ABC(7, None)", "3 Punctuation"),
+        ("A(7)", "1 End"),
+        ("A ", "1 End"),
+        ("A: ", "1 End"),
+        ("", "0 Name"),
     ];
-    for (text, wanted) in rows {
-        let parsed: Result<Signal, ParseError> = parse(alloc, text.as_bytes());
-        let given = match parsed {
-            Err(error) => Err(error),
-            Ok(signal) => {
-                let printed = plain_text(alloc, &signal).expect(&rt, "memory");
-                same(&rt, printed.as_str(), text, text);
-                Ok(())
-            }
-        };
-        same(&rt, given, wanted, text);
-    }
+    same(
+        &rt,
+        first_other::<Signal>(rt.alloc(), &rows),
+        None,
+        "by rows",
+    );
 }
 
 #[test]
 fn enums_are_parsed_in_other_values(rt: HostRuntime) {
     let alloc = rt.alloc();
-    let lost = Event::Lost {
-        since: true,
-        peers: false,
-    };
-    let report = Report {
-        node: 9,
-        last: lost,
-    };
     let rows = [
         (
             "Report { node: 9, last: Lost { since: true, peers: false } }",
-            Ok(report),
+            "",
         ),
-        (
-            "Report { node: 9, last: Los }",
-            Err(NotText {
-                at: 24,
-                expected: Expected::Name,
-            }),
-        ),
+        ("Report { node: 9, last: Los }", "24 Name"),
     ];
-    for (text, wanted) in rows {
-        same(&rt, parse((), text.as_bytes()), wanted, text);
-    }
-    let pretty =
-        "Report {\n    node: 9,\n    last: Lost {\n        since: true,\n        peers: false,\n    },\n}";
-    same(&rt, parse_pretty((), pretty.as_bytes()), Ok(report), pretty);
-    let list: Result<Vec<Event>, ParseError> = parse_pretty(
-        alloc,
-        b"[\n    Started,\n    Said(\n        true,\n        false,\n    ),\n]",
-    );
+    same(&rt, first_other::<Report>(alloc, &rows), None, "a struct");
+    let rows = [("[Started, Said(true, false)]", ""), ("[]", "")];
+    same(&rt, first_other::<Vec<Event>>(alloc, &rows), None, "a list");
+    let rows = [("Some(Started)", ""), ("None", "")];
     same(
         &rt,
-        list.ok().as_ref().map(Vec::as_slice),
-        Some(&[Event::Started, Event::Said(true, false)][..]),
-        "a list of variants",
+        first_other::<Option<Event>>(alloc, &rows),
+        None,
+        "some",
     );
-    same(
-        &rt,
-        parse((), b"Some(Started)"),
-        Ok(Some(Event::Started)),
-        "a variant in an option",
-    );
-    same(&rt, parse((), b"Marker"), Ok(Marker {}), "no fields");
-    let error: Result<Result<u8, Event>, ParseError> = parse((), b"Err(Started)");
-    same(&rt, error, Ok(Err(Event::Started)), "an error in a result");
-    let neither: Result<Result<u8, Event>, ParseError> = parse((), b"Okay(1)");
-    same(
-        &rt,
-        neither,
-        Err(NotText {
-            at: 0,
-            expected: Expected::Name,
-        }),
-        "no result",
-    );
+    let rows = [("Marker", ""), ("Marker {}", "6 End")];
+    same(&rt, first_other::<Marker>(alloc, &rows), None, "no fields");
+    let rows = [("Err(Started)", ""), ("Ok(1)", ""), ("Okay(1)", "0 Name")];
+    let other = first_other::<Result<u8, Event>>(alloc, &rows);
+    same(&rt, other, None, "a result");
 }

@@ -4,11 +4,11 @@ ghost use Rattle.ufmt.specs.ValueDocuments.{integer, named, named_struct, named_
 ghost use Rattle.test_parse.specs.declared.tests.enums.structs.Order.TheVariants.{Halt, Apply, Hold, CrossFadeBetween, Pulse};
 ghost use Rattle.ufmt_parse.specs.Values.{is_i16, is_u8};
 
-use crate::tests::same;
+use crate::tests::{first_other, same};
 use example_parse::Set;
 use ufmt::{Formatter, fields, uDebug, uWrite};
 use ufmt_parse::ParseError::NotText;
-use ufmt_parse::{Expected, Fault, ParseMode, Parser, parse, parse_pretty, parse_variants, uParse};
+use ufmt_parse::{Expected, Fault, ParseMode, Parser, parse_pretty, parse_variants, uParse};
 
 /// An order to a device.
 #[derive(Clone, Copy, PartialEq, Eq, Debug, Drop)]
@@ -100,102 +100,41 @@ impl<A: Copy> uParse<A> for Order {
 
 #[test]
 fn structs_in_variants_are_parsed(rt: HostRuntime) {
-    let low = Set {
-        channel: 0,
-        level: -32768,
-    };
+    let fading =
+        "CrossFadeBetween { starting_point: Set { channel: 0, level: -32768 }, end_point: Set { channel: 255, level: 32767 }, repeated: true }";
+    let rows = [
+        ("Halt", ""),
+        ("Apply { set: Set { channel: 0, level: -32768 } }", ""),
+        ("Hold(Set { channel: 255, level: 32767 }, false)", ""),
+        (fading, ""),
+        ("Pulse(3, None, -1)", ""),
+        ("Pulse(0, Some(255), 0)", ""),
+        ("Apply { set: Set { channel: 256, level: 0 } }", "28 Number"),
+        ("Apply(Set { channel: 1, level: 2 })", "5 Punctuation"),
+        ("Apply { set: Halt }", "13 Name"),
+        ("Hold(Set { channel: 1, level: 2 }, maybe)", "35 Name"),
+        ("Hold(Set { channel: 1, level: 2 })", "33 Punctuation"),
+        ("Pulse(3, Some(256), -1)", "14 Number"),
+        ("Pulsed(3, None, -1)", "0 Name"),
+    ];
+    same(
+        &rt,
+        first_other::<Order>(rt.alloc(), &rows),
+        None,
+        "by rows",
+    );
     let high = Set {
         channel: 255,
         level: 32767,
     };
-    let fade = Order::CrossFadeBetween {
-        starting_point: low,
-        end_point: high,
-        repeated: true,
-    };
-    let fading =
-        "CrossFadeBetween { starting_point: Set { channel: 0, level: -32768 }, end_point: Set { channel: 255, level: 32767 }, repeated: true }";
-    let rows = [
-        ("Halt", Ok(Order::Halt)),
-        (
-            "Apply { set: Set { channel: 0, level: -32768 } }",
-            Ok(Order::Apply { set: low }),
-        ),
-        (
-            "Hold(Set { channel: 255, level: 32767 }, false)",
-            Ok(Order::Hold(high, false)),
-        ),
-        (fading, Ok(fade)),
-        ("Pulse(3, None, -1)", Ok(Order::Pulse(3, None, -1))),
-        ("Pulse(0, Some(255), 0)", Ok(Order::Pulse(0, Some(255), 0))),
-        (
-            "Apply { set: Set { channel: 256, level: 0 } }",
-            Err(NotText {
-                at: 28,
-                expected: Expected::Number,
-            }),
-        ),
-        (
-            "Apply(Set { channel: 1, level: 2 })",
-            Err(NotText {
-                at: 5,
-                expected: Expected::Punctuation,
-            }),
-        ),
-        (
-            "Apply { set: Halt }",
-            Err(NotText {
-                at: 13,
-                expected: Expected::Name,
-            }),
-        ),
-        (
-            "Hold(Set { channel: 1, level: 2 }, maybe)",
-            Err(NotText {
-                at: 35,
-                expected: Expected::Name,
-            }),
-        ),
-        (
-            "Hold(Set { channel: 1, level: 2 })",
-            Err(NotText {
-                at: 33,
-                expected: Expected::Punctuation,
-            }),
-        ),
-        (
-            "Pulse(3, Some(256), -1)",
-            Err(NotText {
-                at: 14,
-                expected: Expected::Number,
-            }),
-        ),
-        (
-            "Pulsed(3, None, -1)",
-            Err(NotText {
-                at: 0,
-                expected: Expected::Name,
-            }),
-        ),
-    ];
-    for (text, wanted) in rows {
-        same(&rt, parse((), text.as_bytes()), wanted, text);
-    }
     let pretty =
         "Hold(\n    Set {\n        channel: 255,\n        level: 32767,\n    },\n    true,\n)";
-    same(
-        &rt,
-        parse_pretty((), pretty.as_bytes()),
-        Ok(Order::Hold(high, true)),
-        pretty,
-    );
-    same(
-        &rt,
-        parse_pretty::<Order, ()>((), fading.as_bytes()),
-        Err(NotText {
-            at: 16,
-            expected: Expected::Punctuation,
-        }),
-        fading,
-    );
+    let held = parse_pretty((), pretty.as_bytes());
+    same(&rt, held, Ok(Order::Hold(high, true)), pretty);
+    let refused = parse_pretty::<Order, ()>((), fading.as_bytes());
+    let wanted = NotText {
+        at: 16,
+        expected: Expected::Punctuation,
+    };
+    same(&rt, refused, Err(wanted), fading);
 }
