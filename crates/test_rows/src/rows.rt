@@ -15,6 +15,23 @@ macro_rules! put_nonzero {
     };
 }
 
+/// An array of rows: cells, and after an arrow what is wanted of them.
+#[macro_export]
+macro_rules! rows_of {
+    ($($($cell:expr),+ => $wanted:expr;)*) => {
+        [$(($($cell),+, $wanted)),*]
+    };
+}
+
+/// Adds rows, each by a call of a method of the table, and after an arrow what is wanted of it.
+#[macro_export]
+macro_rules! put_rows {
+    ($table:ident; $($put:ident($($value:expr),+) => $wanted:expr;)*) => {
+        $($table.$put($($value),+);
+        $table.wants($wanted);)*
+    };
+}
+
 /// Rows, one after another, with a semicolon and a line feed after each.
 #[derive(Drop)]
 pub struct Table {

@@ -65,13 +65,21 @@ OPTIONS = {"-c": "per_row", "-g": "group", "-o": "offset"}
 def dumped(words, cells):
     """The dump of bytes, in hexadecimal digits, as `xxd` prints it with the words of the part; and without its offsets, and without its texts."""
     options = dict({"per_row": 16, "group": 2}, **{OPTIONS[word[:2]]: int(word[2:], 0) for word in words})
-    data, wanted = bytes.fromhex(cells[0]), cells[1]
-    request = Request(payload=data, **options)
-    yield request.data(), wanted, text_of(dump(request))
-    for offset in (options.get("offset", 0), 2**32):
-        for has_texts in (1, 0):
-            other = request._replace(offset=offset, ascii=has_texts)
-            yield other.data(), columns(wanted, offset < 2**32, has_texts), text_of(dump(other))
+    for request in alike(Request(payload=bytes.fromhex(cells[0]), **options)):
+        yield request.data(), cells[1], text_of(dump(request))
+        for offset in (request.offset, 2**32):
+            for has_texts in (1, 0):
+                other = request._replace(offset=offset, ascii=has_texts)
+                yield other.data(), columns(cells[1], offset < 2**32, has_texts), text_of(dump(other))
+
+
+def alike(request):
+    """This request, and others whose dump has the same rows: 0 bytes a row are 16, and a group as long as a row is the whole row."""
+    yield request
+    if request.per_row == 16:
+        yield request._replace(per_row=0)
+    if request.group == 0:
+        yield from (request._replace(group=request.per_row + more) for more in (0, 4))
 
 
 def columns(text, has_offsets, has_texts):

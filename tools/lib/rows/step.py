@@ -3,6 +3,7 @@ model says of it. The program is crates/probe_model/out/probe_model, which `rt c
 
 A row is a text with what rustc, xxd or a hand made of it: its other text, its pieces, the value that it is, the place where it stops to be one.
 """
+import concurrent.futures
 import pathlib
 import sys
 
@@ -15,6 +16,9 @@ from lib.top import TOP
 
 sys.setrecursionlimit(20_000)
 
+# So many texts a run of the program takes.
+BATCH = 50
+
 
 def asked(row, faults):
     """The texts that a row passes to the program. Where the model says something else than the row wants, that is a fault."""
@@ -25,6 +29,16 @@ def asked(row, faults):
         yield text if isinstance(text, bytes) else text.encode(errors="surrogateescape")
 
 
+def wrong_lines(program, places):
+    """The faults of a run of the program on these texts, each of which has the place of its row."""
+    lines, faults = cases.answers(program, list(places))
+    for (text, place), line in zip(places.items(), lines):
+        wanted = verdicts.verdict(text)[0]
+        if line != wanted:
+            faults.append(case(place, wanted, line))
+    return faults
+
+
 def main(given):
     program = pathlib.Path(given.program or TOP / "crates/probe_model/out/probe_model").resolve()
     faults, places, count = [], {}, 0
@@ -32,9 +46,9 @@ def main(given):
         count += 1
         for text in asked(row, faults):
             places.setdefault(text, row.place)
-    lines, unended = cases.answers(program, list(places))
-    for (text, place), line in zip(places.items(), lines):
-        wanted = verdicts.verdict(text)[0]
-        if line != wanted:
-            faults.append(case(place, wanted, line))
-    return ended(faults + unended, "%d rows, %d texts" % (count, len(places)))
+    pairs = list(places.items())
+    with concurrent.futures.ProcessPoolExecutor() as pool:
+        jobs = [pool.submit(wrong_lines, program, dict(pairs[at : at + BATCH])) for at in range(0, len(pairs), BATCH)]
+        for job in jobs:
+            faults += job.result()
+    return ended(faults, "%d rows, %d texts" % (count, len(places)))

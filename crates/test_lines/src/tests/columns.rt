@@ -1,4 +1,5 @@
-//! Tests of columns. Spaces come in pieces of up to 64, other fills one in a piece.
+//! Tests of columns. Spaces come in pieces of up to 64, other fills one in a piece. Texts in columns of each width are rows of
+//! tools/data/rows.
 ghost use Rattle.std.specs.Prelude.{codes};
 ghost use Rattle.ufmt.specs.Document.{leaf};
 ghost use Rattle.ufmt.specs.Hex.{padded};
@@ -10,6 +11,7 @@ use std::cell::Cell;
 use std::test::Fail;
 use test_rows::printed::{PREFIXED, Printed};
 use test_rows::rows::Table;
+use test_rows::rows_of;
 use ufmt::pieces::{Debug, Display, InColumn};
 use ufmt::{
     Align, Column, Decimal, Formatter, HexOptions, Line, laws, line_into, pieces, uDebug,
@@ -30,89 +32,6 @@ fn center(width: usize) -> Column {
 
 fn right(width: usize) -> Column {
     column(Align::Right, ' ', width)
-}
-
-// The text in columns of each width below 8, with a bar after each.
-fn of_each_width(
-    alloc: Global,
-    value: &str,
-    align: Align,
-    fill: char,
-) -> Result<String, AllocError> {
-    let mut row = String::new(alloc);
-    for width in 0..8usize {
-        write_line(
-            &mut row,
-            &pieces!(display value in column(align, fill, width), text "|"),
-        )?;
-    }
-    Ok(row)
-}
-
-// Texts in columns, as rustc prints them, with the fill `*`. `tools/expected/show --as '{:*^5}' '"a"'` prints such a one
-// again.
-const OF_EACH_WIDTH: [(&str, Align, &str); 15] = [
-    ("", Align::Left, "|*|**|***|****|*****|******|*******|"),
-    ("", Align::Center, "|*|**|***|****|*****|******|*******|"),
-    ("", Align::Right, "|*|**|***|****|*****|******|*******|"),
-    ("a", Align::Left, "a|a|a*|a**|a***|a****|a*****|a******|"),
-    ("a", Align::Center, "a|a|a*|*a*|*a**|**a**|**a***|***a***|"),
-    ("a", Align::Right, "a|a|*a|**a|***a|****a|*****a|******a|"),
-    (
-        "abcd",
-        Align::Left,
-        "abcd|abcd|abcd|abcd|abcd|abcd*|abcd**|abcd***|",
-    ),
-    (
-        "abcd",
-        Align::Center,
-        "abcd|abcd|abcd|abcd|abcd|abcd*|*abcd*|*abcd**|",
-    ),
-    (
-        "abcd",
-        Align::Right,
-        "abcd|abcd|abcd|abcd|abcd|*abcd|**abcd|***abcd|",
-    ),
-    (
-        "é€🦀",
-        Align::Left,
-        "é€🦀|é€🦀|é€🦀|é€🦀|é€🦀*|é€🦀**|é€🦀***|é€🦀****|",
-    ),
-    (
-        "é€🦀",
-        Align::Center,
-        "é€🦀|é€🦀|é€🦀|é€🦀|é€🦀*|*é€🦀*|*é€🦀**|**é€🦀**|",
-    ),
-    (
-        "é€🦀",
-        Align::Right,
-        "é€🦀|é€🦀|é€🦀|é€🦀|*é€🦀|**é€🦀|***é€🦀|****é€🦀|",
-    ),
-    ("日本", Align::Left, "日本|日本|日本|日本*|日本**|日本***|日本****|日本*****|"),
-    (
-        "日本",
-        Align::Center,
-        "日本|日本|日本|日本*|*日本*|*日本**|**日本**|**日本***|",
-    ),
-    (
-        "日本",
-        Align::Right,
-        "日本|日本|日本|*日本|**日本|***日本|****日本|*****日本|",
-    ),
-];
-
-// With another fill, that fill is in the place of `*`.
-#[test]
-fn texts_are_padded_as_in_rust(rt: HostRuntime) -> Result<(), Fail> {
-    for (fill, filled) in [(' ', " "), ('*', "*"), ('é', "é"), ('🦀', "🦀")] {
-        let mut table = Table::new(rt.alloc());
-        for (value, align, wanted) in OF_EACH_WIDTH {
-            table.put_made(of_each_width(rt.alloc(), value, align, fill));
-            table.wants(wanted.replace(rt.alloc(), "*", filled)?.as_str());
-        }
-        has_wanted_rows(&rt, &table);
-    }
-    Ok(())
 }
 
 // A line, which prints in either mode.
@@ -179,37 +98,13 @@ macro_rules! put_lines {
 #[test]
 fn a_column_that_no_buffer_holds_fails_with_full(rt: HostRuntime) {
     let mut table = Table::new(rt.alloc());
-    for (align, fill, wanted) in [
-        (
-            Align::Left,
-            ' ',
-            "Err(Full) x                                                                ~~~~~~~~~~~~~~~",
-        ),
-        (
-            Align::Left,
-            '*',
-            "Err(Full) x*******************************************************************************",
-        ),
-        (
-            Align::Center,
-            ' ',
-            "Err(Full)                                                                 ~~~~~~~~~~~~~~~~",
-        ),
-        (
-            Align::Center,
-            '*',
-            "Err(Full) ********************************************************************************",
-        ),
-        (
-            Align::Right,
-            ' ',
-            "Err(Full)                                                                 ~~~~~~~~~~~~~~~~",
-        ),
-        (
-            Align::Right,
-            '*',
-            "Err(Full) ********************************************************************************",
-        ),
+    for (align, fill, wanted) in rows_of![
+        Align::Left, ' ' => "Err(Full) x                                                                ~~~~~~~~~~~~~~~";
+        Align::Left, '*' => "Err(Full) x*******************************************************************************";
+        Align::Center, ' ' => "Err(Full)                                                                 ~~~~~~~~~~~~~~~~";
+        Align::Center, '*' => "Err(Full) ********************************************************************************";
+        Align::Right, ' ' => "Err(Full)                                                                 ~~~~~~~~~~~~~~~~";
+        Align::Right, '*' => "Err(Full) ********************************************************************************";
     ] {
         let mut bytes = [b'~'; 80];
         let widest = column(align, fill, usize::MAX);

@@ -8,6 +8,7 @@ use super::asserts::{has_wanted_rows, same};
 use example_print::{Pair, log_cut};
 use std::cell::Cell;
 use test_rows::rows::{Table, repeated};
+use test_rows::rows_of;
 use ufmt::{
     Cut, Formatter, Full, HexOptions, Truncating, debug_cut_into, display_cut_into, line_cut_into,
     pieces, pretty_cut_into, uDebug, uDisplay, uWrite, write_debug,
@@ -59,23 +60,15 @@ fn cut_by(call: usize, buffer: &mut [u8]) -> Cut {
 }
 
 // The whole text of each call, and how many bytes of it a buffer of no byte has, one of one byte, and so on.
-const CUTS: [(&str, &[usize]); 7] = [
-    ("aé€𝄞b", &[0, 1, 1, 3, 3, 3, 6, 6, 6, 6, 10, 11, 11]),
-    ("\"é\\n\"", &[0, 1, 1, 3, 4, 5, 6, 6]),
-    (
-        "Pair { x: 1, y: Some(\"é\") }",
-        &[
-            0, 1, 2, 3, 4, 5, 6, 7, 8, 9, 10, 11, 12, 13, 14, 15, 16, 17, 18, 19, 20, 21, 22, 22,
-            24, 25, 26, 27, 28, 28,
-        ],
-    ),
-    ("[\n    7,\n]", &[0, 1, 2, 3, 4, 5, 6, 7, 8, 9, 10, 10]),
-    (
-        "n=7 é 0x0a €",
-        &[0, 1, 2, 3, 4, 4, 6, 7, 8, 9, 10, 11, 12, 12, 12, 15, 15],
-    ),
-    ("", &[0, 0]),
-    ("", &[0, 0]),
+const CUTS: [(&str, &[usize]); 7] = rows_of![
+    "aé€𝄞b" => &[0, 1, 1, 3, 3, 3, 6, 6, 6, 6, 10, 11, 11];
+    "\"é\\n\"" => &[0, 1, 1, 3, 4, 5, 6, 6];
+    "Pair { x: 1, y: Some(\"é\") }"
+        => &[0, 1, 2, 3, 4, 5, 6, 7, 8, 9, 10, 11, 12, 13, 14, 15, 16, 17, 18, 19, 20, 21, 22, 22, 24, 25, 26, 27, 28, 28];
+    "[\n    7,\n]" => &[0, 1, 2, 3, 4, 5, 6, 7, 8, 9, 10, 10];
+    "n=7 é 0x0a €" => &[0, 1, 2, 3, 4, 4, 6, 7, 8, 9, 10, 11, 12, 12, 12, 15, 15];
+    "" => &[0, 0];
+    "" => &[0, 0];
 ];
 
 // Whether the buffer begins with so much of the text, and is as before after that.
@@ -105,23 +98,11 @@ fn a_text_is_cut_between_characters_where_the_buffer_ends(rt: HostRuntime) {
 #[test]
 fn a_log_line_is_cut_at_64_bytes(rt: HostRuntime) {
     let mut table = Table::new(rt.alloc());
-    for ((count, end), wanted) in [
-        (
-            (54, "é€"),
-            "64 false node 7: xxxxxxxxxxxxxxxxxxxxxxxxxxxxxxxxxxxxxxxxxxxxxxxxxxxxxxé",
-        ),
-        (
-            (55, "é€"),
-            "63 false node 7: xxxxxxxxxxxxxxxxxxxxxxxxxxxxxxxxxxxxxxxxxxxxxxxxxxxxxxx.",
-        ),
-        (
-            (56, ""),
-            "64 true node 7: xxxxxxxxxxxxxxxxxxxxxxxxxxxxxxxxxxxxxxxxxxxxxxxxxxxxxxxx",
-        ),
-        (
-            (0, "short"),
-            "13 true node 7: short...................................................",
-        ),
+    for ((count, end), wanted) in rows_of![
+        (54, "é€") => "64 false node 7: xxxxxxxxxxxxxxxxxxxxxxxxxxxxxxxxxxxxxxxxxxxxxxxxxxxxxxé";
+        (55, "é€") => "63 false node 7: xxxxxxxxxxxxxxxxxxxxxxxxxxxxxxxxxxxxxxxxxxxxxxxxxxxxxxx.";
+        (56, "") => "64 true node 7: xxxxxxxxxxxxxxxxxxxxxxxxxxxxxxxxxxxxxxxxxxxxxxxxxxxxxxxx";
+        (0, "short") => "13 true node 7: short...................................................";
     ] {
         if let Ok(message) = repeated(rt.alloc(), "", "x", count, end) {
             let mut buffer = [b'.'; 64];

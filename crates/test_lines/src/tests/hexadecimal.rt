@@ -6,8 +6,8 @@ use std::num::{
     NonZeroU16, NonZeroU32, NonZeroU64, NonZeroU128, NonZeroUsize, Saturating, Wrapping,
 };
 use test_rows::printed::{Hexadecimal, Payload, print_to};
-use test_rows::put_nonzero;
 use test_rows::rows::Table;
+use test_rows::{put_nonzero, put_rows};
 use ufmt::{Cursor, HexOptions, uDisplayHex};
 
 fn lower_case(ox_prefix: bool, pad_char: u8, pad_length: usize) -> HexOptions {
@@ -62,42 +62,26 @@ impl HexadecimalRows for Table {
 #[test]
 fn fmt_hex_prints_numbers_of_each_width(rt: HostRuntime) {
     let mut table = Table::new(rt.alloc());
-    table.hexadecimal(i8::MIN);
-    table.wants("80|");
-    table.hexadecimal(i8::MAX);
-    table.wants("7f|");
-    table.hexadecimal(i16::MIN);
-    table.wants("8000|");
-    table.hexadecimal(i16::MAX);
-    table.wants("7fff|");
-    table.hexadecimal(i32::MIN);
-    table.wants("80000000|");
-    table.hexadecimal(i32::MAX);
-    table.wants("7fffffff|");
-    table.hexadecimal(i64::MIN);
-    table.wants("8000000000000000|");
-    table.hexadecimal(i64::MAX);
-    table.wants("7fffffffffffffff|");
-    table.hexadecimal(isize::MIN);
-    table.wants("8000000000000000|");
-    table.hexadecimal(isize::MAX);
-    table.wants("7fffffffffffffff|");
-    table.hexadecimal(i128::MIN);
-    table.wants("80000000000000000000000000000000|");
-    table.hexadecimal(i128::MAX);
-    table.wants("7fffffffffffffffffffffffffffffff|");
-    table.hexadecimal(u8::MAX);
-    table.wants("ff|");
-    table.hexadecimal(u16::MAX);
-    table.wants("ffff|");
-    table.hexadecimal(u32::MAX);
-    table.wants("ffffffff|");
-    table.hexadecimal(u64::MAX);
-    table.wants("ffffffffffffffff|");
-    table.hexadecimal(usize::MAX);
-    table.wants("ffffffffffffffff|");
-    table.hexadecimal(u128::MAX);
-    table.wants("ffffffffffffffffffffffffffffffff|");
+    put_rows!(table;
+        hexadecimal(i8::MIN) => "80|";
+        hexadecimal(i8::MAX) => "7f|";
+        hexadecimal(i16::MIN) => "8000|";
+        hexadecimal(i16::MAX) => "7fff|";
+        hexadecimal(i32::MIN) => "80000000|";
+        hexadecimal(i32::MAX) => "7fffffff|";
+        hexadecimal(i64::MIN) => "8000000000000000|";
+        hexadecimal(i64::MAX) => "7fffffffffffffff|";
+        hexadecimal(isize::MIN) => "8000000000000000|";
+        hexadecimal(isize::MAX) => "7fffffffffffffff|";
+        hexadecimal(i128::MIN) => "80000000000000000000000000000000|";
+        hexadecimal(i128::MAX) => "7fffffffffffffffffffffffffffffff|";
+        hexadecimal(u8::MAX) => "ff|";
+        hexadecimal(u16::MAX) => "ffff|";
+        hexadecimal(u32::MAX) => "ffffffff|";
+        hexadecimal(u64::MAX) => "ffffffffffffffff|";
+        hexadecimal(usize::MAX) => "ffffffffffffffff|";
+        hexadecimal(u128::MAX) => "ffffffffffffffffffffffffffffffff|";
+    );
     has_wanted_rows(&rt, &table);
 }
 
@@ -105,12 +89,11 @@ fn fmt_hex_prints_numbers_of_each_width(rt: HostRuntime) {
 fn numbers_that_are_held_print_in_hexadecimal(rt: HostRuntime) {
     let mut table = Table::new(rt.alloc());
     let mut number = 255u8;
-    table.hexadecimal(&mut number);
-    table.wants("ff|");
-    table.hexadecimal(Wrapping(-1i8));
-    table.wants("ff|");
-    table.hexadecimal(Saturating(16u64));
-    table.wants("10|");
+    put_rows!(table;
+        hexadecimal(&mut number) => "ff|";
+        hexadecimal(Wrapping(-1i8)) => "ff|";
+        hexadecimal(Saturating(16u64)) => "10|";
+    );
     put_nonzero!(table.hexadecimal:
         NonZeroU8 u8::MAX => "ff|",
         NonZeroU16 u16::MAX => "ffff|",
@@ -170,36 +153,29 @@ fn numbers_and_payloads_are_padded(rt: HostRuntime) {
         table.padded(n, options);
         table.wants(wanted);
     }
-    table.padded(171u8, upper_case(false, b'0', 4));
-    table.wants("0|0|AB|");
-    table.padded(&171u8, upper_case(false, b'0', 4));
-    table.wants("0|0|AB|");
-    table.padded(33u8, lower_case(false, b'0', 40));
-    table.wants("0|0|0|0|0|0|0|0|0|0|0|0|0|0|0|0|0|0|0|0|0|0|0|0|0|0|0|0|0|0|0|0|0|0|0|0|0|0|21|");
-    table.padded(33u8, lower_case(true, b' ', 40));
-    table.wants(" | | | | | | | | | | | | | | | | | | | | | | | | | | | | | | | | | | | |0x|21|");
-    table.payload("é", lower_case(false, b'0', 4));
-    table.wants("0|0|é|");
-    table.payload("é", lower_case(true, b'-', 6));
-    table.wants("0x|-|-|é|");
-    table.payload("", lower_case(true, b' ', 4));
-    table.wants(" | |0x||");
-    table.payload("", lower_case(true, b'0', 4));
-    table.wants("0x|0|0||");
-    table.payload("", lower_case(false, b'0', 2));
-    table.wants("0|0||");
+    put_rows!(table;
+        padded(171u8, upper_case(false, b'0', 4)) => "0|0|AB|";
+        padded(&171u8, upper_case(false, b'0', 4)) => "0|0|AB|";
+        padded(33u8, lower_case(false, b'0', 40)) => "0|0|0|0|0|0|0|0|0|0|0|0|0|0|0|0|0|0|0|0|0|0|0|0|0|0|0|0|0|0|0|0|0|0|0|0|0|0|21|";
+        padded(33u8, lower_case(true, b' ', 40)) => " | | | | | | | | | | | | | | | | | | | | | | | | | | | | | | | | | | | |0x|21|";
+        payload("é", lower_case(false, b'0', 4)) => "0|0|é|";
+        payload("é", lower_case(true, b'-', 6)) => "0x|-|-|é|";
+        payload("", lower_case(true, b' ', 4)) => " | |0x||";
+        payload("", lower_case(true, b'0', 4)) => "0x|0|0||";
+        payload("", lower_case(false, b'0', 2)) => "0|0||";
+    );
     for (pad, is_ascii) in [(127, true), (128, false)] {
         let has_ascii_pad = lower_case(false, pad, 0).has_ascii_pad();
         same(&rt, (pad, has_ascii_pad), (pad, is_ascii), "a pad byte");
     }
-    table.past_a_buffer(lower_case(false, b'0', usize::MAX));
-    table.wants("Err(Full) 00000000");
-    table.past_a_buffer(lower_case(true, b'0', usize::MAX));
-    table.wants("Err(Full) 0x000000");
-    table.past_a_buffer(lower_case(true, b' ', usize::MAX));
-    table.wants("Err(Full)         ");
+    put_rows!(table;
+        past_a_buffer(lower_case(false, b'0', usize::MAX)) => "Err(Full) 00000000";
+        past_a_buffer(lower_case(true, b'0', usize::MAX)) => "Err(Full) 0x000000";
+        past_a_buffer(lower_case(true, b' ', usize::MAX)) => "Err(Full)         ";
+    );
     // No slice is so long.
-    table.past_a_buffer(lower_case(false, b'0', 9_223_372_036_854_775_808));
-    table.wants("Err(Full) 00000000");
+    put_rows!(table;
+        past_a_buffer(lower_case(false, b'0', 9_223_372_036_854_775_808)) => "Err(Full) 00000000";
+    );
     has_wanted_rows(&rt, &table);
 }

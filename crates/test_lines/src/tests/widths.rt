@@ -4,6 +4,7 @@ use std::num::{
     NonZeroI8, NonZeroI16, NonZeroI32, NonZeroI64, NonZeroI128, NonZeroIsize, NonZeroU8,
     NonZeroU16, NonZeroU32, NonZeroU64, NonZeroU128, NonZeroUsize, Saturating, Wrapping,
 };
+use test_rows::put_rows;
 use test_rows::rows::Table;
 use ufmt::pieces::{Display, InColumn};
 use ufmt::{
@@ -265,37 +266,12 @@ fn a_huge_column_around_a_huge_number_ends_with_its_buffer(rt: HostRuntime) {
 fn a_dump_of_rows_that_no_buffer_holds_fails_with_full(rt: HostRuntime) {
     for width in WIDTHS {
         let mut table = Table::new(rt.alloc());
-        table.put_dump(&HexDump {
-            per_row: width,
-            ..DUMP
-        });
-        table.wants("Err(Full) 6162~~~~~~~~");
-        table.put_dump(&HexDump {
-            per_row: width,
-            group: 1,
-            ..DUMP
-        });
-        table.wants("Err(Full) 61 62~~~~~~~");
-        table.put_dump(&HexDump {
-            per_row: width,
-            group: width,
-            ..DUMP
-        });
-        table.wants("Err(Full) 6162~~~~~~~~");
-        table.put_dump(&HexDump {
-            group: width,
-            ..DUMP
-        });
-        table.wants("Err(Full) ~~~~~~~~~~~~");
-        table.put_dump(&HexDump {
-            per_row: width,
-            ascii: false,
-            ..DUMP
-        });
-        table.wants(
-            "\
-Ok(5) 6162
-~~~~~~~",
+        put_rows!(table;
+            put_dump(&HexDump { per_row: width,..DUMP }) => "Err(Full) 6162~~~~~~~~";
+            put_dump(&HexDump { per_row: width, group: 1,..DUMP }) => "Err(Full) 61 62~~~~~~~";
+            put_dump(&HexDump { per_row: width, group: width,..DUMP }) => "Err(Full) 6162~~~~~~~~";
+            put_dump(&HexDump { group: width,..DUMP }) => "Err(Full) ~~~~~~~~~~~~";
+            put_dump(&HexDump { per_row: width, ascii: false,..DUMP }) => "Ok(5) 6162\n~~~~~~~";
         );
         has_wanted_rows(&rt, &table);
     }

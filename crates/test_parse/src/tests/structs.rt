@@ -9,7 +9,9 @@ use example_parse::{Measurement, Set, Switch, parse_command, parse_measurement};
 use std::alloc::Global;
 use ufmt::{Formatter, fields, uDebug, uWrite};
 use ufmt_parse::ParseError::NotText;
-use ufmt_parse::{Expected, Fault, ParseMode, Parser, parse_fields, parse_pretty, uParse};
+use ufmt_parse::{
+    Expected, Fault, ParseError, ParseMode, Parser, parse_fields, parse_pretty, uParse,
+};
 
 /// Two truth values, each of which is one document or another.
 #[derive(Clone, Copy, PartialEq, Eq, Debug, Drop)]
@@ -212,6 +214,13 @@ fn structs_are_parsed_up_to_what_does_not_fit(rt: HostRuntime) {
     );
 }
 
+fn punctuation_at(at: usize) -> Result<Both, ParseError> {
+    Err(NotText {
+        at,
+        expected: Expected::Punctuation,
+    })
+}
+
 #[test]
 fn pretty_texts_are_parsed_with_their_indentation(rt: HostRuntime) {
     let flags = Flags {
@@ -222,16 +231,10 @@ fn pretty_texts_are_parsed_with_their_indentation(rt: HostRuntime) {
         "Both(\n    Flags {\n        on: false,\n        off: true,\n    },\n    Some(\n        true,\n    ),\n)";
     let less = "Both(\n    Flags {\n        on: false,\n       off: true,\n    },\n    None,\n)";
     let plain = "Both(Flags { on: false, off: true }, None)";
-    let stopped = |at| {
-        Err(NotText {
-            at,
-            expected: Expected::Punctuation,
-        })
-    };
     let rows = [
         (text, Ok(Both(flags, Some(true)))),
-        (less, stopped(37)),
-        (plain, stopped(4)),
+        (less, punctuation_at(37)),
+        (plain, punctuation_at(4)),
     ];
     for (text, wanted) in rows {
         same(&rt, parse_pretty((), text.as_bytes()), wanted, text);

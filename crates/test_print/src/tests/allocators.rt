@@ -2,6 +2,7 @@
 use super::asserts::{has_wanted_rows, same};
 use std::alloc::{AllocError, Allocator};
 use std::collections::{BTreeMap, BTreeSet};
+use test_rows::put_rows;
 use test_rows::rows::{Table, are_ok};
 use ufmt::{Formatter, write_debug, write_display};
 
@@ -21,35 +22,13 @@ fn map_of_4<A: Allocator + Clone>(alloc: A) -> Result<BTreeMap<u8, u8, A>, Alloc
 fn values_over_a_lent_allocator_print(rt: HostRuntime) {
     let global = rt.alloc();
     let mut table = Table::new(rt.alloc());
-    table.texts_of_made(Vec::from_slice(&global, &[1u8, 2]));
-    table.wants(
-        "\
-[1, 2]~
-[
-    1,
-    2,
-]",
+    put_rows!(table;
+        texts_of_made(Vec::from_slice(&global, &[1u8, 2])) => "[1, 2]~\n[\n    1,\n    2,\n]";
+        texts_of_made(set_of_3(&global)) => "{3}~\n{\n    3,\n}";
+        texts_of_made(map_of_4(&global)) => "{4: 5}~\n{\n    4: 5,\n}";
+        texts_of_made(Box::new(&global, 6u8)) => "6";
+        texts_of_made(String::from_str(&global, "7xé")) => "\"7xé\"";
     );
-    table.texts_of_made(set_of_3(&global));
-    table.wants(
-        "\
-{3}~
-{
-    3,
-}",
-    );
-    table.texts_of_made(map_of_4(&global));
-    table.wants(
-        "\
-{4: 5}~
-{
-    4: 5,
-}",
-    );
-    table.texts_of_made(Box::new(&global, 6u8));
-    table.wants("6");
-    table.texts_of_made(String::from_str(&global, "7xé"));
-    table.wants("\"7xé\"");
     has_wanted_rows(&rt, &table);
 }
 

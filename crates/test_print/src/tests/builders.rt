@@ -3,6 +3,7 @@ use super::asserts::has_wanted_rows;
 use std::collections::BTreeMap;
 use test_rows::printed::Printed;
 use test_rows::rows::{Table, map};
+use test_rows::rows_of;
 use ufmt::{Formatter, uDebug, uWrite};
 
 /// What builders write.
@@ -89,72 +90,22 @@ fn builders_write_structs_and_tuples_in_pieces(rt: HostRuntime) {
 S| {| |m|: |{|1|: |2|}|, |n|: |3| |}|~
 S| {|\n|    |m|: |{|\n|    |    |1|: |2|,\n|    |}|,\n|    |n|: |3|,\n|}|",
     );
-    for (built, wanted) in [
-        (Built::Unit, "A|"),
-        (Built::NoField(""), "|"),
-        (Built::NoField("T"), "T|"),
-        (
-            Built::OneField(""),
-            "\
-|(|1|,|)|~
-|(|\n|    |1|,\n|)|",
-        ),
-        (
-            Built::OneField("T"),
-            "\
-T|(|1|)|~
-T|(|\n|    |1|,\n|)|",
-        ),
-        (
-            Built::TwoFields(""),
-            "\
-|(|1|, |2|)|~
-|(|\n|    |1|,\n|    |2|,\n|)|",
-        ),
-        (
-            Built::TwoFields("T"),
-            "\
-T|(|1|, |2|)|~
-T|(|\n|    |1|,\n|    |2|,\n|)|",
-        ),
-        (
-            Built::NoNames,
-            "\
-| {| ||: |1|, ||: |2| |}|~
-| {|\n|    ||: |1|,\n|    ||: |2|,\n|}|",
-        ),
-        (
-            Built::NoNamesInOneCall,
-            "\
-| {| ||: |1|, ||: |2| |}|~
-| {|\n|    ||: |1|,\n|    ||: |2|,\n|}|",
-        ),
-        (
-            Built::UnnamedInOneCall,
-            "\
-|||(|1|,|)|~
-|||(|\n|    |1|,\n|)|",
-        ),
-        (Built::OnlyDots(""), "| { .. }|"),
-        (Built::OnlyDots("A"), "A| { .. }|"),
-        (
-            Built::FieldsAndDots(""),
-            "\
-| {| |m|: |1|, |n|: |2|, ..| |}|~
-| {|\n|    |m|: |1|,\n|    |n|: |2|,\n|    |..\n|}|",
-        ),
-        (
-            Built::FieldsAndDots("S"),
-            "\
-S| {| |m|: |1|, |n|: |2|, ..| |}|~
-S| {|\n|    |m|: |1|,\n|    |n|: |2|,\n|    |..\n|}|",
-        ),
-        (
-            Built::DotsInOneCall,
-            "\
-A| { .. }|S| {| |m|: |1|, |n|: |2|, ..| |}|~
-A| { .. }|S| {|\n|    |m|: |1|,\n|    |n|: |2|,\n|    |..\n|}|",
-        ),
+    for (built, wanted) in rows_of![
+        Built::Unit => "A|";
+        Built::NoField("") => "|";
+        Built::NoField("T") => "T|";
+        Built::OneField("") => "|(|1|,|)|~\n|(|\n|    |1|,\n|)|";
+        Built::OneField("T") => "T|(|1|)|~\nT|(|\n|    |1|,\n|)|";
+        Built::TwoFields("") => "|(|1|, |2|)|~\n|(|\n|    |1|,\n|    |2|,\n|)|";
+        Built::TwoFields("T") => "T|(|1|, |2|)|~\nT|(|\n|    |1|,\n|    |2|,\n|)|";
+        Built::NoNames => "| {| ||: |1|, ||: |2| |}|~\n| {|\n|    ||: |1|,\n|    ||: |2|,\n|}|";
+        Built::NoNamesInOneCall => "| {| ||: |1|, ||: |2| |}|~\n| {|\n|    ||: |1|,\n|    ||: |2|,\n|}|";
+        Built::UnnamedInOneCall => "|||(|1|,|)|~\n|||(|\n|    |1|,\n|)|";
+        Built::OnlyDots("") => "| { .. }|";
+        Built::OnlyDots("A") => "A| { .. }|";
+        Built::FieldsAndDots("") => "| {| |m|: |1|, |n|: |2|, ..| |}|~\n| {|\n|    |m|: |1|,\n|    |n|: |2|,\n|    |..\n|}|";
+        Built::FieldsAndDots("S") => "S| {| |m|: |1|, |n|: |2|, ..| |}|~\nS| {|\n|    |m|: |1|,\n|    |n|: |2|,\n|    |..\n|}|";
+        Built::DotsInOneCall => "A| { .. }|S| {| |m|: |1|, |n|: |2|, ..| |}|~\nA| { .. }|S| {|\n|    |m|: |1|,\n|    |n|: |2|,\n|    |..\n|}|";
     ] {
         table.pieces(&built);
         table.wants(wanted);

@@ -1,108 +1,10 @@
-//! Tests of `Decimal`, and of the lines of `example_print` with numbers as firmware prints them.
+//! Tests of the pieces of a `Decimal`, and of the lines of `example_print` with numbers as firmware prints them. The texts of
+//! decimals are rows of tools/data/rows.
 use super::asserts::has_wanted_rows;
 use example_print::{Time, write_status, write_time};
 use test_rows::printed::{Displayed, ZeroPadded};
 use test_rows::rows::Table;
-use ufmt::{Decimal, Formatter, uDisplay, uDisplayZeros};
-
-trait DecimalRows {
-    // Adds a row of the number's text by `uDisplay`, and with zeros to widths 8 and 25, a bar after each.
-    fn decimal(&mut self, value: i64, places: u8);
-}
-
-impl DecimalRows for Table {
-    fn decimal(&mut self, value: i64, places: u8) {
-        let decimal = Decimal { value, places };
-        let mut row = String::new(self.alloc());
-        let mut f = Formatter::new(&mut row);
-        let is_printed = uDisplay::fmt(&decimal, &mut f).is_ok()
-            && f.write_str("|").is_ok()
-            && decimal.fmt_zeros(&mut f, 8).is_ok()
-            && f.write_str("|").is_ok()
-            && decimal.fmt_zeros(&mut f, 25).is_ok()
-            && f.write_str("|").is_ok();
-        if is_printed {
-            self.put(row.as_str());
-        } else {
-            self.put_nothing();
-        }
-    }
-}
-
-// Of each number, by decimal.Decimal of Python: its formats `f`, `08f` and `025f`.
-#[test]
-fn decimals_print_as_by_python(rt: HostRuntime) {
-    let mut table = Table::new(rt.alloc());
-    for ((value, places), wanted) in [
-        ((-125, 1), "-12.5|-00012.5|-0000000000000000000012.5|"),
-        ((-5, 2), "-0.05|-0000.05|-000000000000000000000.05|"),
-        ((5, 2), "0.05|00000.05|0000000000000000000000.05|"),
-        ((0, 0), "0|00000000|0000000000000000000000000|"),
-        ((0, 3), "0.000|0000.000|000000000000000000000.000|"),
-        ((7, 0), "7|00000007|0000000000000000000000007|"),
-        ((-7, 0), "-7|-0000007|-000000000000000000000007|"),
-        ((10, 1), "1.0|000001.0|00000000000000000000001.0|"),
-        ((99, 2), "0.99|00000.99|0000000000000000000000.99|"),
-        ((-100, 2), "-1.00|-0001.00|-000000000000000000001.00|"),
-        ((123456, 3), "123.456|0123.456|000000000000000000123.456|"),
-        (
-            (i64::MAX, 0),
-            "9223372036854775807|9223372036854775807|0000009223372036854775807|",
-        ),
-        (
-            (i64::MAX, 1),
-            "922337203685477580.7|922337203685477580.7|00000922337203685477580.7|",
-        ),
-        (
-            (i64::MAX, 18),
-            "9.223372036854775807|9.223372036854775807|000009.223372036854775807|",
-        ),
-        (
-            (i64::MAX, 19),
-            "0.9223372036854775807|0.9223372036854775807|00000.9223372036854775807|",
-        ),
-        (
-            (i64::MAX, 20),
-            "0.09223372036854775807|0.09223372036854775807|0000.09223372036854775807|",
-        ),
-        (
-            (i64::MIN, 0),
-            "-9223372036854775808|-9223372036854775808|-000009223372036854775808|",
-        ),
-        (
-            (i64::MIN, 2),
-            "-92233720368547758.08|-92233720368547758.08|-000092233720368547758.08|",
-        ),
-        (
-            (i64::MIN, 18),
-            "-9.223372036854775808|-9.223372036854775808|-00009.223372036854775808|",
-        ),
-        (
-            (i64::MIN, 19),
-            "-0.9223372036854775808|-0.9223372036854775808|-0000.9223372036854775808|",
-        ),
-        (
-            (i64::MIN, 30),
-            "-0.000000000009223372036854775808|-0.000000000009223372036854775808|-0.000000000009223372036854775808|",
-        ),
-        (
-            (1, 19),
-            "0.0000000000000000001|0.0000000000000000001|00000.0000000000000000001|",
-        ),
-        (
-            (1, 20),
-            "0.00000000000000000001|0.00000000000000000001|0000.00000000000000000001|",
-        ),
-        (
-            (-1, 40),
-            "-0.0000000000000000000000000000000000000001|-0.0000000000000000000000000000000000000001|-0.0000000000000000000000000000000000000001|",
-        ),
-    ] {
-        table.decimal(value, places);
-        table.wants(wanted);
-    }
-    has_wanted_rows(&rt, &table);
-}
+use ufmt::Decimal;
 
 #[test]
 fn decimals_print_in_pieces(rt: HostRuntime) {
@@ -111,6 +13,12 @@ fn decimals_print_in_pieces(rt: HostRuntime) {
         ((-125, 1), "-|12|.|5|", "-|12|.|5|"),
         ((-5, 2), "-|0|.|0|5|", "-|0|.|0|5|"),
         ((7, 0), "7|", "7|"),
+        (
+            (i64::MIN, 19),
+            "-|0|.|9223372036854775808|",
+            "-|0|.|9223372036854775808|",
+        ),
+        ((1, 3), "0|.|0|0|1|", "0|.|0|0|1|"),
     ] {
         table.pieces(&Decimal { value, places });
         table.wants(wanted);

@@ -2,6 +2,7 @@
 use super::asserts::same;
 use std::alloc::Global;
 use std::io::{self, ErrorKind, Write};
+use test_rows::rows_of;
 use ufmt::{Device, uWrite, write_debug};
 
 // A call with this number never comes.
@@ -65,39 +66,15 @@ impl Write for Slow {
 fn a_device_is_a_writer(rt: HostRuntime) {
     let interrupted = Instead::Fails(ErrorKind::Interrupted);
     let closed = Instead::Fails(ErrorKind::BrokenPipe);
-    let rows = [
-        ("whole pieces", (16, NEVER, 0, closed), (None, "[1, 20]", 5)),
-        ("a byte a call", (1, NEVER, 0, closed), (None, "[1, 20]", 7)),
-        (
-            "one interruption",
-            (16, 3, 1, interrupted),
-            (None, "[1, 20]", 6),
-        ),
-        (
-            "64 interruptions",
-            (16, 1, 64, interrupted),
-            (None, "[1, 20]", 69),
-        ),
-        (
-            "interruptions without end",
-            (16, 1, 1000, interrupted),
-            (Some(ErrorKind::Interrupted), "", 65),
-        ),
-        (
-            "a closed pipe",
-            (16, 3, 1, closed),
-            (Some(ErrorKind::BrokenPipe), "[1", 3),
-        ),
-        (
-            "a closed pipe in a piece",
-            (1, 6, 1, closed),
-            (Some(ErrorKind::BrokenPipe), "[1, 2", 6),
-        ),
-        (
-            "no byte is taken",
-            (16, 4, 1, Instead::TakesNone),
-            (Some(ErrorKind::WriteZero), "[1, ", 4),
-        ),
+    let rows = rows_of![
+        "whole pieces", (16, NEVER, 0, closed) => (None, "[1, 20]", 5);
+        "a byte a call", (1, NEVER, 0, closed) => (None, "[1, 20]", 7);
+        "one interruption", (16, 3, 1, interrupted) => (None, "[1, 20]", 6);
+        "64 interruptions", (16, 1, 64, interrupted) => (None, "[1, 20]", 69);
+        "interruptions without end", (16, 1, 1000, interrupted) => (Some(ErrorKind::Interrupted), "", 65);
+        "a closed pipe", (16, 3, 1, closed) => (Some(ErrorKind::BrokenPipe), "[1", 3);
+        "a closed pipe in a piece", (1, 6, 1, closed) => (Some(ErrorKind::BrokenPipe), "[1, 2", 6);
+        "no byte is taken", (16, 4, 1, Instead::TakesNone) => (Some(ErrorKind::WriteZero), "[1, ", 4);
     ];
     for (case, (most, from, times, instead), (error, text, calls)) in rows {
         let mut device = Device::new(Slow::new(rt.alloc(), most, from, times, instead));

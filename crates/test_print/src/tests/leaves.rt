@@ -2,24 +2,21 @@
 use super::asserts::{has_wanted_rows, same};
 use std::alloc::{AllocError, Global};
 use test_rows::printed::Displayed;
+use test_rows::put_rows;
 use test_rows::rows::{Table, repeated};
 
 // Each escape is a piece, and so is each stretch between escapes.
 #[test]
 fn each_escape_of_a_quoted_leaf_is_a_piece(rt: HostRuntime) {
     let mut table = Table::new(rt.alloc());
-    table.pieces(&"");
-    table.wants(r#""|"|"#);
-    table.pieces(&"a\"é b\n");
-    table.wants(r#""|a|\"|é b|\n|"|"#);
-    table.pieces(&"\n\n");
-    table.wants(r#""|\n|\n|"|"#);
-    table.pieces(&"\u{1b}");
-    table.wants(r#""|\u{1b}|"|"#);
-    table.pieces(&"a\u{1b}\u{7f}é\u{1}");
-    table.wants(r#""|a|\u{1b}|\u{7f}|é|\u{1}|"|"#);
-    table.pieces_of_made(String::from_str(rt.alloc(), "\0\t\n\r\\'"));
-    table.wants(r#""|\0|\t|\n|\r|\\|'|"|"#);
+    put_rows!(table;
+        pieces(&"") => "\"|\"|";
+        pieces(&"a\"é b\n") => "\"|a|\\\"|é b|\\n|\"|";
+        pieces(&"\n\n") => "\"|\\n|\\n|\"|";
+        pieces(&"\u{1b}") => "\"|\\u{1b}|\"|";
+        pieces(&"a\u{1b}\u{7f}é\u{1}") => "\"|a|\\u{1b}|\\u{7f}|é|\\u{1}|\"|";
+        pieces_of_made(String::from_str(rt.alloc(), "\0\t\n\r\\'")) => "\"|\\0|\\t|\\n|\\r|\\\\|'|\"|";
+    );
     for (character, wanted) in [
         ('é', "'|é|'|"),
         ('🦀', "'|🦀|'|"),
@@ -60,39 +57,27 @@ fn a_long_text_is_one_piece(rt: HostRuntime) {
 #[test]
 fn leaves_and_references_to_them_print_as_one_piece(rt: HostRuntime) {
     let mut table = Table::new(rt.alloc());
-    table.pieces(&true);
-    table.wants("true|");
-    table.pieces(&false);
-    table.wants("false|");
-    table.pieces(&());
-    table.wants("()|");
-    table.pieces(&None::<i32>);
-    table.wants("None|");
+    put_rows!(table;
+        pieces(&true) => "true|";
+        pieces(&false) => "false|";
+        pieces(&()) => "()|";
+        pieces(&None::<i32>) => "None|";
+    );
     let mut number = 2u8;
-    table.pieces(&&1i32);
-    table.wants("1|");
-    table.pieces(&&mut number);
-    table.wants("2|");
-    table.pieces(&Displayed(&1i32));
-    table.wants("1|");
-    table.pieces(&Displayed(&mut number));
-    table.wants("2|");
-    table.pieces_of_made(Box::new(rt.alloc(), 3u64));
-    table.wants("3|");
-    table.pieces_of_made(Box::new(rt.alloc(), 4u64).map(Displayed));
-    table.wants("4|");
-    table.pieces(&Displayed(true));
-    table.wants("true|");
-    table.pieces(&Displayed(false));
-    table.wants("false|");
-    table.pieces(&Displayed("a text"));
-    table.wants("a text|");
-    table.pieces(&Displayed(""));
-    table.wants("|");
-    table.pieces(&Displayed(String::new(rt.alloc())));
-    table.wants("|");
-    table.pieces_of_made(String::from_str(rt.alloc(), "a text").map(Displayed));
-    table.wants("a text|");
+    put_rows!(table;
+        pieces(&&1i32) => "1|";
+        pieces(&&mut number) => "2|";
+        pieces(&Displayed(&1i32)) => "1|";
+        pieces(&Displayed(&mut number)) => "2|";
+        pieces_of_made(Box::new(rt.alloc(), 3u64)) => "3|";
+        pieces_of_made(Box::new(rt.alloc(), 4u64).map(Displayed)) => "4|";
+        pieces(&Displayed(true)) => "true|";
+        pieces(&Displayed(false)) => "false|";
+        pieces(&Displayed("a text")) => "a text|";
+        pieces(&Displayed("")) => "|";
+        pieces(&Displayed(String::new(rt.alloc()))) => "|";
+        pieces_of_made(String::from_str(rt.alloc(), "a text").map(Displayed)) => "a text|";
+    );
     for (character, wanted) in [('a', "a|"), ('é', "é|"), ('€', "€|"), ('🦀', "🦀|")] {
         table.pieces(&Displayed(character));
         table.wants(wanted);

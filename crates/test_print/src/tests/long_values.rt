@@ -2,6 +2,7 @@
 use super::asserts::same;
 use std::alloc::{AllocError, Global};
 use test_rows::rows::{map, repeated};
+use test_rows::rows_of;
 use ufmt::{Formatter, uDebug, uWrite};
 
 // Writes an unnamed tuple of `count` zeros. Returns whether it was open before each call.
@@ -62,32 +63,12 @@ fn pretty_maps(alloc: Global, count: u16) -> Result<String, AllocError> {
 fn wide_tuples_and_lists_print(rt: HostRuntime) {
     let alloc = rt.alloc();
     let map = "    {\n        1: 2,\n    },\n";
-    for (given, wanted, length) in [
-        (
-            plain_zeros(alloc, 256),
-            repeated(alloc, "(0", ", 0", 255, ")"),
-            768,
-        ),
-        (
-            plain_zeros(alloc, 257),
-            repeated(alloc, "(0", ", 0", 256, ")"),
-            771,
-        ),
-        (
-            plain_zeros(alloc, 300),
-            repeated(alloc, "(0", ", 0", 299, ")"),
-            900,
-        ),
-        (
-            pretty_zeros(alloc, 300),
-            repeated(alloc, "(\n", "    0,\n", 300, ")"),
-            2103,
-        ),
-        (
-            pretty_maps(alloc, 300),
-            repeated(alloc, "[\n", map, 300, "]"),
-            8103,
-        ),
+    for (given, wanted, length) in rows_of![
+        plain_zeros(alloc, 256), repeated(alloc, "(0", ", 0", 255, ")") => 768;
+        plain_zeros(alloc, 257), repeated(alloc, "(0", ", 0", 256, ")") => 771;
+        plain_zeros(alloc, 300), repeated(alloc, "(0", ", 0", 299, ")") => 900;
+        pretty_zeros(alloc, 300), repeated(alloc, "(\n", "    0,\n", 300, ")") => 2103;
+        pretty_maps(alloc, 300), repeated(alloc, "[\n", map, 300, "]") => 8103;
     ] {
         same(
             &rt,

@@ -7,8 +7,8 @@ use std::num::{
     NonZeroI8, NonZeroI16, NonZeroI32, NonZeroI64, NonZeroI128, NonZeroIsize, NonZeroU8,
     NonZeroU16, NonZeroU32, NonZeroU64, NonZeroU128, NonZeroUsize,
 };
-use test_rows::put_nonzero;
 use test_rows::rows::Table;
+use test_rows::{put_nonzero, put_rows};
 use ufmt::{Formatter, uDebug, uDisplay};
 
 #[test]
@@ -18,18 +18,14 @@ fn numbers_print_as_one_piece(rt: HostRuntime) {
         table.number(n);
         table.wants(wanted);
     }
-    table.number(u16::MAX);
-    table.wants("65535|");
-    table.number(u32::MAX);
-    table.wants("4294967295|");
-    table.number(u64::MAX);
-    table.wants("18446744073709551615|");
-    table.number(usize::MAX);
-    table.wants("18446744073709551615|");
-    table.number(0u128);
-    table.wants("0|");
-    table.number(u128::MAX);
-    table.wants("340282366920938463463374607431768211455|");
+    put_rows!(table;
+        number(u16::MAX) => "65535|";
+        number(u32::MAX) => "4294967295|";
+        number(u64::MAX) => "18446744073709551615|";
+        number(usize::MAX) => "18446744073709551615|";
+        number(0u128) => "0|";
+        number(u128::MAX) => "340282366920938463463374607431768211455|";
+    );
     for (z, wanted) in [
         (0i8, "0|"),
         (10, "10|"),
@@ -40,10 +36,10 @@ fn numbers_print_as_one_piece(rt: HostRuntime) {
         table.number(z);
         table.wants(wanted);
     }
-    table.number(i16::MIN);
-    table.wants("-32768|");
-    table.number(i16::MAX);
-    table.wants("32767|");
+    put_rows!(table;
+        number(i16::MIN) => "-32768|";
+        number(i16::MAX) => "32767|";
+    );
     for (z, wanted) in [
         (0i32, "0|"),
         (i32::MIN, "-2147483648|"),
@@ -52,14 +48,12 @@ fn numbers_print_as_one_piece(rt: HostRuntime) {
         table.number(z);
         table.wants(wanted);
     }
-    table.number(i64::MIN);
-    table.wants("-9223372036854775808|");
-    table.number(i64::MAX);
-    table.wants("9223372036854775807|");
-    table.number(isize::MIN);
-    table.wants("-9223372036854775808|");
-    table.number(isize::MAX);
-    table.wants("9223372036854775807|");
+    put_rows!(table;
+        number(i64::MIN) => "-9223372036854775808|";
+        number(i64::MAX) => "9223372036854775807|";
+        number(isize::MIN) => "-9223372036854775808|";
+        number(isize::MAX) => "9223372036854775807|";
+    );
     for (z, wanted) in [
         (0i128, "0|"),
         (i128::MIN, "-170141183460469231731687303715884105728|"),
@@ -170,32 +164,5 @@ fn powers_of_ten_and_their_neighbours_print_as_by_to_string(rt: HostRuntime) {
         same(&rt, (zeros, are_decimal), (zeros, true), "powers of ten");
         n = n.saturating_mul(10);
         z = z.saturating_mul(10);
-    }
-}
-
-#[test]
-fn least_and_greatest_numbers_print_as_by_to_string(rt: HostRuntime) {
-    for n in [
-        u8::MAX as u128,
-        u16::MAX as u128,
-        u32::MAX as u128,
-        u64::MAX as u128,
-        u128::MAX,
-    ] {
-        same(&rt, (n, is_unsigned(rt.alloc(), n)), (n, true), "greatest");
-    }
-    for z in [
-        i8::MIN as i128,
-        i16::MIN as i128,
-        i32::MIN as i128,
-        i64::MIN as i128,
-        i128::MIN,
-        i8::MAX as i128,
-        i16::MAX as i128,
-        i32::MAX as i128,
-        i64::MAX as i128,
-        i128::MAX,
-    ] {
-        same(&rt, (z, is_signed(rt.alloc(), z)), (z, true), "least");
     }
 }

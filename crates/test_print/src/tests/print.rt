@@ -1,6 +1,7 @@
 //! Tests of calls that print a whole value: on a formatter, to a writer, and into a buffer.
 use super::asserts::{has_wanted_rows, same};
 use test_rows::rows::{Table, are_ok};
+use test_rows::rows_of;
 use ufmt::{
     Formatter, debug_into, display_into, pretty_into, write_debug, write_display, write_pretty,
 };
@@ -48,29 +49,11 @@ fn calls_that_print_into_a_buffer_fill_it(rt: HostRuntime) {
         table.put_outcome(outcome, &buffer);
         table.wants(wanted);
     }
-    for (length, wanted) in [
-        (
-            11,
-            "\
-Ok(10) [
-    7,
-].",
-        ),
-        (
-            10,
-            "\
-Ok(10) [
-    7,
-].",
-        ),
-        (
-            9,
-            "\
-Err(Full) [
-    7,
-..",
-        ),
-        (0, "Err(Full) ..........."),
+    for (length, wanted) in rows_of![
+        11 => "Ok(10) [\n    7,\n].";
+        10 => "Ok(10) [\n    7,\n].";
+        9 => "Err(Full) [\n    7,\n..";
+        0 => "Err(Full) ...........";
     ] {
         let mut buffer = [b'.'; 11];
         let outcome = pretty_into(&mut buffer[..length], &[7u8]);

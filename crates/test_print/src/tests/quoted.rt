@@ -3,6 +3,7 @@
 use super::asserts::{has_wanted_rows, same};
 use example_print::Message;
 use std::alloc::{AllocError, Global};
+use test_rows::put_rows;
 use test_rows::rows::{Table, joined_if_different, map};
 use test_rows::text_rows::texts_of;
 
@@ -71,57 +72,23 @@ fn an_escape_is_found_at_each_place(rt: HostRuntime) {
 fn texts_and_characters_are_quoted(rt: HostRuntime) {
     let mut table = Table::new(rt.alloc());
     for (text, wanted) in [
-        ("", "\"\""),
-        ("\0\\", "\"\\0\\\\\""),
-        ("\t\n\r", "\"\\t\\n\\r\""),
-        ("\u{1}", "\"\\u{1}\""),
-        ("\u{1b}", "\"\\u{1b}\""),
         ("\u{1f} ~\u{7f}", "\"\\u{1f} ~\\u{7f}\""),
-        ("a\"b\n", "\"a\\\"b\\n\""),
-        ("'", "\"'\""),
         ("\u{80}é€\u{10ffff}", "\"\u{80}é€\u{10ffff}\""),
     ] {
         table.put_made(texts_by_both(rt.alloc(), text));
         table.wants(wanted);
     }
-    for (character, wanted) in [
-        ('é', "'é'"),
-        ('\n', "'\\n'"),
-        ('"', "'\"'"),
-        ('\'', "'\\''"),
-        ('\\', "'\\\\'"),
-        ('\0', "'\\0'"),
-        ('\u{1f}', "'\\u{1f}'"),
-        ('\u{7f}', "'\\u{7f}'"),
-        ('\u{80}', "'\u{80}'"),
-        ('\u{10ffff}', "'\u{10ffff}'"),
-    ] {
-        table.texts(&character);
-        table.wants(wanted);
-    }
-    table.texts_of_made(map(rt.alloc(), &[("k", Some('c'))]));
-    table.wants(
-        "\
-{\"k\": Some('c')}~
-{
-    \"k\": Some(
-        'c',
-    ),
-}",
-    );
-    table.texts(&Message {
-        node: 2,
-        level: '!',
-        text: "valve is \"open\"",
-    });
-    table.wants(
-        "\
+    put_rows!(table;
+        texts(&'\u{80}') => "'\u{80}'";
+        texts(&'\u{10ffff}') => "'\u{10ffff}'";
+        texts_of_made(map(rt.alloc(), &[("k", Some('c'))])) => "{\"k\": Some('c')}~\n{\n    \"k\": Some(\n        'c',\n    ),\n}";
+        texts(&Message { node: 2, level: '!', text: "valve is \"open\"" }) => "\
 Message { node: 2, level: '!', text: \"valve is \\\"open\\\"\" }~
 Message {
     node: 2,
     level: '!',
     text: \"valve is \\\"open\\\"\",
-}",
+}";
     );
     has_wanted_rows(&rt, &table);
 }

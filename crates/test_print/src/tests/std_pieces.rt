@@ -13,6 +13,7 @@ use std::ops::{Bound, ControlFlow};
 use std::rc::{Rc, RcStr};
 use std::sync::{Arc, ArcStr};
 use test_rows::printed::Displayed;
+use test_rows::put_rows;
 use test_rows::rows::Table;
 use ufmt::cells::{CellValue, RefCellValue};
 
@@ -32,51 +33,23 @@ fn hashed_map(alloc: Global) -> Result<HashMap<u8, u8>, AllocError> {
 #[test]
 fn collections_and_ranges_print_in_pieces(rt: HostRuntime) {
     let mut table = Table::new(rt.alloc());
-    table.pieces_of_made(queue(rt.alloc()));
-    table.wants(
-        "\
-[|1|, |2|]|~
-[|\n|    |1|,\n|    |2|,\n|]|",
+    put_rows!(table;
+        pieces_of_made(queue(rt.alloc())) => "[|1|, |2|]|~\n[|\n|    |1|,\n|    |2|,\n|]|";
+        pieces_of_made(linked_list(rt.alloc())) => "[|1|, |2|]|~\n[|\n|    |1|,\n|    |2|,\n|]|";
+        pieces_of_made(hashed_set(rt.alloc(), &[1])) => "{|1|}|~\n{|\n|    |1|,\n|}|";
+        pieces_of_made(hashed_map(rt.alloc())) => "{|1|: |2|}|~\n{|\n|    |1|: |2|,\n|}|";
+        pieces(&(1u8..5)) => "1|..|5|";
+        pieces(&(1u8..=5)) => "1|..=|5|";
     );
-    table.pieces_of_made(linked_list(rt.alloc()));
-    table.wants(
-        "\
-[|1|, |2|]|~
-[|\n|    |1|,\n|    |2|,\n|]|",
-    );
-    table.pieces_of_made(hashed_set(rt.alloc(), &[1]));
-    table.wants(
-        "\
-{|1|}|~
-{|\n|    |1|,\n|}|",
-    );
-    table.pieces_of_made(hashed_map(rt.alloc()));
-    table.wants(
-        "\
-{|1|: |2|}|~
-{|\n|    |1|: |2|,\n|}|",
-    );
-    table.pieces(&(1u8..5));
-    table.wants("1|..|5|");
-    table.pieces(&(1u8..=5));
-    table.wants("1|..=|5|");
     let mut spent = 5u8..=5;
     spent.next();
-    table.pieces(&spent);
-    table.wants("5|..=|5| (exhausted)|");
-    table.pieces(&(1u8..));
-    table.wants("1|..|");
-    table.pieces(&(..5u8));
-    table.wants("..|5|");
-    table.pieces(&(..=5u8));
-    table.wants("..=|5|");
-    table.pieces(&(..));
-    table.wants("..|");
-    table.pieces(&(Some(1u8)..None));
-    table.wants(
-        "\
-Some|(|1|)|..|None|~
-Some|(|\n|    |1|,\n|)|..|None|",
+    put_rows!(table;
+        pieces(&spent) => "5|..=|5| (exhausted)|";
+        pieces(&(1u8..)) => "1|..|";
+        pieces(&(..5u8)) => "..|5|";
+        pieces(&(..=5u8)) => "..=|5|";
+        pieces(&(..)) => "..|";
+        pieces(&(Some(1u8)..None)) => "Some|(|1|)|..|None|~\nSome|(|\n|    |1|,\n|)|..|None|";
     );
     has_wanted_rows(&rt, &table);
 }
@@ -84,49 +57,19 @@ Some|(|\n|    |1|,\n|)|..|None|",
 #[test]
 fn small_types_print_in_pieces(rt: HostRuntime) {
     let mut table = Table::new(rt.alloc());
-    table.pieces_of_made(Rc::new(rt.alloc(), 1u8));
-    table.wants("1|");
-    table.pieces_of_made(Arc::new(rt.alloc(), 2u8));
-    table.wants("2|");
-    table.pieces(&Cow::Borrowed(&3u8));
-    table.wants("3|");
-    table.pieces(&Wrapping(4u8));
-    table.wants("4|");
-    table.pieces(&Saturating(5u8));
-    table.wants("5|");
-    table.pieces(&Reverse(6u8));
-    table.wants(
-        "\
-Reverse|(|6|)|~
-Reverse|(|\n|    |6|,\n|)|",
-    );
-    table.pieces(&Ordering::Less);
-    table.wants("Less|");
-    table.pieces(&Bound::Included(7u8));
-    table.wants(
-        "\
-Included|(|7|)|~
-Included|(|\n|    |7|,\n|)|",
-    );
-    table.pieces(&Bound::Unbounded::<u8>);
-    table.wants("Unbounded|");
-    table.pieces(&ControlFlow::<u8, u8>::Break(8));
-    table.wants(
-        "\
-Break|(|8|)|~
-Break|(|\n|    |8|,\n|)|",
-    );
-    table.pieces(&CellValue(9u8));
-    table.wants(
-        "\
-Cell| {| |value|: |9| |}|~
-Cell| {|\n|    |value|: |9|,\n|}|",
-    );
-    table.pieces(&RefCellValue::Borrowed::<u8>);
-    table.wants(
-        "\
-RefCell| {| |value|: |<borrowed>| |}|~
-RefCell| {|\n|    |value|: |<borrowed>|,\n|}|",
+    put_rows!(table;
+        pieces_of_made(Rc::new(rt.alloc(), 1u8)) => "1|";
+        pieces_of_made(Arc::new(rt.alloc(), 2u8)) => "2|";
+        pieces(&Cow::Borrowed(&3u8)) => "3|";
+        pieces(&Wrapping(4u8)) => "4|";
+        pieces(&Saturating(5u8)) => "5|";
+        pieces(&Reverse(6u8)) => "Reverse|(|6|)|~\nReverse|(|\n|    |6|,\n|)|";
+        pieces(&Ordering::Less) => "Less|";
+        pieces(&Bound::Included(7u8)) => "Included|(|7|)|~\nIncluded|(|\n|    |7|,\n|)|";
+        pieces(&Bound::Unbounded::<u8>) => "Unbounded|";
+        pieces(&ControlFlow::<u8, u8>::Break(8)) => "Break|(|8|)|~\nBreak|(|\n|    |8|,\n|)|";
+        pieces(&CellValue(9u8)) => "Cell| {| |value|: |9| |}|~\nCell| {|\n|    |value|: |9|,\n|}|";
+        pieces(&RefCellValue::Borrowed::<u8>) => "RefCell| {| |value|: |<borrowed>| |}|~\nRefCell| {|\n|    |value|: |<borrowed>|,\n|}|";
     );
     has_wanted_rows(&rt, &table);
 }
@@ -134,34 +77,23 @@ RefCell| {|\n|    |value|: |<borrowed>|,\n|}|",
 #[test]
 fn what_is_held_is_displayed_as_by_core_fmt(rt: HostRuntime) {
     let mut table = Table::new(rt.alloc());
-    table.pieces_of_made(Rc::new(rt.alloc(), 1u8).map(Displayed));
-    table.wants("1|");
-    table.pieces_of_made(Arc::new(rt.alloc(), 'c').map(Displayed));
-    table.wants("c|");
-    table.pieces(&Displayed(Cow::Borrowed(&true)));
-    table.wants("true|");
-    table.pieces(&Displayed(Cow::Owned(2u8)));
-    table.wants("2|");
+    put_rows!(table;
+        pieces_of_made(Rc::new(rt.alloc(), 1u8).map(Displayed)) => "1|";
+        pieces_of_made(Arc::new(rt.alloc(), 'c').map(Displayed)) => "c|";
+        pieces(&Displayed(Cow::Borrowed(&true))) => "true|";
+        pieces(&Displayed(Cow::Owned(2u8))) => "2|";
+    );
     let cell = RefCell::new(3u8);
-    table.pieces_of_made(cell.try_borrow().map(Displayed));
-    table.wants("3|");
-    table.pieces_of_made(cell.try_borrow_mut().map(Displayed));
-    table.wants("3|");
-    table.pieces(&Displayed(CowStr::<Global>::Borrowed("a\"")));
-    table.wants("a\"|");
-    table.pieces_of_made(String::from_str(rt.alloc(), "b\n").map(|text| Displayed(CowStr::Owned(
-        text,
-    ))));
-    table.wants("b\n|");
-    table.pieces_of_made(RcStr::from_str(rt.alloc(), "c").map(Displayed));
-    table.wants("c|");
-    table.pieces_of_made(ArcStr::from_str(rt.alloc(), "d").map(Displayed));
-    table.wants("d|");
-    table.pieces_of_made(BoxedStr::from_str(rt.alloc(), "é").map(Displayed));
-    table.wants("é|");
-    table.pieces(&Displayed(Wrapping(-4i8)));
-    table.wants("-4|");
-    table.pieces(&Displayed(Saturating(5u8)));
-    table.wants("5|");
+    put_rows!(table;
+        pieces_of_made(cell.try_borrow().map(Displayed)) => "3|";
+        pieces_of_made(cell.try_borrow_mut().map(Displayed)) => "3|";
+        pieces(&Displayed(CowStr::<Global>::Borrowed("a\""))) => "a\"|";
+        pieces_of_made(String::from_str(rt.alloc(), "b\n").map(|text| Displayed(CowStr::Owned(text)))) => "b\n|";
+        pieces_of_made(RcStr::from_str(rt.alloc(), "c").map(Displayed)) => "c|";
+        pieces_of_made(ArcStr::from_str(rt.alloc(), "d").map(Displayed)) => "d|";
+        pieces_of_made(BoxedStr::from_str(rt.alloc(), "é").map(Displayed)) => "é|";
+        pieces(&Displayed(Wrapping(-4i8))) => "-4|";
+        pieces(&Displayed(Saturating(5u8))) => "5|";
+    );
     has_wanted_rows(&rt, &table);
 }

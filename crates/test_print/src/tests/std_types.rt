@@ -5,12 +5,13 @@ use std::alloc::{AllocError, Global};
 use std::borrow::{Cow, CowSlice, CowStr};
 use std::boxed::{BoxedSlice, BoxedStr};
 use std::cell::{Cell, RefCell};
-use std::cmp::{Ordering, Reverse};
+use std::cmp::Ordering;
 use std::collections::{BinaryHeap, HashMap, HashSet, LinkedList, VecDeque};
-use std::num::{Saturating, Wrapping};
+use std::num::Saturating;
 use std::ops::{Bound, ControlFlow};
 use std::rc::{Rc, RcSlice, RcStr, Weak};
 use std::sync::{Arc, ArcSlice, ArcStr};
+use test_rows::put_rows;
 use test_rows::rows::{Table, list};
 use ufmt::cells::{CellValue, RefCellValue};
 use ufmt::plain_text;
@@ -25,119 +26,31 @@ fn shared_list(alloc: Global) -> Result<Vec<Rc<u8>>, AllocError> {
 #[test]
 fn what_is_shared_lent_or_borrowed_prints_as_by_core_fmt(rt: HostRuntime) {
     let mut table = Table::new(rt.alloc());
-    table.texts_of_made(Rc::new(rt.alloc(), 1u8));
-    table.wants("1");
-    table.texts_of_made(shared_list(rt.alloc()));
-    table.wants(
-        "\
-[1, 2]~
-[
-    1,
-    2,
-]",
-    );
-    table.texts_of_made(Arc::new(rt.alloc(), Some(3u8)));
-    table.wants(
-        "\
-Some(3)~
-Some(
-    3,
-)",
-    );
-    table.texts(&Cow::Borrowed(&4u8));
-    table.wants("4");
-    table.texts(&Cow::Owned(5u8));
-    table.wants("5");
-    table.texts(&Some(Cow::Borrowed(&[6u8])));
-    table.wants(
-        "\
-Some([6])~
-Some(
-    [
-        6,
-    ],
-)",
-    );
-    table.texts(&Weak::<u8>::new());
-    table.wants("(Weak)");
-    table.texts(&CowStr::<Global>::Borrowed("a\"b\n"));
-    table.wants("\"a\\\"b\\n\"");
-    table.texts_of_made(String::from_str(rt.alloc(), "c'").map(|text| CowStr::Owned(text)));
-    table.wants("\"c'\"");
-    table.texts_of_made(RcStr::from_str(rt.alloc(), "é"));
-    table.wants("\"é\"");
-    table.texts_of_made(ArcStr::from_str(rt.alloc(), "\\"));
-    table.wants("\"\\\\\"");
-    table.texts_of_made(BoxedStr::from_str(rt.alloc(), "\0"));
-    table.wants("\"\\0\"");
-    table.texts(&CowSlice::<u8, Global>::Borrowed(&[1, 2]));
-    table.wants(
-        "\
-[1, 2]~
-[
-    1,
-    2,
-]",
-    );
-    table.texts_of_made(list(rt.alloc(), &[3u8]).map(|items| CowSlice::Owned(items)));
-    table.wants(
-        "\
-[3]~
-[
-    3,
-]",
-    );
-    table.texts_of_made(RcSlice::from_slice(rt.alloc(), &[4u8]));
-    table.wants(
-        "\
-[4]~
-[
-    4,
-]",
-    );
-    table.texts_of_made(ArcSlice::from_slice(rt.alloc(), &[5u8, 6]));
-    table.wants(
-        "\
-[5, 6]~
-[
-    5,
-    6,
-]",
-    );
-    table.texts_of_made(BoxedSlice::from_slice(rt.alloc(), &[7u8]));
-    table.wants(
-        "\
-[7]~
-[
-    7,
-]",
+    put_rows!(table;
+        texts_of_made(shared_list(rt.alloc())) => "[1, 2]~\n[\n    1,\n    2,\n]";
+        texts_of_made(Arc::new(rt.alloc(), Some(3u8))) => "Some(3)~\nSome(\n    3,\n)";
+        texts(&Cow::Owned(5u8)) => "5";
+        texts(&Some(Cow::Borrowed(&[6u8]))) => "Some([6])~\nSome(\n    [\n        6,\n    ],\n)";
+        texts(&Weak::<u8>::new()) => "(Weak)";
+        texts(&CowStr::<Global>::Borrowed("a\"b\n")) => "\"a\\\"b\\n\"";
+        texts_of_made(String::from_str(rt.alloc(), "c'").map(|text| CowStr::Owned(text))) => "\"c'\"";
+        texts_of_made(RcStr::from_str(rt.alloc(), "é")) => "\"é\"";
+        texts_of_made(ArcStr::from_str(rt.alloc(), "\\")) => "\"\\\\\"";
+        texts_of_made(BoxedStr::from_str(rt.alloc(), "\0")) => "\"\\0\"";
+        texts(&CowSlice::<u8, Global>::Borrowed(&[1, 2])) => "[1, 2]~\n[\n    1,\n    2,\n]";
+        texts_of_made(list(rt.alloc(), &[3u8]).map(|items| CowSlice::Owned(items))) => "[3]~\n[\n    3,\n]";
+        texts_of_made(RcSlice::from_slice(rt.alloc(), &[4u8])) => "[4]~\n[\n    4,\n]";
+        texts_of_made(ArcSlice::from_slice(rt.alloc(), &[5u8, 6])) => "[5, 6]~\n[\n    5,\n    6,\n]";
+        texts_of_made(BoxedSlice::from_slice(rt.alloc(), &[7u8])) => "[7]~\n[\n    7,\n]";
     );
     let mut items = [1u8, 2];
-    table.texts(&items.as_mut_slice());
-    table.wants(
-        "\
-[1, 2]~
-[
-    1,
-    2,
-]",
+    put_rows!(table;
+        texts(&items.as_mut_slice()) => "[1, 2]~\n[\n    1,\n    2,\n]";
     );
     let cell = RefCell::new(Some(1u8));
-    table.texts_of_made(cell.try_borrow());
-    table.wants(
-        "\
-Some(1)~
-Some(
-    1,
-)",
-    );
-    table.texts_of_made(cell.try_borrow_mut());
-    table.wants(
-        "\
-Some(1)~
-Some(
-    1,
-)",
+    put_rows!(table;
+        texts_of_made(cell.try_borrow()) => "Some(1)~\nSome(\n    1,\n)";
+        texts_of_made(cell.try_borrow_mut()) => "Some(1)~\nSome(\n    1,\n)";
     );
     has_wanted_rows(&rt, &table);
 }
@@ -147,25 +60,15 @@ fn put_borrowed(table: &mut Table, cell: &RefCell<u8>) {
     let Ok(reader) = cell.try_borrow() else {
         return table.put_nothing();
     };
-    table.texts(&RefCellValue::of(cell));
-    table.wants(
-        "\
-RefCell { value: 5 }~
-RefCell {
-    value: 5,
-}",
+    put_rows!(table;
+        texts(&RefCellValue::of(cell)) => "RefCell { value: 5 }~\nRefCell {\n    value: 5,\n}";
     );
     drop(reader);
     let Ok(writer) = cell.try_borrow_mut() else {
         return table.put_nothing();
     };
-    table.texts(&RefCellValue::of(cell));
-    table.wants(
-        "\
-RefCell { value: <borrowed> }~
-RefCell {
-    value: <borrowed>,
-}",
+    put_rows!(table;
+        texts(&RefCellValue::of(cell)) => "RefCell { value: <borrowed> }~\nRefCell {\n    value: <borrowed>,\n}";
     );
     drop(writer);
 }
@@ -173,44 +76,24 @@ RefCell {
 #[test]
 fn what_was_read_of_a_cell_prints_as_the_cell_and_stays(rt: HostRuntime) {
     let mut table = Table::new(rt.alloc());
-    table.texts(&CellValue::of(&Cell::new(5u8)));
-    table.wants(
-        "\
-Cell { value: 5 }~
-Cell {
-    value: 5,
-}",
-    );
-    table.texts(&Some(CellValue::of(&Cell::new(Some(5u8)))));
-    table.wants(
-        "\
-Some(Cell { value: Some(5) })~
-Some(
-    Cell {
-        value: Some(
-            5,
-        ),
-    },
-)",
+    put_rows!(table;
+        texts(&CellValue::of(&Cell::new(5u8))) => "Cell { value: 5 }~\nCell {\n    value: 5,\n}";
+        texts(&Some(CellValue::of(&Cell::new(Some(5u8)))))
+            => "Some(Cell { value: Some(5) })~\nSome(\n    Cell {\n        value: Some(\n            5,\n        ),\n    },\n)";
     );
     let cell = RefCell::new(5u8);
-    table.texts(&RefCellValue::of(&cell));
-    table.wants(
-        "\
-RefCell { value: 5 }~
-RefCell {
-    value: 5,
-}",
+    put_rows!(table;
+        texts(&RefCellValue::of(&cell)) => "RefCell { value: 5 }~\nRefCell {\n    value: 5,\n}";
     );
     put_borrowed(&mut table, &cell);
     // A cell is read at the call, and not where its value prints.
     let cell = Cell::new(1u8);
     let value = CellValue::of(&cell);
     cell.set(2);
-    table.plain(&value);
-    table.wants("Cell { value: 1 }");
-    table.plain(&CellValue::of(&cell));
-    table.wants("Cell { value: 2 }");
+    put_rows!(table;
+        plain(&value) => "Cell { value: 1 }";
+        plain(&CellValue::of(&cell)) => "Cell { value: 2 }";
+    );
     has_wanted_rows(&rt, &table);
 }
 
@@ -271,73 +154,14 @@ fn hashed_map(alloc: Global, keys: &[u8]) -> Result<HashMap<u8, Option<bool>>, A
 #[test]
 fn queues_and_hashed_collections_print_as_by_core_fmt(rt: HostRuntime) {
     let mut table = Table::new(rt.alloc());
-    table.texts(&VecDeque::<u8>::new(rt.alloc()));
-    table.wants("[]");
-    table.texts_of_made(wrapped(rt.alloc()));
-    table.wants(
-        "\
-[3, 4, 5, 6]~
-[
-    3,
-    4,
-    5,
-    6,
-]",
-    );
-    table.texts_of_made(nested_queue(rt.alloc()));
-    table.wants(
-        "\
-Some([[1]])~
-Some(
-    [
-        [
-            1,
-        ],
-    ],
-)",
-    );
-    table.texts(&LinkedList::<u8>::new(rt.alloc()));
-    table.wants("[]");
-    table.texts_of_made(linked_list(rt.alloc()));
-    table.wants(
-        "\
-[1, 2]~
-[
-    1,
-    2,
-]",
-    );
-    table.texts_of_made(BinaryHeap::from_array(rt.alloc(), [2u8, 3, 1]));
-    table.wants(
-        "\
-[3, 2, 1]~
-[
-    3,
-    2,
-    1,
-]",
-    );
-    table.texts_of_made(hashed_set(rt.alloc(), &[]));
-    table.wants("{}");
-    table.texts_of_made(hashed_set(rt.alloc(), &[1]));
-    table.wants(
-        "\
-{1}~
-{
-    1,
-}",
-    );
-    table.texts_of_made(hashed_map(rt.alloc(), &[]));
-    table.wants("{}");
-    table.texts_of_made(hashed_map(rt.alloc(), &[1]));
-    table.wants(
-        "\
-{1: Some(true)}~
-{
-    1: Some(
-        true,
-    ),
-}",
+    put_rows!(table;
+        texts_of_made(wrapped(rt.alloc())) => "[3, 4, 5, 6]~\n[\n    3,\n    4,\n    5,\n    6,\n]";
+        texts_of_made(nested_queue(rt.alloc())) => "Some([[1]])~\nSome(\n    [\n        [\n            1,\n        ],\n    ],\n)";
+        texts(&LinkedList::<u8>::new(rt.alloc())) => "[]";
+        texts_of_made(BinaryHeap::from_array(rt.alloc(), [2u8, 3, 1])) => "[3, 2, 1]~\n[\n    3,\n    2,\n    1,\n]";
+        texts_of_made(hashed_set(rt.alloc(), &[])) => "{}";
+        texts_of_made(hashed_map(rt.alloc(), &[])) => "{}";
+        texts_of_made(hashed_map(rt.alloc(), &[1])) => "{1: Some(true)}~\n{\n    1: Some(\n        true,\n    ),\n}";
     );
     has_wanted_rows(&rt, &table);
 }
@@ -371,186 +195,59 @@ fn a_hashed_map_prints_in_the_order_of_iteration(rt: HostRuntime) {
 #[test]
 fn ranges_print_as_by_core_fmt(rt: HostRuntime) {
     let mut table = Table::new(rt.alloc());
-    table.texts(&(1u8..5));
-    table.wants("1..5");
-    table.texts(&(-1i8..=5));
-    table.wants("-1..=5");
-    table.texts(&(1u64..));
-    table.wants("1..");
-    table.texts(&(..5i32));
-    table.wants("..5");
-    table.texts(&(..=5u16));
-    table.wants("..=5");
-    table.texts(&(..));
-    table.wants("..");
-    table.texts(&('a'..'z'));
-    table.wants("'a'..'z'");
-    table.texts(&("a"..="z"));
-    table.wants("\"a\"..=\"z\"");
-    table.texts(&Some(1u8..5));
-    table.wants(
-        "\
-Some(1..5)~
-Some(
-    1..5,
-)",
-    );
-    table.texts(&[0usize..2, 2..4]);
-    table.wants(
-        "\
-[0..2, 2..4]~
-[
-    0..2,
-    2..4,
-]",
-    );
-    table.texts(&(Some(1u8)..None));
-    table.wants(
-        "\
-Some(1)..None~
-Some(
-    1,
-)..None",
-    );
-    table.texts(&(Some(1u8)..=Some(2)));
-    table.wants(
-        "\
-Some(1)..=Some(2)~
-Some(
-    1,
-)..=Some(
-    2,
-)",
-    );
-    table.texts(&(..Some(1u8)));
-    table.wants(
-        "\
-..Some(1)~
-..Some(
-    1,
-)",
-    );
-    table.texts(&(..=(1u8, 2u8)));
-    table.wants(
-        "\
-..=(1, 2)~
-..=(
-    1,
-    2,
-)",
-    );
-    table.texts(&((1u8,)..));
-    table.wants(
-        "\
-(1,)..~
-(
-    1,
-)..",
+    put_rows!(table;
+        texts(&(-1i8..=5)) => "-1..=5";
+        texts(&('a'..'z')) => "'a'..'z'";
+        texts(&("a"..="z")) => "\"a\"..=\"z\"";
+        texts(&Some(1u8..5)) => "Some(1..5)~\nSome(\n    1..5,\n)";
+        texts(&[0usize..2, 2..4]) => "[0..2, 2..4]~\n[\n    0..2,\n    2..4,\n]";
+        texts(&(Some(1u8)..=Some(2))) => "Some(1)..=Some(2)~\nSome(\n    1,\n)..=Some(\n    2,\n)";
+        texts(&(..Some(1u8))) => "..Some(1)~\n..Some(\n    1,\n)";
+        texts(&(..=(1u8, 2u8))) => "..=(1, 2)~\n..=(\n    1,\n    2,\n)";
+        texts(&((1u8,)..)) => "(1,)..~\n(\n    1,\n)..";
     );
     let mut range = 1u8..=2;
     range.next();
-    table.texts(&range);
-    table.wants("2..=2");
+    put_rows!(table;
+        texts(&range) => "2..=2";
+    );
     range.next();
-    table.texts(&range);
-    table.wants("2..=2 (exhausted)");
+    put_rows!(table;
+        texts(&range) => "2..=2 (exhausted)";
+    );
     range.next();
-    table.texts(&range);
-    table.wants("2..=2 (exhausted)");
+    put_rows!(table;
+        texts(&range) => "2..=2 (exhausted)";
+    );
     let mut from_back = -1i8..=0;
     from_back.next_back();
     from_back.next_back();
-    table.texts(&from_back);
-    table.wants("-1..=-1 (exhausted)");
+    put_rows!(table;
+        texts(&from_back) => "-1..=-1 (exhausted)";
+    );
     let mut last = u8::MAX..=u8::MAX;
     last.next();
-    table.texts(&Some(last));
-    table.wants(
-        "\
-Some(255..=255 (exhausted))~
-Some(
-    255..=255 (exhausted),
-)",
+    put_rows!(table;
+        texts(&Some(last)) => "Some(255..=255 (exhausted))~\nSome(\n    255..=255 (exhausted),\n)";
     );
     let mut backward = 5u8..=1;
     backward.next();
-    table.texts(&backward);
-    table.wants("5..=1");
+    put_rows!(table;
+        texts(&backward) => "5..=1";
+    );
     has_wanted_rows(&rt, &table);
 }
 
 #[test]
 fn small_types_print_as_by_core_fmt(rt: HostRuntime) {
     let mut table = Table::new(rt.alloc());
-    table.texts(&Wrapping(-1i8));
-    table.wants("-1");
-    table.texts(&Saturating(Some(2u8)));
-    table.wants(
-        "\
-Some(2)~
-Some(
-    2,
-)",
-    );
-    table.texts(&Reverse(3u8));
-    table.wants(
-        "\
-Reverse(3)~
-Reverse(
-    3,
-)",
-    );
-    table.texts(&Ordering::Less);
-    table.wants("Less");
-    table.texts(&Ordering::Equal);
-    table.wants("Equal");
-    table.texts(&Some(Ordering::Greater));
-    table.wants(
-        "\
-Some(Greater)~
-Some(
-    Greater,
-)",
-    );
-    table.texts(&Bound::Included(1u8));
-    table.wants(
-        "\
-Included(1)~
-Included(
-    1,
-)",
-    );
-    table.texts(&Bound::Excluded(2u8));
-    table.wants(
-        "\
-Excluded(2)~
-Excluded(
-    2,
-)",
-    );
-    table.texts(&(Bound::Unbounded::<u8>,));
-    table.wants(
-        "\
-(Unbounded,)~
-(
-    Unbounded,
-)",
-    );
-    table.texts(&ControlFlow::<u8, bool>::Continue(true));
-    table.wants(
-        "\
-Continue(true)~
-Continue(
-    true,
-)",
-    );
-    table.texts(&ControlFlow::<u8, bool>::Break(1));
-    table.wants(
-        "\
-Break(1)~
-Break(
-    1,
-)",
+    put_rows!(table;
+        texts(&Saturating(Some(2u8))) => "Some(2)~\nSome(\n    2,\n)";
+        texts(&Ordering::Equal) => "Equal";
+        texts(&Some(Ordering::Greater)) => "Some(Greater)~\nSome(\n    Greater,\n)";
+        texts(&Bound::Excluded(2u8)) => "Excluded(2)~\nExcluded(\n    2,\n)";
+        texts(&(Bound::Unbounded::<u8>,)) => "(Unbounded,)~\n(\n    Unbounded,\n)";
+        texts(&ControlFlow::<u8, bool>::Continue(true)) => "Continue(true)~\nContinue(\n    true,\n)";
     );
     has_wanted_rows(&rt, &table);
 }

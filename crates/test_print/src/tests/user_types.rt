@@ -12,7 +12,7 @@ use std::collections::{BTreeMap, VecDeque};
 use std::rc::Rc;
 use test_rows::by_fields::S;
 use test_rows::rows::{Table, list, map};
-use test_rows::{by_builders, forwarded};
+use test_rows::{by_builders, forwarded, put_rows, rows_of};
 use ufmt::{debug_into, pretty_into};
 
 fn node(alloc: Global) -> Result<Node, AllocError> {
@@ -78,27 +78,11 @@ fn log_and_print_write_into_a_buffer(rt: HostRuntime) {
         channel: 3,
         celsius: -4,
     };
-    for (length, wanted) in [
-        (
-            64,
-            "\
-Ok(59) Measurement { channel: 3, celsius: -4 } control 0x0000beef
-.....",
-        ),
-        (
-            59,
-            "\
-Ok(59) Measurement { channel: 3, celsius: -4 } control 0x0000beef
-.....",
-        ),
-        (
-            58,
-            "Err(Full) Measurement { channel: 3, celsius: -4 } control 0x0000beef......",
-        ),
-        (
-            20,
-            "Err(Full) Measurement { ..................................................",
-        ),
+    for (length, wanted) in rows_of![
+        64 => "Ok(59) Measurement { channel: 3, celsius: -4 } control 0x0000beef\n.....";
+        59 => "Ok(59) Measurement { channel: 3, celsius: -4 } control 0x0000beef\n.....";
+        58 => "Err(Full) Measurement { channel: 3, celsius: -4 } control 0x0000beef......";
+        20 => "Err(Full) Measurement { ..................................................";
     ] {
         let mut buffer = [b'.'; 64];
         let outcome = log(&mut buffer[..length], &measurement, 0xbeef);
@@ -110,23 +94,11 @@ Ok(59) Measurement { channel: 3, celsius: -4 } control 0x0000beef
         level: '!',
         text: "valve is \"open\"",
     };
-    for (length, wanted) in [
-        (
-            64,
-            "Ok(58) Message { node: 2, level: '!', text: \"valve is \\\"open\\\"\" }......",
-        ),
-        (
-            58,
-            "Ok(58) Message { node: 2, level: '!', text: \"valve is \\\"open\\\"\" }......",
-        ),
-        (
-            57,
-            "Err(Full) Message { node: 2, level: '!', text: \"valve is \\\"open\\\"\" .......",
-        ),
-        (
-            18,
-            "Err(Full) Message { node: 2...............................................",
-        ),
+    for (length, wanted) in rows_of![
+        64 => "Ok(58) Message { node: 2, level: '!', text: \"valve is \\\"open\\\"\" }......";
+        58 => "Ok(58) Message { node: 2, level: '!', text: \"valve is \\\"open\\\"\" }......";
+        57 => "Err(Full) Message { node: 2, level: '!', text: \"valve is \\\"open\\\"\" .......";
+        18 => "Err(Full) Message { node: 2...............................................";
     ] {
         let mut buffer = [b'.'; 64];
         let outcome = print(&mut buffer[..length], &message);
@@ -158,43 +130,11 @@ const SESSION: Session = Session { user: 7, key: 9 };
 #[test]
 fn structs_that_end_in_dots_print_as_by_core_fmt(rt: HostRuntime) {
     let mut table = Table::new(rt.alloc());
-    table.texts(&SESSION);
-    table.wants(
-        "\
-Session { user: 7, .. }~
-Session {
-    user: 7,
-    ..
-}",
-    );
-    table.texts(&[SESSION]);
-    table.wants(
-        "\
-[Session { user: 7, .. }]~
-[
-    Session {
-        user: 7,
-        ..
-    },
-]",
-    );
-    table.texts(&Some(SESSION));
-    table.wants(
-        "\
-Some(Session { user: 7, .. })~
-Some(
-    Session {
-        user: 7,
-        ..
-    },
-)",
-    );
-    table.texts(&Pair {
-        x: SESSION,
-        y: SESSION,
-    });
-    table.wants(
-        "\
+    put_rows!(table;
+        texts(&SESSION) => "Session { user: 7, .. }~\nSession {\n    user: 7,\n    ..\n}";
+        texts(&[SESSION]) => "[Session { user: 7, .. }]~\n[\n    Session {\n        user: 7,\n        ..\n    },\n]";
+        texts(&Some(SESSION)) => "Some(Session { user: 7, .. })~\nSome(\n    Session {\n        user: 7,\n        ..\n    },\n)";
+        texts(&Pair { x: SESSION, y: SESSION }) => "\
 Pair { x: Session { user: 7, .. }, y: Session { user: 7, .. } }~
 Pair {
     x: Session {
@@ -205,23 +145,9 @@ Pair {
         user: 7,
         ..
     },
-}",
-    );
-    table.texts(&Tuple(1u8, SESSION));
-    table.wants(
-        "\
-Tuple(1, Session { user: 7, .. })~
-Tuple(
-    1,
-    Session {
-        user: 7,
-        ..
-    },
-)",
-    );
-    table.texts(&[Some(Pair { x: SESSION, y: 0u8 })]);
-    table.wants(
-        "\
+}";
+        texts(&Tuple(1u8, SESSION)) => "Tuple(1, Session { user: 7, .. })~\nTuple(\n    1,\n    Session {\n        user: 7,\n        ..\n    },\n)";
+        texts(&[Some(Pair { x: SESSION, y: 0u8 })]) => "\
 [Some(Pair { x: Session { user: 7, .. }, y: 0 })]~
 [
     Some(
@@ -233,7 +159,7 @@ Tuple(
             y: 0,
         },
     ),
-]",
+]";
     );
     has_wanted_rows(&rt, &table);
 }
@@ -254,45 +180,12 @@ fn structs_that_end_in_dots_print_into_a_buffer(rt: HostRuntime) {
         table.put_outcome(outcome, &buffer);
         table.wants(wanted);
     }
-    for (length, wanted) in [
-        (
-            32,
-            "\
-Ok(31) Session {
-    user: 7,
-    ..
-}_",
-        ),
-        (
-            31,
-            "\
-Ok(31) Session {
-    user: 7,
-    ..
-}_",
-        ),
-        (
-            30,
-            "\
-Err(Full) Session {
-    user: 7,
-    ..
-__",
-        ),
-        (
-            29,
-            "\
-Err(Full) Session {
-    user: 7,
-    _____",
-        ),
-        (
-            26,
-            "\
-Err(Full) Session {
-    user: 7,
-_________",
-        ),
+    for (length, wanted) in rows_of![
+        32 => "Ok(31) Session {\n    user: 7,\n    ..\n}_";
+        31 => "Ok(31) Session {\n    user: 7,\n    ..\n}_";
+        30 => "Err(Full) Session {\n    user: 7,\n    ..\n__";
+        29 => "Err(Full) Session {\n    user: 7,\n    _____";
+        26 => "Err(Full) Session {\n    user: 7,\n_________";
     ] {
         let mut buffer = [b'_'; 32];
         let outcome = pretty_into(&mut buffer[..length], &SESSION);
@@ -307,51 +200,16 @@ _________",
 #[test]
 fn fields_and_builders_print_as_by_core_fmt(rt: HostRuntime) {
     let mut table = Table::new(rt.alloc());
-    table.same_texts(&Braces {}, &by_builders::Braces {});
-    table.wants("Braces");
-    table.same_texts(&Parens(), &by_builders::Parens());
-    table.wants("Parens");
-    table.same_texts(&I32(0i32), &by_builders::I32(0u64));
-    table.wants(
-        "\
-I32(0)~
-I32(
-    0,
-)",
-    );
-    table.same_texts(&Tuple(0i32, 0u64), &by_builders::Tuple(0u64, 0i32));
-    table.wants(
-        "\
-Tuple(0, 0)~
-Tuple(
-    0,
-    0,
-)",
-    );
-    table.same_texts(
-        &Pair { x: 0i32, y: 0u64 },
-        &by_builders::Pair { x: 0u64, y: 0i32 },
-    );
-    table.wants(
-        "\
-Pair { x: 0, y: 0 }~
-Pair {
-    x: 0,
-    y: 0,
-}",
-    );
-    table.same_texts(
-        &Nested {
-            first: Pair { x: 0u64, y: 0u64 },
-            second: Pair { x: 0u64, y: 0u64 },
-        },
-        &by_builders::Nested {
-            first: by_builders::Pair { x: 0i32, y: 0i32 },
-            second: by_builders::Pair { x: 0i32, y: 0i32 },
-        },
-    );
-    table.wants(
-        "\
+    put_rows!(table;
+        same_texts(&Braces {}, &by_builders::Braces {}) => "Braces";
+        same_texts(&Parens(), &by_builders::Parens()) => "Parens";
+        same_texts(&I32(0i32), &by_builders::I32(0u64)) => "I32(0)~\nI32(\n    0,\n)";
+        same_texts(&Tuple(0i32, 0u64), &by_builders::Tuple(0u64, 0i32)) => "Tuple(0, 0)~\nTuple(\n    0,\n    0,\n)";
+        same_texts(&Pair { x: 0i32, y: 0u64 }, &by_builders::Pair { x: 0u64, y: 0i32 }) => "Pair { x: 0, y: 0 }~\nPair {\n    x: 0,\n    y: 0,\n}";
+        same_texts(
+            &Nested { first: Pair { x: 0u64, y: 0u64 }, second: Pair { x: 0u64, y: 0u64 } },
+            &by_builders::Nested { first: by_builders::Pair { x: 0i32, y: 0i32 }, second: by_builders::Pair { x: 0i32, y: 0i32 } }
+        ) => "\
 Nested { first: Pair { x: 0, y: 0 }, second: Pair { x: 0, y: 0 } }~
 Nested {
     first: Pair {
@@ -362,52 +220,14 @@ Nested {
         x: 0,
         y: 0,
     },
-}",
-    );
-    table.same_texts(&Letter::A::<u64>, &by_builders::Letter::A::<i32>);
-    table.wants("A");
-    table.same_texts(&Letter::B(0i32, 1), &by_builders::Letter::B(0u64, 1));
-    table.wants(
-        "\
-B(0, 1)~
-B(
-    0,
-    1,
-)",
-    );
-    table.same_texts(
-        &Letter::C { x: 0u64, y: 1 },
-        &by_builders::Letter::C { x: 0i32, y: 1 },
-    );
-    table.wants(
-        "\
-C { x: 0, y: 1 }~
-C {
-    x: 0,
-    y: 1,
-}",
-    );
-    table.same_texts(&X(0i32), &by_builders::X(0u64));
-    table.wants(
-        "\
-X(0)~
-X(
-    0,
-)",
-    );
-    table.same_texts(&Y::Z(0i32), &by_builders::Y::Z(0u64));
-    table.wants(
-        "\
-Z(0)~
-Z(
-    0,
-)",
-    );
-    table.same_texts(&Y::W::<u64>, &by_builders::Y::W::<i32>);
-    table.wants("W");
-    table.same_texts_of_made(node(rt.alloc()), node_by_builders(rt.alloc()));
-    table.wants(
-        "\
+}";
+        same_texts(&Letter::A::<u64>, &by_builders::Letter::A::<i32>) => "A";
+        same_texts(&Letter::B(0i32, 1), &by_builders::Letter::B(0u64, 1)) => "B(0, 1)~\nB(\n    0,\n    1,\n)";
+        same_texts(&Letter::C { x: 0u64, y: 1 }, &by_builders::Letter::C { x: 0i32, y: 1 }) => "C { x: 0, y: 1 }~\nC {\n    x: 0,\n    y: 1,\n}";
+        same_texts(&X(0i32), &by_builders::X(0u64)) => "X(0)~\nX(\n    0,\n)";
+        same_texts(&Y::Z(0i32), &by_builders::Y::Z(0u64)) => "Z(0)~\nZ(\n    0,\n)";
+        same_texts(&Y::W::<u64>, &by_builders::Y::W::<i32>) => "W";
+        same_texts_of_made(node(rt.alloc()), node_by_builders(rt.alloc())) => "\
 Node { value: 1, next: Some(Node { value: 0, next: None }) }~
 Node {
     value: 1,
@@ -417,33 +237,11 @@ Node {
             next: None,
         },
     ),
-}",
-    );
-    table.same_texts_of_made(settings(rt.alloc()), settings_by_builders(rt.alloc()));
-    table.wants(
-        "\
-S { m: {1: 2}, n: 3 }~
-S {
-    m: {
-        1: 2,
-    },
-    n: 3,
-}",
-    );
-    table.same_texts(
-        &[InPrettyMode(Some(1u64))],
-        &[by_builders::InPrettyMode(Some(1i32))],
-    );
-    table.wants(
-        "\
-[Some(
-    1,
-)]~
-[
-    Some(
-        1,
-    ),
-]",
+}";
+        same_texts_of_made(settings(rt.alloc()), settings_by_builders(rt.alloc()))
+            => "S { m: {1: 2}, n: 3 }~\nS {\n    m: {\n        1: 2,\n    },\n    n: 3,\n}";
+        same_texts(&[InPrettyMode(Some(1u64))], &[by_builders::InPrettyMode(Some(1i32))])
+            => "[Some(\n    1,\n)]~\n[\n    Some(\n        1,\n    ),\n]";
     );
     has_wanted_rows(&rt, &table);
 }
@@ -452,16 +250,11 @@ S {
 #[test]
 fn types_of_users_print_as_by_core_fmt(rt: HostRuntime) {
     let mut table = Table::new(rt.alloc());
-    table.texts(&[
-        LinkEvent::DisconnectedByOtherSide,
-        LinkEvent::ReceivedAcknowledgement(7, Some(2)),
-        LinkEvent::ReconfiguredAfterPowerLoss {
-            temperature_in_celsius: -4,
-            time_without_connection: 60,
-        },
-    ]);
-    table.wants(
-        "\
+    put_rows!(table;
+        texts(&[
+            LinkEvent::DisconnectedByOtherSide, LinkEvent::ReceivedAcknowledgement(7, Some(2)),
+            LinkEvent::ReconfiguredAfterPowerLoss { temperature_in_celsius: -4, time_without_connection: 60 }
+        ]) => "\
 [DisconnectedByOtherSide, ReceivedAcknowledgement(7, Some(2)), ReconfiguredAfterPowerLoss { temperature_in_celsius: -4, time_without_connection: 60 }]~
 [
     DisconnectedByOtherSide,
@@ -475,23 +268,11 @@ fn types_of_users_print_as_by_core_fmt(rt: HostRuntime) {
         temperature_in_celsius: -4,
         time_without_connection: 60,
     },
-]",
-    );
-    table.texts(&forwarded::Y);
-    table.wants("X");
-    table.texts(&Temperature { celsius: 21 });
-    table.wants("21 °C");
-    table.texts(&[Temperature { celsius: -4 }]);
-    table.wants(
-        "\
-[-4 °C]~
-[
-    -4 °C,
-]",
-    );
-    table.texts_of_made(tree(rt.alloc()));
-    table.wants(
-        "\
+]";
+        texts(&forwarded::Y) => "X";
+        texts(&Temperature { celsius: 21 }) => "21 °C";
+        texts(&[Temperature { celsius: -4 }]) => "[-4 °C]~\n[\n    -4 °C,\n]";
+        texts_of_made(tree(rt.alloc())) => "\
 Tree { size: 1, children: [Tree { size: 2, children: [] }] }~
 Tree {
     size: 1,
@@ -501,40 +282,12 @@ Tree {
             children: [],
         },
     ],
-}",
-    );
-    table.texts_of_made(list(rt.alloc(), &[Some(1u64), None]).map(|scores| Scores { scores }));
-    table.wants(
-        "\
-[Some(1), None]~
-[
-    Some(
-        1,
-    ),
-    None,
-]",
-    );
-    table.texts_of_made(ports(rt.alloc()).map(|ports| Ports { ports }));
-    table.wants(
-        "\
-{80: 7, 443: 9}~
-{
-    80: 7,
-    443: 9,
-}",
-    );
-    table.texts_of_made(ports(rt.alloc()).map(|ports| Users { ports }));
-    table.wants(
-        "\
-[7, 9]~
-[
-    7,
-    9,
-]",
-    );
-    table.texts_of_made(window(rt.alloc()));
-    table.wants(
-        "\
+}";
+        texts_of_made(list(rt.alloc(), &[Some(1u64), None]).map(|scores| Scores { scores }))
+            => "[Some(1), None]~\n[\n    Some(\n        1,\n    ),\n    None,\n]";
+        texts_of_made(ports(rt.alloc()).map(|ports| Ports { ports })) => "{80: 7, 443: 9}~\n{\n    80: 7,\n    443: 9,\n}";
+        texts_of_made(ports(rt.alloc()).map(|ports| Users { ports })) => "[7, 9]~\n[\n    7,\n    9,\n]";
+        texts_of_made(window(rt.alloc())) => "\
 Window { name: \"main\", lines: 3..9, recent: [7, 8] }~
 Window {
     name: \"main\",
@@ -543,11 +296,8 @@ Window {
         7,
         8,
     ],
-}",
-    );
-    table.texts_of_made(chains_with_one_end(rt.alloc()));
-    table.wants(
-        "\
+}";
+        texts_of_made(chains_with_one_end(rt.alloc())) => "\
 [Link { id: 1, rest: Some(Link { id: 3, rest: None }) }, Link { id: 2, rest: Some(Link { id: 3, rest: None }) }]~
 [
     Link {
@@ -568,12 +318,10 @@ Window {
             },
         ),
     },
-]",
+]";
+        plain_of_made(pairs_of_a_list(rt.alloc())) => "Object([(\"a\", Array([Number(-1)]))])";
+        plain_of_made(pairs_of_a_table(rt.alloc())) => "Object([(\"b\", Table({7: Null}))])";
     );
-    table.plain_of_made(pairs_of_a_list(rt.alloc()));
-    table.wants("Object([(\"a\", Array([Number(-1)]))])");
-    table.plain_of_made(pairs_of_a_table(rt.alloc()));
-    table.wants("Object([(\"b\", Table({7: Null}))])");
     has_wanted_rows(&rt, &table);
 }
 

@@ -4,6 +4,7 @@ use super::same;
 use super::shape::Shape::{self, Leaf, Listed, MapOf, NonExhaustiveOf, StructOf, TupleOf};
 use super::shape::{debug_made, made};
 use std::alloc::{AllocError, Global};
+use test_rows::rows_of;
 use ufmt_doc::DebugDoc;
 
 // Whether it is a token document, and whether it is a debug document.
@@ -13,55 +14,31 @@ fn classes(alloc: Global, shape: &Shape<'_>) -> Result<(bool, bool), AllocError>
 }
 
 // Documents that are no token documents, and whether they are debug documents.
-const NAMED: [(&str, Shape<'static>, bool); 24] = [
-    ("a path", StructOf("a::B", &[("c:d", Leaf("1.5"))]), true),
-    ("an accent", StructOf("é", &[]), true),
-    ("a path of a tuple", TupleOf("a::B", &[]), true),
-    ("no name", TupleOf("", &[Leaf("0..5")]), true),
-    ("dots", NonExhaustiveOf("S", &[("a", Leaf("x"))]), true),
-    ("only dots", NonExhaustiveOf("S", &[]), true),
-    (
-        "dots in a list",
-        Listed(&[Leaf("x"), NonExhaustiveOf("a::B", &[])]),
-        true,
-    ),
-    ("dots without a name", NonExhaustiveOf("", &[]), false),
-    ("dots after quotes", NonExhaustiveOf("\"S\"", &[]), false),
-    (
-        "a field's space, and dots",
-        NonExhaustiveOf("S", &[("a b", Leaf("x"))]),
-        false,
-    ),
-    (
-        "a field with a comma, and dots",
-        NonExhaustiveOf("S", &[("a", Leaf("x, .."))]),
-        false,
-    ),
-    ("parentheses", StructOf("(a)", &[]), false),
-    ("parentheses of a tuple", TupleOf("()", &[]), false),
-    (
-        "parentheses of a field",
-        StructOf("S", &[("()", Leaf("x"))]),
-        false,
-    ),
-    ("a colon", StructOf("a:", &[]), false),
-    ("a call", StructOf("f()", &[]), false),
-    ("a lifetime", TupleOf("'a", &[Leaf("x")]), false),
-    ("a quote", StructOf("b\"x\"", &[]), false),
-    ("quotes of a tuple", TupleOf("'a'", &[Leaf("x")]), false),
-    (
-        "quotes of a field",
-        StructOf("S", &[("\"a\"", Leaf("x"))]),
-        false,
-    ),
-    (
-        "a colon of a field",
-        StructOf("S", &[("a:", Leaf("x"))]),
-        false,
-    ),
-    ("no name", StructOf("", &[("a", Leaf("x"))]), false),
-    ("no name and no field", StructOf("", &[]), false),
-    ("no name of a tuple", TupleOf("", &[]), false),
+const NAMED: [(&str, Shape<'static>, bool); 24] = rows_of![
+    "a path", StructOf("a::B", &[("c:d", Leaf("1.5"))]) => true;
+    "an accent", StructOf("é", &[]) => true;
+    "a path of a tuple", TupleOf("a::B", &[]) => true;
+    "no name", TupleOf("", &[Leaf("0..5")]) => true;
+    "dots", NonExhaustiveOf("S", &[("a", Leaf("x"))]) => true;
+    "only dots", NonExhaustiveOf("S", &[]) => true;
+    "listed dots", Listed(&[Leaf("x"), NonExhaustiveOf("a::B", &[])]) => true;
+    "dots without a name", NonExhaustiveOf("", &[]) => false;
+    "dots after quotes", NonExhaustiveOf("\"S\"", &[]) => false;
+    "a space, dots", NonExhaustiveOf("S", &[("a b", Leaf("x"))]) => false;
+    "a comma, dots", NonExhaustiveOf("S", &[("a", Leaf("x, .."))]) => false;
+    "parentheses", StructOf("(a)", &[]) => false;
+    "parentheses of a tuple", TupleOf("()", &[]) => false;
+    "a field of ()", StructOf("S", &[("()", Leaf("x"))]) => false;
+    "a colon", StructOf("a:", &[]) => false;
+    "a call", StructOf("f()", &[]) => false;
+    "a lifetime", TupleOf("'a", &[Leaf("x")]) => false;
+    "a quote", StructOf("b\"x\"", &[]) => false;
+    "quotes of a tuple", TupleOf("'a'", &[Leaf("x")]) => false;
+    "a field in quotes", StructOf("S", &[("\"a\"", Leaf("x"))]) => false;
+    "a field's colon", StructOf("S", &[("a:", Leaf("x"))]) => false;
+    "no name", StructOf("", &[("a", Leaf("x"))]) => false;
+    "no name and no field", StructOf("", &[]) => false;
+    "no name of a tuple", TupleOf("", &[]) => false;
 ];
 
 #[test]

@@ -1,6 +1,7 @@
 //! Tests that call each law.
 use super::{holds, same};
 use std::alloc::Global;
+use test_rows::rows_of;
 use ufmt::class::Class;
 use ufmt::layout::Mode;
 use ufmt::plain_text;
@@ -9,25 +10,13 @@ use ufmt_doc::laws::*;
 use ufmt_doc::{ReadError, StructName, Tree, read_debug, read_plain};
 
 // Texts that come back, each with the class of its document.
-const TEXTS: [(Class, Mode, &str); 6] = [
-    (Class::Token, Mode::Plain, "S { a: [x], b: {} }"),
-    (
-        Class::Token,
-        Mode::Pretty,
-        "S {\n    a: [\n        x,\n    ],\n    b: {},\n}",
-    ),
-    (Class::Debug, Mode::Plain, "S { a: [1.5], b: 0..5 }"),
-    (
-        Class::Debug,
-        Mode::Pretty,
-        "S {\n    a: [\n        1.5,\n    ],\n    b: 0..5,\n}",
-    ),
-    (Class::Debug, Mode::Plain, "S { a: T { .. }, .. }"),
-    (
-        Class::Debug,
-        Mode::Pretty,
-        "S {\n    a: T { .. },\n    ..\n}",
-    ),
+const TEXTS: [(Class, Mode, &str); 6] = rows_of![
+    Class::Token, Mode::Plain => "S { a: [x], b: {} }";
+    Class::Token, Mode::Pretty => "S {\n    a: [\n        x,\n    ],\n    b: {},\n}";
+    Class::Debug, Mode::Plain => "S { a: [1.5], b: 0..5 }";
+    Class::Debug, Mode::Pretty => "S {\n    a: [\n        1.5,\n    ],\n    b: 0..5,\n}";
+    Class::Debug, Mode::Plain => "S { a: T { .. }, .. }";
+    Class::Debug, Mode::Pretty => "S {\n    a: T { .. },\n    ..\n}";
 ];
 
 fn is_text<T: Drop>(outcome: Result<(T, String), ReadError>, text: &str) -> bool {

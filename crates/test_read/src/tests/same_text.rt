@@ -3,6 +3,7 @@ use super::same;
 use super::shape::Shape::{self, Leaf, Listed, MapOf, NonExhaustiveOf, SetOf, StructOf, TupleOf};
 use super::shape::{debug_made, made};
 use std::alloc::{AllocError, Global};
+use test_rows::rows_of;
 use ufmt::layout::Mode;
 use ufmt_doc::doc::{DebugDoc, Doc, same_text};
 use ufmt_doc::{ReadError, read_debug};
@@ -26,23 +27,13 @@ fn same_text_of_made(
 }
 
 // Two documents, and whether they have one text.
-const MADE: [(&str, Shape<'static>, Shape<'static>, bool); 6] = [
-    ("a struct and a leaf", StructOf("A", &[]), Leaf("A"), true),
-    (
-        "a tuple and a struct",
-        TupleOf("A", &[]),
-        StructOf("A", &[]),
-        true,
-    ),
-    ("a set and a map", SetOf(&[]), MapOf(&[]), true),
-    ("a map and a set", MapOf(&[]), SetOf(&[]), true),
-    ("a set and a list", SetOf(&[]), Listed(&[]), false),
-    (
-        "a tuple and a list",
-        TupleOf("", &[Leaf("1")]),
-        Listed(&[Leaf("1")]),
-        false,
-    ),
+const MADE: [(&str, Shape<'static>, Shape<'static>, bool); 6] = rows_of![
+    "a name", StructOf("A", &[]), Leaf("A") => true;
+    "a tuple and a struct", TupleOf("A", &[]), StructOf("A", &[]) => true;
+    "a set and a map", SetOf(&[]), MapOf(&[]) => true;
+    "a map and a set", MapOf(&[]), SetOf(&[]) => true;
+    "a set and a list", SetOf(&[]), Listed(&[]) => false;
+    "a tuple and a list", TupleOf("", &[Leaf("1")]), Listed(&[Leaf("1")]) => false;
 ];
 
 #[test]
@@ -54,27 +45,12 @@ fn same_text_is_true_of_documents_with_one_text(rt: HostRuntime) {
 }
 
 // Two documents that are no token documents, and whether they have one normal form.
-const OTHERS: [(&str, Shape<'static>, Shape<'static>, bool); 5] = [
-    ("leaves with a space", Leaf("a b"), Leaf("a b"), true),
-    (
-        "a nameless struct and a leaf",
-        StructOf("", &[]),
-        Leaf(""),
-        true,
-    ),
-    (
-        "a set in a list and a map there",
-        Listed(&[SetOf(&[]), Leaf(",")]),
-        Listed(&[MapOf(&[]), Leaf(",")]),
-        true,
-    ),
-    (
-        "a comma in a leaf and between two",
-        Listed(&[Leaf("a, b")]),
-        Listed(&[Leaf("a"), Leaf("b")]),
-        false,
-    ),
-    ("a bracket and a list", Leaf("[]"), Listed(&[]), false),
+const OTHERS: [(&str, Shape<'static>, Shape<'static>, bool); 5] = rows_of![
+    "a space", Leaf("a b"), Leaf("a b") => true;
+    "no name", StructOf("", &[]), Leaf("") => true;
+    "in lists", Listed(&[SetOf(&[]), Leaf(",")]), Listed(&[MapOf(&[]), Leaf(",")]) => true;
+    "a comma", Listed(&[Leaf("a, b")]), Listed(&[Leaf("a"), Leaf("b")]) => false;
+    "a bracket", Leaf("[]"), Listed(&[]) => false;
 ];
 
 #[test]
@@ -98,87 +74,22 @@ fn same_text_of_debug(a: &DebugDoc, b: &DebugDoc) -> Option<bool> {
 }
 
 // Two debug documents, and whether they have one text.
-const MADE_AS_DEBUG: [(&str, Shape<'static>, Shape<'static>, bool); 15] = [
-    ("a number with a point", Leaf("1.5"), Leaf("1.5"), true),
-    (
-        "one number, spelled twice",
-        Leaf("1.5"),
-        Leaf("1.50"),
-        false,
-    ),
-    (
-        "two spellings of a character",
-        Leaf("'\\u{e9}'"),
-        Leaf("'é'"),
-        false,
-    ),
-    ("a path", StructOf("a::B", &[]), Leaf("a::B"), true),
-    (
-        "a path as a tuple and as a struct",
-        TupleOf("a::B", &[]),
-        StructOf("a::B", &[]),
-        true,
-    ),
-    (
-        "a set and a map beside a range",
-        TupleOf("", &[Leaf("0..5"), SetOf(&[])]),
-        TupleOf("", &[Leaf("0..5"), MapOf(&[])]),
-        true,
-    ),
-    (
-        "a colon in a leaf and between two",
-        SetOf(&[Leaf("a:1")]),
-        MapOf(&[(Leaf("a"), Leaf("1"))]),
-        false,
-    ),
-    (
-        "a token document and another",
-        Leaf("b"),
-        Leaf("b\"\""),
-        false,
-    ),
-    (
-        "structs that end in dots",
-        NonExhaustiveOf("S", &[("a", StructOf("A", &[]))]),
-        NonExhaustiveOf("S", &[("a", Leaf("A"))]),
-        true,
-    ),
-    (
-        "only dots",
-        NonExhaustiveOf("S", &[]),
-        NonExhaustiveOf("S", &[]),
-        true,
-    ),
-    (
-        "only dots after two names",
-        NonExhaustiveOf("S", &[]),
-        NonExhaustiveOf("T", &[]),
-        false,
-    ),
-    (
-        "dots after two fields and one",
-        NonExhaustiveOf("S", &[("a", Leaf("x")), ("b", Leaf("y"))]),
-        NonExhaustiveOf("S", &[("a", Leaf("x"))]),
-        false,
-    ),
-    (
-        "a struct with dots and without",
-        NonExhaustiveOf("S", &[("a", Leaf("x"))]),
-        StructOf("S", &[("a", Leaf("x"))]),
-        false,
-    ),
-    (
-        "only dots and a leaf",
-        NonExhaustiveOf("S", &[]),
-        Leaf("S"),
-        false,
-    ),
-    (
-        "a tuple without fields and only dots",
-        TupleOf("S", &[]),
-        NonExhaustiveOf("S", &[]),
-        false,
-    ),
+const MADE_AS_DEBUG: [(&str, Shape<'static>, Shape<'static>, bool); 15] = rows_of![
+    "a number", Leaf("1.5"), Leaf("1.5") => true;
+    "two spellings", Leaf("1.5"), Leaf("1.50") => false;
+    "a character", Leaf("'\\u{e9}'"), Leaf("'é'") => false;
+    "a path", StructOf("a::B", &[]), Leaf("a::B") => true;
+    "a path twice", TupleOf("a::B", &[]), StructOf("a::B", &[]) => true;
+    "beside a range", TupleOf("", &[Leaf("0..5"), SetOf(&[])]), TupleOf("", &[Leaf("0..5"), MapOf(&[])]) => true;
+    "a colon", SetOf(&[Leaf("a:1")]), MapOf(&[(Leaf("a"), Leaf("1"))]) => false;
+    "two classes", Leaf("b"), Leaf("b\"\"") => false;
+    "dots", NonExhaustiveOf("S", &[("a", StructOf("A", &[]))]), NonExhaustiveOf("S", &[("a", Leaf("A"))]) => true;
+    "only dots", NonExhaustiveOf("S", &[]), NonExhaustiveOf("S", &[]) => true;
+    "two names", NonExhaustiveOf("S", &[]), NonExhaustiveOf("T", &[]) => false;
+    "two fields, one", NonExhaustiveOf("S", &[("a", Leaf("x")), ("b", Leaf("y"))]), NonExhaustiveOf("S", &[("a", Leaf("x"))]) => false;
+    "with dots, without", NonExhaustiveOf("S", &[("a", Leaf("x"))]), StructOf("S", &[("a", Leaf("x"))]) => false;
+    "dots and a leaf", NonExhaustiveOf("S", &[]), Leaf("S") => false;
+    "a tuple and dots", TupleOf("S", &[]), NonExhaustiveOf("S", &[]) => false;
 ];
 
 fn same_text_of_made_as_debug(
