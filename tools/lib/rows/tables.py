@@ -1,8 +1,8 @@
 """The tables of rows in tools/data/rows: what is asked of each row, and what is wanted.
 
 A line `== WORDS` begins a part and says what is asked of its rows, by a name of `questions.py` and more words. A line that begins with `# `
-tells of it. A row has cells, with ` => ` between them. In a cell a character that can't stand in it is written as in a literal of Rust:
-`\\n`, `\\\\`, `\\u{301}`, and a byte as `\\xff`.
+tells of it. A row has cells, with ` => ` between them. In a cell a character that can't stand in it, as a space at its end, is written as in a
+literal of Rust: `\\n`, `\\\\`, `\\u{20}`, and a byte as `\\xff`.
 """
 import re
 from typing import NamedTuple
@@ -40,4 +40,5 @@ def rows():
             if line.startswith("== "):
                 words = line[3:].split(" ")
             elif line and not line.startswith("# "):
-                yield Row("%s:%d" % (path.relative_to(TOP), number), words, list(map(cell, line.split(BETWEEN))))
+                cells = (line + " ").split(BETWEEN)
+                yield Row("%s:%d" % (path.relative_to(TOP), number), words, [cell(written.rstrip(" ")) for written in cells])
