@@ -4,7 +4,7 @@ import struct
 
 from lib.model import floats
 from lib.model.dumps import dump
-from lib.model.model import quoted
+from lib.model.document import quoted
 from lib.model.pieces import with_zeros
 from lib.model.requests import Request, hexadecimal, in_column, with_places
 

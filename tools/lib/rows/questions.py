@@ -5,9 +5,10 @@ program does what the row wants.
 """
 from lib import data
 from lib.model import places, types
-from lib.model.model import DEBUG, TOKEN, Block, PlainReader, PrettyReader, events, parts, plain, pretty, quoted
-from lib.model.shown import field_text, text_of
-from lib.model.verdicts import joined, kinds
+from lib.model.document import Block, plain, pretty, quoted
+from lib.model.reading import DEBUG, TOKEN, PlainReader, PrettyReader
+from lib.model.shown import events, field_text, parts, text_of
+from lib.model.verdicts import kinds
 from lib.rows.formats import dumped, formats
 
 CLASSES = {"token": TOKEN, "debug": DEBUG}
@@ -74,8 +75,10 @@ def unended(words, cells):
 
 def of_document(add):
     def question(words, cells):
-        document = READERS[tuple(words)].read(cells[0])
-        yield cells[0], cells[1], "nothing" if document is None else joined(add, document)
+        document, said = READERS[tuple(words)].read(cells[0]), []
+        if document is not None:
+            add(document, said)
+        yield cells[0], cells[1], "".join(said) or "nothing"
 
     return question
 
@@ -121,14 +124,18 @@ def told(words, cells):
     yield cells[0], cells[1], places.stopped(encoded(cells[0]), at, expected).split(", NotText")[0]
 
 
+def some(document):
+    return Block("tuple", "Some", [(None, document)])
+
+
 def nested(name, around):
     """The document of a node or a tree inside so many others, perhaps in an option."""
     if name.startswith("Option"):
-        return types.some(nested("Node", around))
+        return some(nested("Node", around))
     document = "None" if name == "Node" else Block("list", "", [])
     for _ in range(around + 1):
         value = Block("struct", name, [("value", "1"), ("next", document)] if name == "Node" else [("size", "1"), ("children", document)])
-        document = types.some(value) if name == "Node" else Block("list", "", [(None, value)])
+        document = some(value) if name == "Node" else Block("list", "", [(None, value)])
     return value
 
 
