@@ -1,6 +1,6 @@
 //! Tests of what no clause says of parsing: that it succeeds with ample memory, and where a text that isn't parsed stops
-//! fitting, for types of users, and for those of std that probe_model doesn't parse. Of the others texts are rows of
-//! tools/data/rows.
+//! fitting. They parse types of users, and types of std that probe_model doesn't parse. tools/data/rows has texts of the
+//! other types.
 mod allocators;
 mod by_parsers;
 mod decimals;
@@ -65,8 +65,8 @@ fn comes_back<T: uParse<Global>>(alloc: Global, text: &str) -> bool {
     }
 }
 
-// The first of these texts that is parsed otherwise. Beside a text is where it stops to be one of a value, and what is
-// expected there, as `16 Punctuation`. Beside a value's text nothing is said.
+// Returns the first text whose outcome isn't the one beside it. An outcome is the place where the text stops fitting, with
+// what is expected there, such as `16 Punctuation`. It is empty for a value's text.
 pub fn first_other<'a, T: uParse<Global>>(
     alloc: Global,
     rows: &[(&'a str, &str)],

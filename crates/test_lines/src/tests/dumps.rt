@@ -54,8 +54,8 @@ fn in_rows(per_row: usize, group: usize) -> HexDump {
     }
 }
 
-// In turn the pieces of a row with offsets or without and with texts or without, and those of a long row: zeros, digits, the
-// bytes, the spaces in place of 30 bytes, and the text.
+// The pieces of a row, with and without offsets and texts, and then the pieces of a long row: zeros, digits, the bytes, the
+// spaces in place of 30 bytes, and the text.
 #[test]
 fn rows_of_dumps_come_in_pieces(rt: HostRuntime) {
     let mut table = Table::new(rt.alloc());

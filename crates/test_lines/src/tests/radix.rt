@@ -1,5 +1,5 @@
-//! Tests of `fmt_radix` and of the marks `bin` and `oct`. Their pieces are as those of `fmt_hex`. Numbers in each radix with
-//! options are rows of tools/data/rows.
+//! Tests of `fmt_radix` and of the marks `bin` and `oct`, which write the same pieces as `fmt_hex`. tools/data/rows has
+//! numbers in each radix, with options.
 use super::asserts::has_wanted_rows;
 use std::num::{
     NonZeroI8, NonZeroI16, NonZeroI32, NonZeroI64, NonZeroI128, NonZeroIsize, NonZeroU8,

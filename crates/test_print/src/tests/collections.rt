@@ -1,5 +1,5 @@
-//! Tests of the texts of std's collections. They are those of core::fmt, and those of ufmt 0.2.0
-//! except where a comment says so. `tools/expected/show VALUE` prints them again.
+//! Tests of the texts of std's collections. core::fmt prints the same texts, and so does ufmt 0.2.0
+//! except where a comment says otherwise. `tools/expected/show VALUE` prints them again.
 use super::asserts::{has_wanted_rows, same};
 use std::alloc::{AllocError, Global};
 use std::collections::{BTreeMap, BTreeSet};

@@ -1,5 +1,5 @@
-//! Tests of floats: each is one piece by both traits, and its text is that of rustc. More are rows of tools/data/rows, and of
-//! `x try floats`.
+//! Tests of floats: each is one piece by both traits, and rustc prints the same text. tools/data/rows and `x try floats` have
+//! more of them.
 use super::asserts::has_wanted_rows;
 use example_print::Sample;
 use test_rows::printed::Displayed;

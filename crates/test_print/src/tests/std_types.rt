@@ -1,5 +1,6 @@
-//! Tests of the texts of std's shared values, queues, hashed collections, ranges and small types. They are those of
-//! core::fmt, but for the order of a hashed collection of several items. `tools/expected/show VALUE` prints them again.
+//! Tests of the texts of std's shared values, queues, hashed collections, ranges and small types. core::fmt
+//! prints the same texts, but for the order of a hashed collection of several items. `tools/expected/show VALUE` prints them
+//! again.
 use super::asserts::{has_wanted_rows, same};
 use std::alloc::{AllocError, Global};
 use std::borrow::{Cow, CowSlice, CowStr};
