@@ -29,6 +29,8 @@ STEPS = (
     Step("growths", SOURCES, "lib.growths.step", "an error of memory is only passed on from a growth"),
     Step("answers", SOURCES, "lib.model.stored", "the file that `rt ci` compares a run of probe_model with is what the model says"),
     Step("generated", SOURCES, "lib.by_count.step", "the files with a call for each number of fields are as `x generate` writes them"),
+    Step("api", SOURCES, "lib.api.page", "docs/API.md is as `x generate` writes it from the sources"),
+    Step("promises", SOURCES, "lib.promises.page", "each promise in a comment of the sources stands beside a clause, and docs/PROMISES.md has it"),
     Step("copies", SOURCES, "lib.copies.trial", "`x new` and `x update` in folders of each kind"),
     Step("c", UNPROVED, "lib.c.step", "each call of the library for C, from C, Rust and Python", ("rt", "gcc", "nm", "objdump"), ("valgrind", "rustc", "g++")),
     Step("texts", BUILT, "lib.model.step", "each call on random texts and texts of each shape, against a model; memory and steps", (), ("cc", "valgrind")),

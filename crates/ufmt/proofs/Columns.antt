@@ -3,11 +3,10 @@ use Rattle.std.proofs.Common.{◌≡◌, ◌⊎◌, inl, inr, nat_lt, ℕ, zero,
 use borrow.Author.Tests.{ltb-true}
 use lib.Utf8.{encode, next}
 use Rattle.std.proofs.lemmas.Bool.Decides.{nat_tests}
-use Rattle.std.proofs.lemmas.List.{get_or-replicate, take_more, replicate-append-replicate}
-use Rattle.std.proofs.lemmas.Str.{IsCharBoundary-before_ascii, encode_ascii}
+use Rattle.std.proofs.lemmas.List.{take_more, replicate-append-replicate}
+use Rattle.std.proofs.lemmas.Str.{encode_ascii}
 use Rattle.std.specs.Fmt.{char_count, is_char_start}
 use Rattle.std.specs.List.{repeat}
-use Rattle.std.specs.Str.{IsCharBoundary}
 use Rattle.ufmt_core.proofs.Writing.{Prints-fails, Prints-same, Prints-then, Prints-then_at}
 use Rattle.ufmt_core.specs.Bytes.{space}
 use Rattle.ufmt_core.specs.Formatter.{Prints, setting_of, writer_of}
@@ -135,9 +134,6 @@ pub bytes-rest : (byte m n : ℕ) → m ≡ n / 64 → replicate n byte ≡ repl
 bytes-rest byte m n is =
     let count : n ≡ 64 * m + n % 64 = omega arith in
     ap (λ k. replicate k byte) count ∙ sym (replicate-append-replicate (64 * m) (n % 64) byte)
-
-pub IsCharBoundary-bytes : (byte n : ℕ) → byte < 128 → n < 64 → IsCharBoundary (replicate 64 byte) n
-IsCharBoundary-bytes byte n low within = IsCharBoundary-before_ascii (replicate 64 byte) n within (omega (arith, get_or-replicate 64 n byte 0 within, low))
 
 -- the fills before and after the text, of so many in all
 abbrev first_fills : Column → ℕ → List ℕ

@@ -116,10 +116,6 @@ missing_width group per_row n some some_byte within =
     let ordered : (n - 1) / group ≤ (per_row - 1) / group = le-div ((n - 1) / group) (per_row - 1) group some (omega (arith, div-mul-le_self (n - 1) group)) in
     rw (replicate-append-replicate, replicate-append-replicate) (ap (λ count. replicate count space) (omega arith))
 
--- a number of spaces in two parts
-pub spaces_split : (n part : ℕ) → part ≤ n → replicate n space ≡ replicate part space ++ replicate (n - part) space
-spaces_split n part within = rw replicate-append-replicate (ap (λ count. replicate count space) (omega arith))
-
 -- a group has a byte
 pub bytes_per_group-some : (dump : HexDump) → 0 < bytes_per_group dump
 bytes_per_group-some dump = grind (arith, nat_tests)

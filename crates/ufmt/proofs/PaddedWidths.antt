@@ -109,13 +109,9 @@ PadsToWidth-zero_filled z digits ascii = PadsToWidth-padded (sign_of z) digits (
 pub pads_with_zeros : (z : ℤ) → PadsToWidth (λ width. zero_padded width z)
 pads_with_zeros z = PadsToWidth-zero_filled z (decimal (pos (nat_abs z))) (IsAscii-decimal (pos (nat_abs z)))
 
-pub pads_unsigned : (n : ℕ) → PadsToWidth (λ width. zero_padded width (pos n))
-pads_unsigned n = pads_with_zeros (pos n)
-
 pub pads_fixed : (places : ℕ) (z : ℤ) → PadsToWidth (λ width. zero_filled width (sign_of z) (fixed_digits places (nat_abs z)))
 pads_fixed places z = PadsToWidth-zero_filled z (fixed_digits places (nat_abs z)) (IsAscii-fixed_digits places (nat_abs z))
 
 -- what a padded text is short of a width: no more than without its padding, and than the length to which it pads
-pub missing-padded : (text : ℕ → List ℕ) → PadsToWidth text → (width length : ℕ)
-    → min (width - char_count (text 0)) (width - length) ≡ width - char_count (text length)
-missing-padded text pads width length = omega (arith, pads length)
+pub missing-padded : (padded unpadded width length : ℕ) → padded ≡ max length unpadded → min (width - unpadded) (width - length) ≡ width - padded
+missing-padded padded unpadded width length pads = omega (arith, pads)

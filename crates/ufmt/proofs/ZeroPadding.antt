@@ -13,7 +13,7 @@ unfolding decimal
 decimal_signed z = refl
 
 -- the sign is that of the test
-sign_if : (z : ℤ) (is_minus : Bool) → is_negative z ≡ is_minus → minus_if is_minus ≡ sign_of z
+pub sign_if : (z : ℤ) (is_minus : Bool) → is_negative z ≡ is_minus → minus_if is_minus ≡ sign_of z
 sign_if (pos n) true sign = absurd (omega (arith, ltb-true n 0 sign))
 sign_if (pos n) false sign = refl
 sign_if (negsuc n) true sign = refl

@@ -1,12 +1,12 @@
 //! Columns: texts padded to a width that counts characters.
-ghost use Rattle.std.specs.Prelude.{◌≡◌, ◌<◌, is_ok, replicate};
+ghost use Rattle.std.specs.Prelude.{◌≡◌, is_ok};
 ghost use Rattle.ufmt_core.specs.Formatter.{Prints, writer_of};
-ghost use Rattle.ufmt_core.specs.Bytes.{space};
 ghost use Rattle.ufmt.specs.Column.{fills, fills_before};
 ghost use Rattle.ufmt.specs.Private.Counting.{left_after};
 
 mod counter;
 
+use crate::pad::pad;
 pub(crate) use counter::{CharacterCounter, WidthReached};
 use ufmt_core::{Formatter, uWrite};
 
@@ -53,7 +53,7 @@ impl Column {
         ensures { Prints W.seen f.old (fills self.now count) (is_ok result) f.new }
     {
         if self.fill == ' ' {
-            write_spaces(f, count)
+            pad::<W, b' '>(f, &[b' '; 64], count)
         } else {
             self.write_each_fill(f, count)
         }
@@ -67,29 +67,6 @@ impl Column {
             f.write_char(self.fill)?;
         }
         Ok(())
-    }
-}
-
-const SPACES: &str = "                                                                ";
-
-// So many spaces, fewer than the constant has.
-fn spaces(count: usize) -> &'static str
-    requires { count < 64 }
-    ensures { result.now ≡ replicate count space }
-{
-    &SPACES[..count]
-}
-
-// Writes spaces, at most 64 in a piece.
-fn write_spaces<W: uWrite>(f: &mut Formatter<W>, count: usize) -> Result<(), W::Error>
-    ensures { Prints W.seen f.old (replicate count space) (is_ok result) f.new }
-{
-    for _piece in 0..count / 64 {
-        f.write_str(SPACES)?;
-    }
-    match count % 64 {
-        0 => Ok(()),
-        left => f.write_str(spaces(left)),
     }
 }
 

@@ -20,6 +20,9 @@ pub struct Cut {
     pub is_whole: bool,
 }
 
+// Promise (buffers): A cut text has as many whole characters as fit, so at most three bytes stay unused.
+// `is_whole` says whether all of it fits. Also: `cut::pretty_cut_into`, `cut::display_cut_into`,
+// `cut::line_cut_into`.
 /// Prints to the front of the buffer as much of the value as fits, by `uDebug` in plain mode. The text
 /// is cut between two characters. The other bytes stay as they were.
 pub fn debug_cut_into<T: uDebug>(buffer: &mut [u8], value: &T) -> Cut

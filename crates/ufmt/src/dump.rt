@@ -5,10 +5,11 @@ ghost use Rattle.ufmt_core.specs.Writes.{Writes};
 ghost use Rattle.ufmt_core.specs.Buffer.{Fronts};
 ghost use Rattle.ufmt.specs.Dump.{byte_digits, bytes_per_group, bytes_per_row, digits_column, digits_width, dump_text, offset_column, offset_text, row_text, shown_byte, text_column};
 
+use crate::pad::pad;
 use crate::radix::digits::{digit_byte, digits_text};
 use ufmt_core::ascii::text_from;
 use ufmt_core::cursor::{Cursor, Full};
-use ufmt_core::uWrite;
+use ufmt_core::{Formatter, uWrite};
 
 /// What a dump of bytes looks like: rows, each with its offset, its bytes' digits and its bytes as text.
 #[derive(Clone, Copy)]
@@ -168,6 +169,8 @@ impl HexDump {
     }
 }
 
+// Promise (buffers): The rows of a dump have every byte once and in order. The texts beside them begin in one
+// column, if offsets are below 2^32. Also: `laws::dump_rows_have_each_byte`.
 /// Prints a dump of the bytes to the writer. On `Err` a prefix of it was written.
 pub fn write_hex_dump<W: uWrite>(
     writer: &mut W,
@@ -199,7 +202,7 @@ fn write_padded<W: uWrite>(writer: &mut W, offset: u64) -> Result<(), W::Error>
     ensures { Writes W.seen writer.old (offset_text offset) (is_ok result) writer.new }
 {
     let mut buffer = [0; 16];
-    let digits = digits_text::<u64, 16, 16>(offset, false, &mut buffer);
+    let digits = digits_text::<u64, 16>(offset, false, &mut buffer);
     if digits.len() >= 8 {
         return writer.write_str(digits);
     }
@@ -267,22 +270,9 @@ fn shown(byte: u8) -> u8
     }
 }
 
-// In pieces of at most 64 spaces.
 fn write_spaces<W: uWrite>(writer: &mut W, count: usize) -> Result<(), W::Error>
     ensures { Writes W.seen writer.old (replicate count space) (is_ok result) writer.new }
 {
-    let mut left = count;
-    while left > 0 {
-        let piece = left.min(64);
-        writer.write_str(spaces(piece))?;
-        left -= piece;
-    }
-    Ok(())
-}
-
-fn spaces(count: usize) -> &'static str
-    requires { count ≤ 64 }
-    ensures { result.now ≡ replicate count space }
-{
-    text_from(&[b' '; 64], 64 - count)
+    let mut f = Formatter::new(writer);
+    pad::<&mut W, b' '>(&mut f, &[b' '; 64], count)
 }

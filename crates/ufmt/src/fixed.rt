@@ -1,11 +1,12 @@
 //! `uDisplayFixed`: texts of floats with a number of decimals.
-ghost use Rattle.std.specs.Prelude.{◌≡◌, ◌<◌, ◌-◌, ℕ, List, is_ok, replicate};
+ghost use Rattle.std.specs.Prelude.{◌≡◌, ◌-◌, ℕ, List, is_ok};
 ghost use Rattle.std.specs.Fmt.{char_count};
 ghost use Rattle.ufmt_core.specs.Document.{leaf};
 ghost use Rattle.ufmt_core.specs.Formatter.{Prints};
 ghost use Rattle.ufmt_fixed.specs.Text.{fixed_text};
 
 use crate::display::uDisplay;
+use crate::pad::pad;
 use ufmt_core::ascii::text_from;
 use ufmt_core::{Formatter, uDebug, uWrite};
 use ufmt_fixed::{LongText, ShortText};
@@ -136,30 +137,7 @@ fn write_long<F: Float, W: uWrite>(
     let text = LongText::of(x, decimals);
     let (digits, zeros) = text.parts();
     f.write_str(text_from(digits, 0))?;
-    write_zeros(f, zeros)
-}
-
-const ZEROS: &str = "0000000000000000000000000000000000000000000000000000000000000000";
-
-// So many zeros, fewer than the constant has.
-fn zeros(count: usize) -> &'static str
-    requires { count < 64 }
-    ensures { result.now ≡ replicate count 48 }
-{
-    &ZEROS[..count]
-}
-
-// Writes zeros, at most 64 in a piece.
-fn write_zeros<W: uWrite>(f: &mut Formatter<W>, count: usize) -> Result<(), W::Error>
-    ensures { Prints W.seen f.old (replicate count 48) (is_ok result) f.new }
-{
-    for _piece in 0..count / 64 {
-        f.write_str(ZEROS)?;
-    }
-    match count % 64 {
-        0 => Ok(()),
-        left => f.write_str(zeros(left)),
-    }
+    pad::<W, b'0'>(f, &[b'0'; 64], zeros)
 }
 
 // How many characters the text is short of the width: none of it is written.

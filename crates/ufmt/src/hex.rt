@@ -5,6 +5,7 @@ ghost use Rattle.ufmt.specs.declared.hex.HexOptions.{HexOptions};
 ghost use Rattle.ufmt.specs.Hex.{padded};
 ghost use Rattle.ufmt.specs.Radix.{PadsToLength, padded_after, pads_first, prefix_in};
 
+use crate::number::InNotation;
 use crate::radix::Radix;
 use ufmt_core::{Formatter, uWrite};
 
@@ -27,6 +28,24 @@ pub trait uDisplayHex {
         ensures { IsTrue result → PadsToLength (hex_text self.now) }
     {
         false
+    }
+}
+
+/// For integers, nonzero integers, and a reference to, `Wrapping` of or `Saturating` of a type that has the trait.
+impl<T: InNotation<HexOptions>> uDisplayHex for T {
+    ghost hex_text = { λ x options. T.text x options };
+
+    #[inline(always)]
+    fn fmt_hex<W: uWrite>(
+        &self,
+        f: &mut Formatter<W>,
+        options: HexOptions,
+    ) -> Result<(), W::Error> {
+        self.write_in(f, options)
+    }
+
+    fn pads_hex(&self) -> bool {
+        self.pads_in()
     }
 }
 

@@ -61,6 +61,7 @@ pub use ufmt_grammar::laws::{
     texts_are_read_exactly, texts_determine_normal_forms, tokens_are_debug, unquoted_as_before,
 };
 
+// Promise (buffers): A `Cursor` accepts a piece if and only if it fits, and a refused piece changes nothing.
 /// After the loan of a cursor, its buffer begins with the bytes that were written. The others are as
 /// before.
 pub fn write_to_buffer(buffer: &mut [u8], text: &str) -> Result<(), Full>
@@ -106,6 +107,9 @@ pub fn signed_prints_as_unsigned()
         ⟦<usize as uDisplayHex>⟧.hex_text }
 {}
 
+// Promise (printing): `uDisplay` prints numbers and `bool` as `uDebug` does, except floats. It prints texts
+// without quotes, and a wrapper as what it holds. Also: `laws::texts_display_as_they_are`,
+// `laws::references_display_what_they_refer_to`, `laws::wrappers_display_what_they_hold`.
 /// A whole number, a nonzero number and a truth value print the same text by `uDebug` and `uDisplay`.
 pub fn both_traits_print_one_text()
     ensures of_u8 { ⟦<u8 as uDisplay>⟧.display ≡ ⟦<u8 as uDebug>⟧.document }
@@ -287,6 +291,9 @@ pub fn line_of_all_pieces<W: uWrite, A: uDisplay, B: uDebug, C: uDebug, N: uDisp
     .print(f)
 }
 
+// Promise (lines): A text in a column is padded to the width in characters, on the side that `align` names. A
+// longer text isn't padded. Also: `laws::line_of_all_columns`, `laws::columns_are_filled`,
+// `ufmt_core::Formatter::with_writer`.
 /// Writes `uwrite!(f, display a in within, debug b in within, pretty c in within, hex n with options in
 /// within)`, a piece of each kind in a column.
 pub fn all_columns<W: uWrite, A: uDisplay, B: uDebug, C: uDebug, N: uDisplayHex>(

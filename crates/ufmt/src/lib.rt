@@ -13,6 +13,8 @@ mod fixed;
 mod ghost_text;
 mod hex;
 pub mod laws;
+mod number;
+mod pad;
 pub mod pieces;
 mod print;
 mod radix;

@@ -16,6 +16,9 @@ pub trait Line {
     /// The pieces.
     ghost pieces: { Self → List Piece };
 
+    // Promise (lines): A line prints the texts of its pieces in order. If it returns `Err`, it has written a
+    // prefix of that. `uwriteln!` adds a line feed. Also: `laws::all_pieces`, `laws::line_of_all_pieces`,
+    // `laws::numbers::uwrite_numbers`, `laws::numbers::line_of_numbers`, `laws::line_feed_comes_last`.
     /// Writes the pieces one after another, in the formatter's mode and from its depth. On `Err` a
     /// prefix of their text was written. Mode, depth and the writer's identity are as before.
     fn print<W: uWrite>(&self, f: &mut Formatter<W>) -> Result<(), W::Error>

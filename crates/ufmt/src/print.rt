@@ -63,6 +63,9 @@ pub fn write_line<L: Line, W: uWrite>(writer: &mut W, line: &L) -> Result<(), W:
     line.print(&mut f)
 }
 
+// Promise (buffers): The text is at the front of the buffer, and `Ok` has its length. With `Full`, a prefix of
+// it is there. Other bytes stay as they were. A text that fits never fails. Also: `print::pretty_into`,
+// `print::display_into`, `print::line_into`, `dump::hex_dump_into`.
 /// Prints the value to the front of the buffer, by `uDebug` in plain mode, and returns the text's
 /// length. On `Full` a prefix of the text was printed there. The other bytes stay as they were.
 pub fn debug_into<T: uDebug>(buffer: &mut [u8], value: &T) -> Result<usize, Full>
@@ -112,6 +115,9 @@ pub fn plain_text<T: uDebug>(alloc: Global, value: &T) -> Result<String, AllocEr
     Ok(text)
 }
 
+// Promise (printing): In pretty text a line inside `n` blocks begins with four times `n` spaces, if no leaf
+// and no name has a line feed and `n` is at most 255. Clauses: `shifted`. Also:
+// `ufmt_grammar::laws::shifted_at_depth`.
 /// Returns the value's pretty text, from depth 0. Fails only for want of memory. The text is also the
 /// shifted text, which is defined without a depth, if blocks with entries are nested at most 255 deep
 /// and no leaf and no name has a line feed.

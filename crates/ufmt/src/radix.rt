@@ -5,12 +5,11 @@ ghost use Rattle.ufmt.specs.declared.hex.HexOptions.{HexOptions};
 ghost use Rattle.ufmt.specs.declared.radix.Radix.{Radix};
 ghost use Rattle.ufmt.specs.Radix.{PadsToLength, radix_prefix};
 
-mod core_impls;
 pub(crate) mod digits;
-mod integers;
-mod nonzero;
 
 use crate::hex::HexOptions;
+use crate::number::InNotation;
+use crate::number::notation::RadixDigits;
 use ufmt_core::{Formatter, uWrite};
 
 /// The base of a text's digits.
@@ -62,5 +61,24 @@ pub trait uDisplayRadix {
         ensures { IsTrue result → (radix : Radix) → PadsToLength (radix_text self.now radix) }
     {
         false
+    }
+}
+
+/// For integers, nonzero integers, and a reference to, `Wrapping` of or `Saturating` of a type that has the trait.
+impl<T: InNotation<RadixDigits>> uDisplayRadix for T {
+    ghost radix_text = { λ x radix options. T.text x (record { radix = radix; options = options }) };
+
+    #[inline(always)]
+    fn fmt_radix<W: uWrite>(
+        &self,
+        f: &mut Formatter<W>,
+        radix: Radix,
+        options: HexOptions,
+    ) -> Result<(), W::Error> {
+        self.write_in(f, RadixDigits { radix, options })
+    }
+
+    fn pads_radix(&self) -> bool {
+        self.pads_in()
     }
 }

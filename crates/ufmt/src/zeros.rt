@@ -5,11 +5,9 @@ ghost use Rattle.ufmt_core.specs.Formatter.{Prints};
 ghost use Rattle.ufmt.specs.Column.{PadsToWidth};
 ghost use Rattle.ufmt.specs.Zeros.{minus_if, zero_filled};
 
-mod core_impls;
-mod integers;
-mod nonzero;
-
 use crate::hex::HexOptions;
+use crate::number::InNotation;
+use crate::number::notation::ZerosTo;
 use ufmt_core::unsigned::{text_of_u64, text_of_u128};
 use ufmt_core::{Formatter, uWrite};
 
@@ -31,6 +29,20 @@ pub trait uDisplayZeros {
         ensures { IsTrue result → PadsToWidth (zeros_text self.now) }
     {
         false
+    }
+}
+
+/// For integers, nonzero integers, and a reference to, `Wrapping` of or `Saturating` of a type that has the trait.
+impl<T: InNotation<ZerosTo>> uDisplayZeros for T {
+    ghost zeros_text = { λ x width. T.text x (record { width = width }) };
+
+    #[inline(always)]
+    fn fmt_zeros<W: uWrite>(&self, f: &mut Formatter<W>, width: usize) -> Result<(), W::Error> {
+        self.write_in(f, ZerosTo { width })
+    }
+
+    fn pads_zeros(&self) -> bool {
+        self.pads_in()
     }
 }
 

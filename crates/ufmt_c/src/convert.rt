@@ -15,6 +15,12 @@ use ufmt_scan::convert::{other_mode, write_converted};
 use ufmt_scan::scan::ScanError;
 use ufmt_scan::valid_up_to;
 
+// Promise (programs): A conversion for C writes the other text. It returns `no_text` if and only if the input
+// isn't a text, with the place in `detail`. `ufmt_unquote` and, with each escape of Rust, `ufmt_unquote_debug`
+// undo `ufmt_quote`, or say how far the input is right. Also: `ufmt_is_text`, `ufmt_unquote`,
+// `ufmt_unquote_debug`.
+// Promise (programs): For bytes that aren't UTF-8, C gets how many at the front are. Such bytes and
+// meaningless options change nothing. Also: `ufmt_quote`.
 /// Writes the text in the mode `to` of the documents of the class with this text in the other mode. Returns
 /// `BAD_OPTION` if there is no such class or mode, and else `NO_TEXT` only if no document of the class has
 /// it. Then `detail` becomes the number of bytes at the input's front that were read before the piece that

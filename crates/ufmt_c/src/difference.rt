@@ -10,6 +10,7 @@ use crate::print::print_line;
 use crate::text::text_of;
 use ufmt_snapshot::first_difference;
 
+// Promise (programs): C gets the number of the first line that differs, or 0.
 /// Returns the number of the first line in which the texts differ, and 0 if they are equal; or `NOT_UTF8` if
 /// one isn't UTF-8. Then `detail` becomes the number of bytes at the first such text's front that are.
 #[unsafe(no_mangle)]

@@ -10,6 +10,8 @@ use crate::options::to_class;
 use crate::text::text_of;
 use ufmt_values::find_field;
 
+// Promise (programs): A field that C finds in a line has the place and the length that C gets. `no_text` means
+// that the line has no such field.
 /// Finds a field in a line of a log: of the values of the class in the line, from the left on, the first that
 /// is a struct with this field, where the field is a leaf. Returns how many bytes its text has, and `detail`
 /// becomes where it begins in the line. Returns `BAD_OPTION` if there is no such class, and else `NOT_UTF8` if

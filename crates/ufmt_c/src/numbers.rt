@@ -17,6 +17,9 @@ use ufmt::{HexOptions, pieces};
 // The longest prefix and digits: `0b` and 64 bits.
 const LONGEST: usize = 66;
 
+// Promise (programs): A call from C leaves its text at the front of the buffer, with `full` a prefix, and its
+// length in `detail`. Also: `ufmt_signed`, `ufmt_float`, `ufmt_float_fixed`, `ufmt_hexadecimal`,
+// `ufmt_binary`, `ufmt_dump`, `ufmt_quote`, `ufmt_in_column`, `ufmt_difference`.
 /// Writes the number in decimal digits.
 #[unsafe(no_mangle)]
 pub extern "C" fn ufmt_unsigned(buffer: &mut [u8], number: u64, detail: &mut usize) -> isize

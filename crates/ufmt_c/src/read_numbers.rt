@@ -17,6 +17,8 @@ use ufmt_parse_leaves::integers::parse_integer;
 use ufmt_parser::mode::PlainText;
 use ufmt_parser::parser::{Fault, Parser};
 
+// Promise (programs): A number that C reads, whole or a float, has the text that was passed. `no_text` means
+// that no number has it. Also: `ufmt_parse_signed`, `ufmt_parse_float`.
 /// Reads the number of which `ufmt_unsigned` writes this input, and returns 0. Returns `NO_TEXT` only if
 /// there is none, and leaves `number`. Then, after a number that a text follows as in a value's text,
 /// `detail` becomes where the number ends.

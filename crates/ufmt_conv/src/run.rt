@@ -20,6 +20,9 @@ use std::io::{Read, Write};
 pub use ufmt_io::{Failed, Watched};
 use ufmt_io::{read_to_end, write_whole};
 
+// Promise (programs): `run` of `ufmt_conv` writes the output and a line feed. If writing fails, it has written
+// a prefix, and for any other fault nothing. `NotPlain`, `NotPretty`, `CannotRead` and `CannotWrite` mean what
+// they say. Also: `line_lengths`.
 /// Reads the input to its end, and writes the command's output and a line feed.
 ///
 /// On `CannotWrite` a prefix of these bytes was written, perhaps nothing, perhaps all. On any other

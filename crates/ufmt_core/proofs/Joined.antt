@@ -1,9 +1,9 @@
 -- Documents in a row are laid out one after the other.
-use Rattle.std.proofs.Common.{List, [], ◌∷◌, ◌++◌, Bool, true, false, append-nil, refl, sym, ℕ}
+use Rattle.std.proofs.Common.{[], ◌∷◌, ◌++◌, Bool, true, false, append-nil, refl, sym}
 use Rattle.ufmt_core.specs.Document.{Document, documents, joined, leaf}
 use Rattle.ufmt_core.specs.Layout.{layout}
 use Rattle.ufmt_core.specs.Writes.{Seen}
-use Rattle.ufmt_core.specs.Formatter.{Formatter, LaysOut, Prints, lays_out, prints_layout, writer_of}
+use Rattle.ufmt_core.specs.Formatter.{Formatter, LaysOut, lays_out, prints_layout, writer_of}
 use Rattle.ufmt_core.proofs.Writing.{Prints-fails, Prints-same, Prints-then_at, Writes-nothing}
 
 module _ {W : Type 0} {seen : Seen W} where

@@ -87,14 +87,18 @@ abbrev pub trail : Mode → List ℕ
 trail Plain = []
 trail Pretty = codes ",\n"
 
+-- the space between a bracket and the entries, which only a plain struct has
+abbrev pub inner_space : Mode → Kind → List ℕ
+inner_space mode Brackets = []
+inner_space mode Braces = []
+inner_space mode Struct = brace_space mode
+inner_space mode Tuple = []
+inner_space mode Unnamed = []
+
 -- the end of the text before a first entry, without the indentation: a line feed, or the space inside a struct's brace
 abbrev pub first_gap : Mode → Kind → List ℕ
 first_gap Pretty kind = line_feed ∷ []
-first_gap Plain Brackets = []
-first_gap Plain Braces = []
-first_gap Plain Struct = codes " "
-first_gap Plain Tuple = []
-first_gap Plain Unnamed = []
+first_gap Plain kind = inner_space Plain kind
 
 -- the same of an entry after this count of others
 abbrev pub gap : Mode → Kind → Count → List ℕ

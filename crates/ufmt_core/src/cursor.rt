@@ -45,7 +45,7 @@ impl<'a> Cursor<'a> {
     }
 }
 
-/// Fails with `Full` exactly if a piece has more bytes than remain, and then changes nothing.
+/// Fails with `Full` when a piece has more bytes than remain, and then changes nothing.
 impl uWrite for Cursor<'_> {
     ghost use Rattle.ufmt_core.specs.Cursor.{cursor_seen, Fills};
 
@@ -63,7 +63,7 @@ impl uWrite for Cursor<'_> {
         if end > self.buffer.len() {
             return Err(Full);
         }
-        // Before the piece is copied: so nothing is kept for after a call.
+        // Before the piece is copied, so that no value has to outlive a call.
         self.count = end;
         put(s.as_bytes(), self.buffer, start);
         Ok(())
@@ -122,8 +122,8 @@ fn copy_longer(bytes: &[u8], target: &mut [u8])
     let mut start = bytes.len() - 16;
     copy_chunk(bytes, target, start);
     while start > 16 {
-        // To a multiple of 16, and not by 16: LLVM would see how often the loop runs, and unroll it into
-        // three times as many bytes of code.
+        // Down to a multiple of 16. If each turn took 16 off, LLVM would see how often the loop runs, and unroll it
+        // into three times as many bytes of code.
         start = (start - 1) / 16 * 16;
         copy_chunk(bytes, target, start);
     }
@@ -142,7 +142,7 @@ fn copy_chunk(bytes: &[u8], target: &mut [u8], start: usize)
     copy_whole::<16>(&bytes[start..start + 16], &mut target[start..start + 16]);
 }
 
-// Copies N bytes. For any number the check finds the proof, and for 16 it doesn't.
+// Copies N bytes. `N` is always 16, but the check finds a proof only for any `N`.
 #[inline(always)]
 fn copy_whole<const N: usize>(bytes: &[u8], target: &mut [u8])
     requires source { length bytes.now ≡ N }

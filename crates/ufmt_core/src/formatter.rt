@@ -53,6 +53,8 @@ impl<W: uWrite> Formatter<W> {
         self.writer
     }
 
+    // Promise (printing): After an error the writer is in a state that its own `failed` allows. Also:
+    // `Formatter::write_char`.
     /// Writes the text as one piece. On `Err` a prefix of it was written.
     #[inline(always)]
     pub fn write_str(&mut self, s: &str) -> Result<(), W::Error>
@@ -70,6 +72,8 @@ impl<W: uWrite> Formatter<W> {
         self.writer.write_char(c)
     }
 
+    // Promise (printing): `pretty` runs its closure in pretty mode, and then brings back the mode and the
+    // depth.
     /// Runs `f` once in pretty mode, and returns its result. Mode and depth are then as before,
     /// whatever `f` left. The writer is as `f` left it, which may put another in its place.
     pub fn pretty<F: FnOnce(&mut Formatter<W>) -> Result<(), W::Error>>(

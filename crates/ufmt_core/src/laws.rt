@@ -45,6 +45,11 @@ use std::ops::{
 use std::rc::{Rc, RcSlice, RcStr, Weak};
 use std::sync::{Arc, ArcSlice, ArcStr};
 
+// Promise (printing): Each type of std has the document that [GUIDE.md](GUIDE.md#what-to-write-for-a-field)
+// shows. Also: `laws::documents_of_texts`, `laws::documents_of_collections`,
+// `laws::documents_of_sorted_collections`, `laws::documents_of_shared_values`,
+// `laws::documents_of_unsorted_collections`, `laws::documents_of_ranges`, `laws::documents_of_wrappers`,
+// `laws::documents_of_cell_values`, `laws::references_print_what_they_refer_to`.
 /// The document of a number is the leaf of its decimal text, also of a nonzero number. The document of
 /// a truth value, of `()` and of `None` is the leaf of its name.
 pub fn documents_of_leaves<T: uDebug>()
@@ -224,6 +229,7 @@ pub fn documents_of_cell_values<T: uDebug>()
         named_struct "RefCell" (("value", named "<borrowed>") ∷ []) }
 {}
 
+// Promise (printing): A block is its name, its opening, its entries and its ending, all from one table.
 /// The layout of a block is its name and opening, its entries in a row, and its ending, in each mode and
 /// at each depth. The ending of a struct may be dots. The calls of its builder write these texts.
 pub fn blocks_are_their_parts()

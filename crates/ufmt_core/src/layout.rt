@@ -1,14 +1,16 @@
 //! How documents are laid out: the two modes, and the text around the entries of each kind of block.
-//! An entry is its lead, its text and its trail. Formatters take these from here, and the scanner the
-//! text that begins a block.
+//! An entry is its lead, its text and its trail. Formatters and the scanner take these texts from here.
 ghost use Rattle.std.specs.Prelude.{◌≡◌, ◌++◌, ℕ};
-ghost use Rattle.ufmt_core.specs.Layout.{frame, gap, indentation, inside, lead, line_start, setting, new_line, next, later_lead, trail, tuple_kind, Mode};
+ghost use Rattle.ufmt_core.specs.Layout.{frame, gap, indentation, inner_space, inside, lead, line_start, setting, new_line, next, later_lead, trail, tuple_kind, Mode, Pretty, Several};
 
 /// Opens a list.
 pub const OPENING_BRACKET: &str = "[";
 
 /// Opens a set or a map.
 pub const OPENING_BRACE: &str = "{";
+
+/// Comes after the name of a struct that shows none of its fields.
+pub const ONLY_DOTS: &str = " { .. }";
 
 /// Comes between a key or a field's name and its value.
 pub const COLON: &str = ": ";
@@ -77,6 +79,42 @@ impl Kind {
         }
     }
 
+    /// The bracket before the entries. A struct has a space before its bracket.
+    #[inline(always)]
+    pub fn opening_bracket(self) -> &'static str
+        ensures { result.now ≡ (frame Pretty self).opening ++ (frame Pretty self).start }
+    {
+        match self {
+            Kind::Brackets => OPENING_BRACKET,
+            Kind::Braces => OPENING_BRACE,
+            Kind::Struct => " {",
+            Kind::Tuple | Kind::Unnamed => "(",
+        }
+    }
+
+    /// The bracket after the entries.
+    #[inline(always)]
+    pub fn closing_bracket(self) -> &'static str
+        ensures { result.now ≡ (frame Pretty self).closing Several }
+    {
+        match self {
+            Kind::Brackets => "]",
+            Kind::Braces | Kind::Struct => "}",
+            Kind::Tuple | Kind::Unnamed => ")",
+        }
+    }
+
+    /// The space between a bracket and the entries, which only a plain struct has.
+    #[inline(always)]
+    fn inner_space(self, mode: Mode) -> &'static str
+        ensures { result.now ≡ inner_space mode self }
+    {
+        match (self, mode) {
+            (Kind::Struct, Mode::Plain) => " ",
+            _ => "",
+        }
+    }
+
     /// The text after a block's name, with entries or without. The bracket of a struct or a tuple comes
     /// with its first entry.
     #[inline(always)]
@@ -84,9 +122,19 @@ impl Kind {
         ensures { (mode : Mode) → result.now ≡ (frame mode self).opening }
     {
         match self {
-            Kind::Brackets => OPENING_BRACKET,
-            Kind::Braces => OPENING_BRACE,
+            Kind::Brackets | Kind::Braces => self.opening_bracket(),
             Kind::Struct | Kind::Tuple | Kind::Unnamed => "",
+        }
+    }
+
+    /// The bracket in the lead of the first entry. It is empty where `opening` has the bracket.
+    #[inline(always)]
+    fn lead_bracket(self) -> &'static str
+        ensures { result.now ≡ (frame Pretty self).start }
+    {
+        match self {
+            Kind::Brackets | Kind::Braces => "",
+            Kind::Struct | Kind::Tuple | Kind::Unnamed => self.opening_bracket(),
         }
     }
 
@@ -96,11 +144,13 @@ impl Kind {
     pub fn start(self, mode: Mode) -> (&'static str, &'static str)
         ensures { result.0.now ++ result.1.now ≡ (frame mode self).start }
     {
+        // One match of both, so that the scanner knows how long each text is. With `self.lead_bracket()` and
+        // `self.inner_space(mode)` each start of a struct costs it 60 steps more.
         match (self, mode) {
             (Kind::Brackets | Kind::Braces, _) => ("", ""),
-            (Kind::Struct, Mode::Plain) => (" {", " "),
-            (Kind::Struct, Mode::Pretty) => (" {", ""),
-            (Kind::Tuple | Kind::Unnamed, _) => ("(", ""),
+            (Kind::Struct, Mode::Plain) => (Kind::Struct.opening_bracket(), " "),
+            (Kind::Struct, Mode::Pretty) => (Kind::Struct.opening_bracket(), ""),
+            (Kind::Tuple | Kind::Unnamed, _) => (Kind::Tuple.opening_bracket(), ""),
         }
     }
 
@@ -112,11 +162,7 @@ impl Kind {
             ≡ lead (frame mode self) (setting mode k) count }
     {
         match count {
-            Count::Zero => match self {
-                Kind::Brackets | Kind::Braces => "",
-                Kind::Struct => " {",
-                Kind::Tuple | Kind::Unnamed => "(",
-            },
+            Count::Zero => self.lead_bracket(),
             Count::One | Count::Several => mode.later_lead(),
         }
     }
@@ -127,11 +173,10 @@ impl Kind {
     pub(crate) fn gap(self, mode: Mode, count: Count) -> &'static str
         ensures { result.now ≡ gap mode self count }
     {
-        match (count, mode, self) {
-            (Count::One | Count::Several, _, _) => "",
-            (Count::Zero, Mode::Pretty, _) => "\n",
-            (Count::Zero, Mode::Plain, Kind::Struct) => " ",
-            (Count::Zero, Mode::Plain, _) => "",
+        match (count, mode) {
+            (Count::One | Count::Several, _) => "",
+            (Count::Zero, Mode::Pretty) => "\n",
+            (Count::Zero, Mode::Plain) => self.inner_space(mode),
         }
     }
 
@@ -142,13 +187,9 @@ impl Kind {
         ensures { result.0.now ++ result.1.now ≡ (frame mode self).closing count }
     {
         match (self, mode, count) {
-            (Kind::Brackets, _, _) => ("", "]"),
-            (Kind::Braces, _, _) => ("", "}"),
             (Kind::Struct | Kind::Tuple | Kind::Unnamed, _, Count::Zero) => ("", ""),
-            (Kind::Struct, Mode::Plain, _) => (" ", "}"),
-            (Kind::Struct, Mode::Pretty, _) => ("", "}"),
-            (Kind::Unnamed, Mode::Plain, Count::One) => (",", ")"),
-            (Kind::Tuple | Kind::Unnamed, _, _) => ("", ")"),
+            (Kind::Unnamed, Mode::Plain, Count::One) => (",", self.closing_bracket()),
+            _ => (self.inner_space(mode), self.closing_bracket()),
         }
     }
 }

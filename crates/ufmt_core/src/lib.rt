@@ -39,6 +39,11 @@ pub trait uDebug {
     /// The document whose layout is the value's text.
     ghost document: { Self → Document };
 
+    // Promise (printing): A call that prints leaves the formatter's mode and depth, and the `identity` of its
+    // writer, as they were. Also: `ufmt::uDisplay::fmt`.
+    // Promise (headline): Part 3: `fmt` appends the layout of the value's document, in either mode and from
+    // any depth, to a writer whose text is known. If it returns `Err`, it has appended a prefix. Also:
+    // `ufmt::uDisplay::fmt`.
     /// Appends the layout of the value's document in the formatter's mode and from its depth. On
     /// `Err` a prefix of the layout was appended. Mode, depth and the writer's identity are as before.
     fn fmt<W>(&self, f: &mut Formatter<W>) -> Result<(), W::Error>

@@ -1,4 +1,4 @@
-//! The builder of lists, and the calls that it shares with that of sets.
+//! The builder of lists, and the calls that lists and sets share.
 ghost use Rattle.std.specs.Prelude.{List, codes, is_ok, map, true, IfOk, OnOk};
 ghost use Rattle.std.specs.Borrow.{sem};
 ghost use Rattle.std.specs.Iterator.{AlwaysYields, IsFiniteIterable};
@@ -60,6 +60,9 @@ impl<W: uWrite> Formatter<W> {
 }
 
 impl<W: uWrite, K: BlockKind + Items> Builder<'_, W, K> {
+    // Promise (printing): A builder call that fails or finishes closes the builder, and brings back mode and
+    // depth. Other calls leave it open, or lend the formatter. Also: `DebugMap::entry`, `DebugStruct::field`,
+    // `DebugTuple::field`, `Builder::finish`.
     /// Writes one entry. On `Err` a prefix of it was written, and the builder is closed.
     #[inline(always)]
     pub fn entry<D: uDebug>(&mut self, entry: &D) -> Result<(), W::Error>
@@ -72,6 +75,7 @@ impl<W: uWrite, K: BlockKind + Items> Builder<'_, W, K> {
         self.end(outcome)
     }
 
+    // Promise (printing): `entries` writes what `entry` writes of each item. Also: `DebugMap::entries`.
     /// Writes an entry for each item, in order, and takes no item after a failure.
     #[inline(always)]
     pub fn entries<D: uDebug + Drop, I: IntoIterator<Item = D>>(
@@ -120,7 +124,7 @@ impl<W: uWrite, K: BlockKind + Items> Builder<'_, W, K> {
     }
 }
 
-/// Writes the items as a list, for `fmt` of the standard library's lists that are no slice.
+/// Writes the items as a list, for `fmt` of the standard library's lists other than slices.
 pub(crate) fn fmt_list<D: uDebug + Drop, I: IntoIterator<Item = D> + Drop, W: uWrite>(
     items: I,
     f: &mut Formatter<W>,

@@ -77,7 +77,8 @@ fn decimal_text<S: Signed, const N: usize>(z: S, buffer: &mut [u8; N]) -> &str
 }
 
 // Writes the decimal text of `z` at the end of `buffer`, and returns the index of its first byte. There must be
-// room for a sign, which is written before each number: a jump would take more.
+// room for a sign, which is written before each number, and left out of the text of one that isn't negative: a jump
+// would cost more.
 #[inline(always)]
 fn write_decimal<S: Signed>(z: S, buffer: &mut [u8]) -> usize
     requires { length (decimal (pos (nat_abs (S.value z)))) < length buffer.old }
@@ -90,8 +91,8 @@ fn write_decimal<S: Signed>(z: S, buffer: &mut [u8]) -> usize
     digits - usize::from(z.is_negative())
 }
 
-// Writes a number of one digit or two before `end`, and returns the index of the first. There is a byte before it,
-// where a zero is written before one digit: later the sign is there.
+// Writes a number of one digit or two before `end`, and returns the index of the first. There is room
+// for the sign before it, where the zero before a single digit is written first.
 #[inline(always)]
 fn write_first_after_sign(n: u32, buffer: &mut [u8], end: usize) -> usize
     requires two_digits { n < 100 }

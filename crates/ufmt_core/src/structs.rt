@@ -57,7 +57,7 @@ impl<W: uWrite> Formatter<W> {
 impl<W: uWrite> DebugStruct<'_, W> {
     /// Writes one field, `name: value`. On `Err` a prefix of it was written, and the builder is
     /// closed.
-    // Out of line: each type of a field has one copy of it, not each field.
+    // Out of line: fields of the same type share one copy.
     #[inline(never)]
     pub fn field<D: uDebug>(&mut self, name: &str, value: &D) -> Result<(), W::Error>
         requires { IsOpen (struct_view self.old) }

@@ -63,7 +63,7 @@ impl<W: uWrite> Formatter<W> {
 
 impl<W: uWrite> DebugTuple<'_, W> {
     /// Writes one field. On `Err` a prefix of it was written, and the builder is closed.
-    // Out of line, as that of a struct.
+    // Out of line, as a struct's `field` is.
     #[inline(never)]
     pub fn field<D: uDebug>(&mut self, value: &D) -> Result<(), W::Error>
         requires { IsOpen (tuple_view self.old) }
@@ -78,7 +78,7 @@ impl<W: uWrite> DebugTuple<'_, W> {
 
     /// Writes the text before a field, and lends the formatter for it. On `Err` the builder is
     /// closed.
-    // Out of line, as that of a struct.
+    // Out of line, as a struct's `field` is.
     #[inline(never)]
     pub fn begin_field(&mut self) -> Result<&mut Formatter<W>, W::Error>
         requires { IsOpen (tuple_view self.old) }

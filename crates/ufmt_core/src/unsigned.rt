@@ -1,5 +1,5 @@
 //! Decimal texts of unsigned numbers.
-ghost use Rattle.std.specs.Prelude.{◌≡◌, ◌+◌, ◌-◌, ◌++◌, ◌/◌, ◌%◌, ◌^◌, ◌<◌, ◌≤◌, ℕ, pos, length, drop, IsAscii};
+ghost use Rattle.std.specs.Prelude.{◌≡◌, ◌+◌, ◌++◌, ◌/◌, ◌%◌, ◌^◌, ◌<◌, ◌≤◌, ℕ, pos, length, drop, IsAscii};
 ghost use Rattle.ufmt_core.specs.Document.{leaf};
 ghost use Rattle.ufmt_core.specs.Decimal.{decimal, decimal_byte, last_digits, EachNumberIsDenoted, OneTextDenotes, OneNumberIsDenoted};
 
@@ -8,6 +8,8 @@ use crate::formatter::Formatter;
 use crate::uDebug;
 use crate::write::uWrite;
 
+// Promise (printing): The decimal digits of a whole number denote it and have no leading zeros, and no two
+// numbers share them.
 /// Each whole number has exactly one decimal text, and each decimal text denotes exactly one number.
 pub fn decimal_is_one_text()
     ensures denoted { EachNumberIsDenoted }
@@ -166,8 +168,8 @@ fn decimal_text<M: Magnitude, const N: usize>(n: M, buffer: &mut [u8; N]) -> &st
     end_of(buffer, start)
 }
 
-// Writes a number of one digit or two before `end`, and returns the index of the first. A digit that is alone is
-// written over the zero before it: a jump would take more.
+// Writes a number of one digit or two before `end`, and returns the index of the first. A single
+// digit is written over the zero that stands for its tens: a jump would cost more.
 #[inline(always)]
 fn write_first(n: u32, buffer: &mut [u8], end: usize) -> usize
     requires two_digits { n < 100 }
@@ -195,8 +197,9 @@ fn first_index(n: u32, end: usize) -> usize
     if n < 10 { end - 1 } else { end - 2 }
 }
 
-/// Returns the end of `buffer`, from `start` on, as a text. LLVM doesn't see that the text is no longer than the buffer,
-/// and would keep the code that copies longer texts. The remainder by a power of two tells it.
+/// `text_from` of a buffer that is shorter than 64 bytes.
+// LLVM doesn't see that the text is no longer than the buffer, and would keep the code that copies longer texts. The
+// remainder by a power of two tells it.
 #[inline(always)]
 pub(crate) fn end_of<const N: usize>(buffer: &[u8; N], start: usize) -> &str
     requires few { N < 64 }

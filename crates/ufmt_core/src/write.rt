@@ -17,6 +17,8 @@ pub trait uWrite {
     /// surely takes, what holds after a failure, its identity, and the bytes that it writes over.
     ghost seen: { Seen Self };
 
+    // Promise (printing): A call succeeds if its text fits the room that the writer has left, and it uses no
+    // more of that room than the text needs. Also: `uWrite::write_char`.
     /// Writes `s` as one piece.
     fn write_str(&mut self, s: &str) -> Result<(), Self::Error>
         ensures { Writes seen self.old s.now (is_ok result) self.new };

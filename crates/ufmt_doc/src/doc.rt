@@ -44,6 +44,9 @@ pub type Doc = Tree<String>;
 pub type DebugDoc = Tree<DebugName>;
 
 impl<N: StructName> Tree<N> {
+    // Promise (reading): A struct that ends in `..` is not a token document. It is a debug document if and
+    // only if it is one without the dots, and its normal form keeps them. Also: `Tree::is_debug`,
+    // `Tree::normalize`.
     /// Returns whether it is a token document. `read_plain` and `read_pretty` take the texts of these.
     pub fn is_token(&self) -> bool
         ensures { IsTrue result ↔ IsTokenDocument (tree_document N.shown self.now) }
@@ -59,6 +62,10 @@ impl<N: StructName> Tree<N> {
         self.is_within(Class::Debug, u8::MAX)
     }
 
+    // Promise (reading): The calls of a `Doc` and of a `DebugDoc` return what their names say of its document:
+    // `is_token`, `is_debug`, `normalize`, its parts, `text`, `character`, `unquoted`. Also: `Tree::as_leaf`,
+    // `Tree::name`, `Tree::entries`, `Tree::pairs`, `Tree::fields`, `Tree::field`, `Tree::text`,
+    // `Tree::character`, `Tree::unquoted`.
     /// Changes it to its normal form, which has the same texts. At each depth, a struct or a tuple
     /// without fields becomes the leaf of its name, and an empty set becomes an empty map. A struct that
     /// ends in `..` stays one, also without fields. Takes no memory: `alloc` is only for empty vectors and

@@ -41,6 +41,9 @@ impl<N: StructName> Tree<N> {
     }
 }
 
+// Promise (reading): The text of a field is its leaf, or what the leaf's quotes hold. It is `None` if the
+// field is missing or a block, or if the line isn't a text. Clauses: `found`, `each`. Also:
+// `Tree::field_text`, `Tree::leaf_text`.
 /// Returns the text of a field of the struct that was printed to a line, as `Doc::field_text` does. Fails
 /// with `NotText` only if no token document has this plain text; the other error is `OutOfMemory`.
 pub fn read_field(alloc: Global, line: &[u8], name: &str) -> Result<Option<String>, ReadError>

@@ -15,6 +15,9 @@ use ufmt::{plain_text, pretty_text};
 use ufmt_scan::convert::{convert, other_mode};
 use ufmt_scan::error::ReadError;
 
+// Promise (reading): What is written and read again, or converted there and back, is the same, and the
+// document or the text in between is returned too. A document comes back as its normal form. Also:
+// `laws::text_by_way_of_the_other`, `laws::normal_by_way_of_text`.
 /// Reads a text of a document of the class, and prints the document in the same mode. Returns the document
 /// and its text, which is the input. Fails with `NotText` if no document of the class has the text, and
 /// otherwise only with `OutOfMemory`.
@@ -60,6 +63,8 @@ pub fn text_by_way_of_the_other(
     Ok((other, again))
 }
 
+// Promise (headline): Parts 1 and 2 together: reading what a document of the class prints returns its normal
+// form.
 /// Prints a document, and reads the text. This gives the normal form of a document of the class. Fails
 /// with `NotText` if no document of the class has the text, and otherwise only with `OutOfMemory`.
 pub fn normal_by_way_of_text<N: StructName>(

@@ -20,6 +20,10 @@ use ufmt::layout::Mode;
 use ufmt_scan::error::ReadError;
 use ufmt_scan::scan::scan;
 
+// Promise (headline): Part 2: a reader accepts only the texts of its class, and returns the normal form.
+// Clauses: `ok`. Also: `read_pretty`, `read_debug`.
+// Promise (headline): Part 2: a reader accepts every text of its class. Clauses: `not_text`. Also:
+// `read_pretty`, `read_debug`.
 /// Returns the document with this plain text, in normal form: empty braces are an empty map, and a
 /// name without a block is a leaf. Fails with `NotText` only if no token document has this text;
 /// the other error is `OutOfMemory`.

@@ -1,6 +1,5 @@
 //! Texts of floats with a number of decimals.
-ghost use Rattle.std.specs.Prelude.{◌≡◌, ◌++◌, ◌*◌, ◌/◌, ◌^◌, ◌<◌, ◌≤◌, ◌⊎◌, [], List, ℕ, IsAscii, IfSome, codes, length, drop, replicate, if◌then◌else◌};
-ghost use Rattle.core.specs.Fmt.{sign_text};
+ghost use Rattle.std.specs.Prelude.{◌≡◌, ◌++◌, ◌*◌, ◌^◌, ◌<◌, ◌≤◌, ◌⊎◌, [], List, ℕ, IsAscii, IfSome, codes, length, drop, replicate, if◌then◌else◌};
 ghost use Rattle.ufmt_float.specs.Put.{IsPut};
 ghost use Rattle.ufmt_fixed.specs.Nearest.{nearest};
 ghost use Rattle.ufmt_fixed.specs.Text.{fixed_digits, fixed_text};
@@ -11,7 +10,7 @@ use crate::rounding::{is_below_half, long_digits, short_digits};
 use std::marker::Model;
 use ufmt_float::Float;
 
-/// A text of a float below 2 ^ 53, or a little more, with few decimals.
+/// A text of a float below 2 ^ 63 with at most 19 decimals, whose digits together are a word.
 #[derive(Drop)]
 pub struct ShortText {
     bytes: [u8; 48],
@@ -78,6 +77,9 @@ impl Model for LongText {
 }
 
 impl LongText {
+    // Promise (floats): With `n` decimals a float prints its exact value rounded to `n` places, ties to even,
+    // with its sign, and a point before the `n` digits. Also: `ShortText::of`, `laws::nearest_is_closest`,
+    // `ufmt::laws::floats::uwrite_decimals`, `ufmt::laws::floats::line_of_decimals`.
     /// Returns the text of `x` with so many decimals.
     pub fn of<F: Float>(x: F, decimals: usize) -> LongText
         ensures { result ≡ fixed_text decimals (F.value x) }
@@ -101,7 +103,8 @@ impl LongText {
     }
 }
 
-/// Writes a float at the end of the buffer, without some of the zeros at its end. Returns where it starts, and how many zeros are left out.
+/// Writes a float at the end of the buffer, without some of its last zeros. Returns where the text starts, and how many
+/// zeros are left out.
 fn put_float<F: Float>(buffer: &mut [u8], x: F, decimals: usize) -> (usize, usize)
     requires { length buffer.old ≡ 1385 }
     ensures text { drop result.0 buffer.new ++ replicate result.1 48 ≡ fixed_text decimals (F.value x) }
@@ -138,8 +141,7 @@ fn put_word(buffer: &mut [u8], word: [u8; 3]) -> usize
     put_byte(buffer, end, first)
 }
 
-/// Writes `significand * 2 ^ twos / 2 ^ halves` at the end of the buffer, without some of the zeros at its end. Returns where it starts, and how many zeros are left
-/// out.
+/// Writes `significand * 2 ^ twos / 2 ^ halves` as `put_float` does.
 fn put_finite(
     buffer: &mut [u8],
     significand: u64,

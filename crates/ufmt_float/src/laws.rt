@@ -7,6 +7,8 @@ pub fn float_texts_are_parsed()
     ensures one_float { NoTwoFloatsHaveOneText }
 {}
 
+// Promise (floats): Each float has exactly one text by each trait, and Rust's `parse` reads it. So no two
+// floats of a format share a text. Also: `laws::float_texts_are_parsed`.
 /// Each float has a text, and only one.
 pub fn floats_have_one_text()
     ensures text { EachFloatHasAText }

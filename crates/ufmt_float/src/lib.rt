@@ -9,7 +9,9 @@ mod limbs;
 mod narrow;
 mod parts;
 mod powers;
+mod put;
 mod ratio;
+mod scale;
 mod text;
 mod wide;
 

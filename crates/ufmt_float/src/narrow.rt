@@ -6,6 +6,7 @@ ghost use Rattle.ufmt_float.specs.Shortest.{IsStripped};
 
 use crate::digits::Decimal;
 use crate::powers::five_to;
+use crate::scale::{EXPONENT_BIAS, POWER_BIAS};
 
 /// A float as `whole + rest / bottom`, where `top / bottom` is its unit. What is left after the division is small, so comparisons
 /// with it take words only.
@@ -32,8 +33,8 @@ impl Division {
         ensures rest { result.rest < result.bottom }
         ensures few { result.whole < 2 ^ 57 }
     {
-        let halves = 674 + power - exponent;
-        let top = five_to(400 - power);
+        let halves = EXPONENT_BIAS - POWER_BIAS + power - exponent;
+        let top = five_to(POWER_BIAS - power);
         let bottom = 1 << halves;
         let n = m as u128 * top as u128;
         Division {
@@ -99,6 +100,12 @@ impl Division {
         }
     }
 }
+
+// The exponents that take words only, as proofs/Scales.antt computes of each: the unit over the power of ten is a power of five below
+// 2 ^ 64 over a power of two up to 2 ^ 58. The least float of them is about 1e-9, the largest 1e15.
+pub(crate) const LEAST_EXPONENT: u64 = 991;
+
+pub(crate) const GREATEST_EXPONENT: u64 = 1073;
 
 /// Returns the digits that are chosen at `power`. A zero at their end is moved to the power.
 #[inline(always)]

@@ -1,5 +1,6 @@
 pub mod BlocksComplete
 pub mod BlocksSound
+pub mod ByteClasses
 pub mod CharactersClose
 pub mod ClassLeaves
 pub mod ClassLines

@@ -1,3 +1,4 @@
+pub mod Bytes
 pub mod FloatLaws
 pub mod Leaves
 pub mod NormalFormLaws

@@ -101,6 +101,9 @@ impl<D> Watched<D> {
 }
 
 impl<D: Read> Watched<D> {
+    // Promise (programs): A watched device returns what its one noted call returned. It fails if and only if
+    // that call failed, or wrote nothing although there were bytes to write. It counts as failed from its
+    // first failure on, and keeps that error. Also: `Watched::write_some`, `Watched::flush_all`.
     /// Reads once, and returns the device's result. On `Failed` nothing was read.
     pub fn read_some(&mut self, buffer: &mut [u8]) -> Result<usize, Failed>
         ensures bound { ReadsAtMost result buffer.new }

@@ -12,6 +12,8 @@ use std::io::{Read, Write};
 // By how many bytes a full vector grows for the next reads.
 const ROOM: usize = 64 * 1024;
 
+// Promise (programs): `read_to_end` returns all that is left, and `write_whole` writes everything. A failed
+// `write_whole` has written a prefix. Also: `write_whole`.
 /// Returns all bytes that are left of the input. A reader that never ends leads to `OutOfMemory`.
 #[tactic(auto, using(crate::proofs::KnownParts::consumes_longer_front))]
 pub fn read_to_end<R: Read>(alloc: Global, input: &mut Watched<R>) -> Result<Vec<u8>, IoFault>

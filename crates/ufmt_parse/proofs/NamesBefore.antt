@@ -6,13 +6,13 @@ use Rattle.std.proofs.lemmas.List.{append_cancel_right, length-append, length-dr
 use Rattle.std.specs.Cmp.Lexicographic.{other_text, pointwise, same_text}
 use Rattle.std.specs.Result.{result_ok}
 use Rattle.std.proofs.Math.Seq.{drop-append_seam, get_or-append_seam}
-use Rattle.ufmt_parse.specs.NamesBefore.{EndsWithName, IsNameBefore, is_name_byte}
+use Rattle.ufmt_parse.specs.NamesBefore.{EndsWithName, IsNameBefore, is_identifier_byte}
 
 -- the longest run of bytes of a name that ends the text begins here
 pub record IsNameStart (text : List ℕ) (start : ℕ) : Type 0 where
   pub within : start ≤ length text
-  pub run : (k : ℕ) → start ≤ k → k < length text → is_name_byte (get_or text k 0) ≡ true
-  pub longest : 0 < start → is_name_byte (get_or text (start - 1) 0) ≡ false
+  pub run : (k : ℕ) → start ≤ k → k < length text → is_identifier_byte (get_or text k 0) ≡ true
+  pub longest : 0 < start → is_identifier_byte (get_or text (start - 1) 0) ≡ false
 
 -- a list that isn't empty ends with its last item
 ends_in : (text : List ℕ) → 0 < length text → text ≡ take (length text - 1) text ++ get_or text (length text - 1) 0 ∷ []
@@ -63,7 +63,7 @@ module _ (front : List ℕ) (start : ℕ) (begins : IsNameStart front start) whe
         let read : get_or front (start - 1) 0 ≡ c =
         sym (get_or-take start front (start - 1) 0 (omega (arith, count))) ∙ ap (λ t. get_or t (start - 1) 0) is
         ∙ ap (λ n. get_or (others ++ c ∷ []) n 0) last ∙ get_or-append_seam others c [] 0 in
-        sym (ap is_name_byte read) ∙ begins.longest (omega (arith, count));
+        sym (ap is_identifier_byte read) ∙ begins.longest (omega (arith, count));
     utf8 = utf8;
   }
 

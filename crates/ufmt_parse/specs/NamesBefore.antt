@@ -5,17 +5,17 @@ use Rattle.std.specs.List.{AllPass}
 use Rattle.ufmt_core.specs.Bytes.{underscore}
 use Rattle.ufmt_core.specs.Document.{Document, documents, joined, leaf}
 
--- a byte of a name: an ASCII letter, a digit, `_` or a byte of a character past ASCII
-abbrev pub is_name_byte : ℕ → Bool
-is_name_byte c = is_ascii_alphanumeric c || c == underscore || nat_le 128 c
+-- a byte that an identifier may have: an ASCII letter, a digit, `_` or a byte of a character past ASCII. Names of this page have only such bytes; names of debug documents may have others
+abbrev pub is_identifier_byte : ℕ → Bool
+is_identifier_byte c = is_ascii_alphanumeric c || c == underscore || nat_le 128 c
 
 -- the text ends with this name, a colon and a space. A name is UTF-8, isn't empty, and is as long as can be: the byte before it is none of a name
 pub record EndsWithName (text name : List ℕ) : Type 0 where
   pub front : List ℕ
   pub parts : text ≡ front ++ name ++ codes ": "
   pub not_empty : name ≢ []
-  pub bytes : AllPass is_name_byte name
-  pub longest : (others : List ℕ) (c : ℕ) → front ≡ others ++ c ∷ [] → is_name_byte c ≡ false
+  pub bytes : AllPass is_identifier_byte name
+  pub longest : (others : List ℕ) (c : ℕ) → front ≡ others ++ c ∷ [] → is_identifier_byte c ≡ false
   pub utf8 : IsUtf8 name
 
 -- the name with which the text before a place ends, if it ends with one

@@ -13,6 +13,9 @@ use std::ops::{Bound, ControlFlow, RangeFull};
 use ufmt::Decimal;
 use ufmt::cells::CellValue;
 
+// Promise (reading): Integers, nonzero integers, `bool`, floats, `Decimal`, `()`, `char`, `Ordering` and
+// `RangeFull` hold no memory. Options, results, tuples and wrappers hold none if their parts don't. Also:
+// `laws::wrappers_hold_no_memory`, `laws::of_tuples::tuples_hold_no_memory`.
 /// Integers, nonzero integers, floats, fixed-point numbers, truth values, `()`, characters, orderings and `..`
 /// hold no memory.
 pub fn leaves_hold_no_memory<A: Copy>()

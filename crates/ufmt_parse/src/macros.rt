@@ -1,4 +1,6 @@
 //! `parse_fields!` and `parse_variants!`: `parse_from` of a user's struct or enum.
+//!
+//! The other macros are hidden: these two expand to them in a user's crate, so they are exported too.
 
 /// Parses a struct or a tuple struct: the body of its `parse_from`.
 ///
@@ -54,6 +56,7 @@ macro_rules! parse_variants {
 
 /// The variant with the name that comes next.
 #[macro_export]
+#[doc(hidden)]
 macro_rules! parse_variant {
     ([$alloc:ident, $parser:ident, $name:ident]) => {{
         std::result::Result::Err($parser.refuse($crate::Need::Name))
@@ -106,6 +109,7 @@ macro_rules! parse_variant {
 
 /// Takes the name of a value that prints as its name alone.
 #[macro_export]
+#[doc(hidden)]
 macro_rules! parse_unit_call {
     ($parser:expr, $name:ident, $value:expr) => {
         match $crate::parse_unit($parser, stringify!($name)) {
@@ -117,6 +121,7 @@ macro_rules! parse_unit_call {
 
 /// The call for a struct with this number of fields.
 #[macro_export]
+#[doc(hidden)]
 macro_rules! parse_struct_call {
     ([$($field:tt)+] $($arguments:tt)*) => {
         $crate::parse_call!(
@@ -129,6 +134,7 @@ macro_rules! parse_struct_call {
 
 /// The call for a tuple struct with this number of fields.
 #[macro_export]
+#[doc(hidden)]
 macro_rules! parse_tuple_call {
     ([$($field:tt)+] $($arguments:tt)*) => {
         $crate::parse_call!(
@@ -141,6 +147,7 @@ macro_rules! parse_tuple_call {
 
 /// The parser of a field of a tuple struct, by its type.
 #[macro_export]
+#[doc(hidden)]
 macro_rules! by_type {
     ($field:tt) => {
         &$crate::ByType
@@ -150,6 +157,7 @@ macro_rules! by_type {
 /// The call for this number of fields: a field and a call are taken off both lists until one field is
 /// left.
 #[macro_export]
+#[doc(hidden)]
 macro_rules! parse_call {
     ([$last:tt] [$call:ident $($calls:ident)*] $($arguments:tt)*) => { $crate::$call($($arguments)*) };
     ([$field:tt $($fields:tt)+] [$call:ident $($calls:ident)*] $($arguments:tt)*) => {

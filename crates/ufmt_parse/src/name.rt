@@ -1,6 +1,6 @@
 //! The name before a byte of a text: of a field, or the key of an entry.
 ghost use Rattle.std.specs.Prelude.{◌≡◌, ◌<◌, ◌≤◌, ◌-◌, ℕ, false, length, option_map, slice_index, take, true};
-ghost use Rattle.ufmt_parse.specs.NamesBefore.{IsNameBefore, is_name_byte};
+ghost use Rattle.ufmt_parse.specs.NamesBefore.{IsNameBefore, is_identifier_byte};
 
 use std::str::from_utf8;
 
@@ -21,18 +21,18 @@ pub(crate) fn name_before(text: &[u8], at: usize) -> Option<&str>
 // Where the longest run of bytes of a name begins that ends the text.
 fn name_start(text: &[u8]) -> usize
     ensures within { result ≤ length text.now }
-    ensures run { (k : ℕ) → result ≤ k → k < length text.now → is_name_byte (slice_index text.now k) ≡ true }
-    ensures longest { 0 < result → is_name_byte (slice_index text.now (result - 1)) ≡ false }
+    ensures run { (k : ℕ) → result ≤ k → k < length text.now → is_identifier_byte (slice_index text.now k) ≡ true }
+    ensures longest { 0 < result → is_identifier_byte (slice_index text.now (result - 1)) ≡ false }
 {
     let mut start = text.len();
-    'bytes: while start > 0 && is_name_byte(text[start - 1]) {
+    'bytes: while start > 0 && is_identifier_byte(text[start - 1]) {
         start -= 1;
     }
     start
 }
 
-fn is_name_byte(byte: u8) -> bool
-    ensures { result ≡ is_name_byte byte }
+fn is_identifier_byte(byte: u8) -> bool
+    ensures { result ≡ is_identifier_byte byte }
 {
     byte.is_ascii_alphanumeric() || byte == b'_' || byte >= 0x80
 }

@@ -27,6 +27,8 @@ pub enum PlacedError<'a> {
 }
 
 impl ParseError {
+    // Promise (reading): `in_text` reports the longest name that is followed by `: ` right before the error,
+    // or `None` if there is no such name or it isn't UTF-8.
     /// Returns the error with its line and its column in the text that was parsed, and with the name before
     /// its place.
     pub fn in_text<'a>(self, text: &'a [u8]) -> PlacedError<'a>

@@ -30,6 +30,8 @@ pub fn round_trip<T: uParse<Global>>(alloc: Global, value: &T) -> Result<T, Pars
     }
 }
 
+// Promise (reading): A round trip in a buffer returns `None` if and only if the text doesn't fit. Clauses:
+// `fits`, `front`.
 /// Prints a value to the front of a buffer, as `debug_into` does, and parses it from there. The value
 /// comes back as from `round_trip`. Returns `None` if its text doesn't fit, and fails only if it does.
 /// A type that holds no memory needs no allocator: pass `()`.

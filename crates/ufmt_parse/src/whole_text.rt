@@ -13,6 +13,16 @@ use crate::uparse::uParse;
 use ufmt_parser::mode::{ParseMode, PlainText, PrettyText};
 use ufmt_parser::parser::{Fault, Parser};
 
+// Promise (reading): The place of an error that expects `End` is the end of a value's text. A leaf reports its
+// own beginning, also in a `Box` and other wrappers that print as what they hold. A list reports the place
+// after `[`, but an array doesn't. Clauses: `within`, `after_value`, `end`, `stops`. Also:
+// `whole_text::parse_pretty`, `line_and_column`, `ParseError::in_text`.
+// Promise (reading): Parsing undoes printing. A parsed value prints as the text, and has the normal form of
+// each debug document with that text. `NotText` means that no value, by `is_value`, has a debug document with
+// it. Clauses: `ok`, `form`, `debug`, `not_text`. Also: `whole_text::parse_pretty`, `round_trip`,
+// `round_trip_in`, `uParse::parse_from`.
+// Promise (reading): Parsing a type that says `holds_no_memory` never fails for want of memory. Clauses:
+// `memory`. Also: `whole_text::parse_pretty`, `round_trip_in`.
 /// Returns a value that prints as this plain text, and whose document is a debug document. Fails with `NotText`
 /// only if no such value prints so: after a whole value's text, `at` is where it ends, and the end is expected.
 /// The other error is `OutOfMemory`, which never comes for a type that holds no memory.

@@ -1,6 +1,7 @@
 -- Digits in the lanes of a vector: two in a lane twice as wide, and then their number in it.
 use Rattle.std.proofs.Common.{◌≡◌, refl, sym, ap, ◌∙◌, ℕ, zero, suc, ◌+◌, ◌-◌, ◌*◌, ◌/◌, ◌%◌, ◌^◌, ◌<◌, ◌≤◌, Bool, true, false, not, cond, eqb, ltb, List, [], ◌∷◌, map, length, arith, pow-suc, div-lt_iff_lt-mul, div-add-mod', eqb-true, ltb-false, Fits, w8}
 use Rattle.std.proofs.Math.Nat.{pow-zero}
+use Rattle.std.proofs.lemmas.Bool.{not-false, not-true}
 use Rattle.std.proofs.lemmas.List.{length-map}
 use Rattle.std.proofs.lemmas.Nat.{mul-add-lt}
 use Rattle.std.proofs.lemmas.Simd.{mask_l-mod, tops_compared, zip2_splat, zip2_splat_left}
@@ -90,11 +91,7 @@ mask_none p low (x ∷ xs) none = go (p x) refl (mask_none p low xs) none
     go false e rest h = (low x e, rest (omega arith))
 
 is_none : (n : ℕ) → not (not (eqb n 0)) ≡ true → n ≡ 0
-is_none n e = go (eqb n 0) refl e
-  where
-    go : (none : Bool) → eqb n 0 ≡ none → not (not none) ≡ true → n ≡ 0
-    go true same h = eqb-true n 0 same
-    go false same h = absurd (cc)
+is_none n e = eqb-true n 0 (not-false (eqb n 0) (not-true (not (eqb n 0)) e))
 
 -- where no lane is above 9
 pub none_above : (xs : List ℕ) → length xs ≡ 16

@@ -61,9 +61,12 @@ module _ {E : Type 0} (is : E → Type 0) (text_of : E → List ℕ) (mode : Mod
   abbrev pub after_opening : List E → List ℕ
   after_opening es = block_tail (frame mode kind) (setting_in mode (blocks - 1)) Zero (map text_of es)
 
-  -- these entries were taken, and what is left is one more and the rest of the block
-  abbrev pub TakenSoFar : List E → List ℕ → List ℕ → Type 0
-  TakenSoFar es here old = Reduces (AreEntries is) after_leads (AreSome is) after_opening (λ p. es ++ (p.0 ∷ p.1)) here old
+  -- in such a block these entries were taken, and what is left is one more and the rest of the block
+  pub record TakenSoFar (es : List E) (here old : List ℕ) : Type 0 where
+    pub bracketed : IsBracketed kind
+    pub some : 0 < blocks
+    pub most : blocks ≤ 255
+    pub reduces : Reduces (AreEntries is) after_leads (AreSome is) after_opening (λ p. es ++ (p.0 ∷ p.1)) here old
 
   module _ (bracketed : IsBracketed kind) (some : 0 < blocks) (most : blocks ≤ 255) where
     inside_is : inside (setting_in mode (blocks - 1)) ≡ setting_in mode blocks
@@ -119,36 +122,61 @@ module _ {E : Type 0} (is : E → Type 0) (text_of : E → List ℕ) (mode : Mod
       -- after that lead, nothing is taken yet
       pub none_so_far : old ≡ lead (frame mode kind) (setting_in mode blocks) Zero ++ here → TakenSoFar [] here old
       none_so_far lead_is = record {
-        holds = λ p are. All-cons is p.0 p.1 are.0 are.1;
-        builds = λ p u at. lead_is ∙ ap (λ t. lead (frame mode kind) (setting_in mode blocks) Zero ++ t) at ∙ sym (flat_opening p.0 p.1 u);
-        finds = λ es u are may same. first_found lead_is es u are same;
+        bracketed = bracketed;
+        some = some;
+        most = most;
+        reduces = record {
+          holds = λ p are. All-cons is p.0 p.1 are.0 are.1;
+          builds = λ p u at. lead_is ∙ ap (λ t. lead (frame mode kind) (setting_in mode blocks) Zero ++ t) at ∙ sym (flat_opening p.0 p.1 u);
+          finds = λ es u are may same. first_found lead_is es u are same;
+        };
       }
 
-      module _ (es : List E) (so_far : TakenSoFar es here old) where
-        -- the block is refused with its next entry
-        pub next_refused : {fault : Fault} {new further : List ℕ} → Takes is text_of here (Err fault) new → Takes (AreSome is) after_opening old (Err fault) further
-        next_refused {fault} {new} {further} takes =
-            reduced so_far {outcome = Err fault} {new = further} (entry_refused is text_of later_lead (trail mode) last_ending follows takes)
+module _ {E : Type 0} {is : E → Type 0} {text_of : E → List ℕ} {mode : Mode} {kind : Kind} {blocks : ℕ} {es : List E} {here old : List ℕ}
+    (so_far : TakenSoFar is text_of mode kind blocks es here old) where
+  abbrev pub comes : List ℕ
+  comes = lead (frame mode kind) (setting_in mode blocks) One
 
-        module _ {e : E} {after : List ℕ} (takes : Takes is text_of here (Ok e) after) where
-          -- or with that entry's trail
-          pub next_trail_refused : {new : List ℕ} → DoesNotBegin (trail mode) after → Takes (AreSome is) after_opening old (Err NotText) new
-          next_trail_refused refuses = reduced so_far {outcome = Err NotText} (trail_refused is text_of later_lead (trail mode) last_ending follows e here after takes refuses)
+  abbrev pub ends : List ℕ
+  ends = ending (frame mode kind) (setting_in mode (blocks - 1)) One
 
-          module _ {further : List ℕ} (trail_is : after ≡ trail mode ++ further) where
-            entry_and : Reduces (All is) block_rest (AreEntries is) after_leads (λ more. (e, more)) further here
-            entry_and = after_entry is text_of later_lead (trail mode) last_ending follows e here after takes further trail_is
+  -- the whole block, from its first entry on
+  abbrev pub BlockTaken : Result (List E) Fault → List ℕ → Type 0
+  BlockTaken outcome new = Takes (AreSome is) (after_opening is text_of mode kind blocks) old outcome new
 
-            -- one entry more was taken, if another lead comes
-            pub one_more : {next : List ℕ} → further ≡ later_lead ++ next → TakenSoFar (es ++ e ∷ []) next old
-            one_more {next} lead_is = made_as (λ p. (es ++ e ∷ []) ++ (p.0 ∷ p.1)) (λ p. sym (append_assoc es (e ∷ []) (p.0 ∷ p.1)))
-                (reduced_twice (reduced_twice (another_entry is text_of later_lead (trail mode) last_ending differs further next lead_is) entry_and) so_far)
+  goes_on : (more : List E) (u : List ℕ) → MayFollow Debug (trail mode ++ (tail_of is text_of comes (trail mode) ends more ++ u))
+  goes_on = follows is text_of mode kind blocks so_far.bracketed so_far.some so_far.most
 
-            -- or it was the last
-            pub the_last : {new : List ℕ} → DoesNotBegin later_lead further → further ≡ last_ending ++ new → Takes (AreSome is) after_opening old (Ok (es ++ e ∷ [])) new
-            the_last {new} no_lead end_is = reduced so_far (reduced entry_and (end_taken is text_of later_lead (trail mode) last_ending further new no_lead end_is))
+  -- the block is refused with its next entry
+  pub next_refused : {fault : Fault} {new further : List ℕ} → Takes is text_of here (Err fault) new → BlockTaken (Err fault) further
+  next_refused {fault} {new} {further} takes =
+      reduced so_far.reduces {outcome = Err fault} {new = further} (entry_refused is text_of comes (trail mode) ends goes_on takes)
 
-            -- or the block is refused
-            pub end_not_there : {new : List ℕ} → DoesNotBegin later_lead further → DoesNotBegin last_ending further → Takes (AreSome is) after_opening old (Err NotText) new
-            end_not_there {new} no_lead no_end = reduced so_far {outcome = Err NotText}
-                (reduced entry_and {outcome = Err NotText} (end_refused is text_of later_lead (trail mode) last_ending further new no_lead no_end))
+  module _ {e : E} {after : List ℕ} (takes : Takes is text_of here (Ok e) after) where
+    -- or with that entry's trail
+    pub next_trail_refused : {new : List ℕ} → DoesNotBegin (trail mode) after → BlockTaken (Err NotText) new
+    next_trail_refused refuses = reduced so_far.reduces {outcome = Err NotText} (trail_refused is text_of comes (trail mode) ends goes_on e here after takes refuses)
+
+    module _ {further : List ℕ} (trail_is : after ≡ trail mode ++ further) where
+      entry_and : Reduces (All is) (block_rest is text_of mode kind blocks) (AreEntries is) (after_leads is text_of mode kind blocks) (λ more. (e, more)) further here
+      entry_and = after_entry is text_of comes (trail mode) ends goes_on e here after takes further trail_is
+
+      -- one entry more was taken, if another lead comes
+      pub one_more : {next : List ℕ} → further ≡ comes ++ next → TakenSoFar is text_of mode kind blocks (es ++ e ∷ []) next old
+      one_more {next} lead_is = record {
+        bracketed = so_far.bracketed;
+        some = so_far.some;
+        most = so_far.most;
+        reduces = made_as (λ p. (es ++ e ∷ []) ++ (p.0 ∷ p.1)) (λ p. sym (append_assoc es (e ∷ []) (p.0 ∷ p.1))) (reduced_twice (reduced_twice
+            (another_entry is text_of comes (trail mode) ends (differs is text_of mode kind blocks so_far.bracketed so_far.some so_far.most) further next lead_is)
+            entry_and) so_far.reduces);
+      }
+
+      -- or it was the last
+      pub the_last : {new : List ℕ} → DoesNotBegin comes further → further ≡ ends ++ new → BlockTaken (Ok (es ++ e ∷ [])) new
+      the_last {new} no_lead end_is = reduced so_far.reduces (reduced entry_and (end_taken is text_of comes (trail mode) ends further new no_lead end_is))
+
+      -- or the block is refused
+      pub end_not_there : {new : List ℕ} → DoesNotBegin comes further → DoesNotBegin ends further → BlockTaken (Err NotText) new
+      end_not_there {new} no_lead no_end = reduced so_far.reduces {outcome = Err NotText}
+          (reduced entry_and {outcome = Err NotText} (end_refused is text_of comes (trail mode) ends further new no_lead no_end))

@@ -7,7 +7,6 @@ pub mod EntryParts
 pub mod FieldsInARow
 pub mod ListedPairs
 pub mod ListedValues
-pub mod NameBytes
 pub mod NameFronts
 pub mod Naming
 pub mod Next

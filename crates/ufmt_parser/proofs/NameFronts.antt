@@ -1,6 +1,7 @@
 -- The name at the front of a document's text is found byte by byte.
 use Rattle.std.proofs.Common.{◌≡◌, ◌≢◌, ◌⊎◌, inl, inr, refl, sym, ap, ◌∙◌, subst, ℕ, ◌==◌, ◌||◌, ◌&&◌, not, cond, Bool, true, false, List, [], ◌∷◌, ◌++◌, append_assoc, None, eqb-true}
 use Rattle.std.specs.Str.{bytes_eq}
+use Rattle.std.proofs.lemmas.Bool.{false_from_ne_true}
 use Rattle.std.proofs.lemmas.Slice.Eq.{bytes_eq-Decides}
 use Rattle.std.proofs.lemmas.List.{append_cancel_left}
 use Rattle.ufmt_core.specs.Document.{Document, leaf, joined, list_of, set_of, map_of, struct_of, non_exhaustive_of, tuple_of, pretty_part, no_documents, first_document, no_fields, first_field}
@@ -121,11 +122,7 @@ document_begins s (tuple_of (c ∷ name) (first_document d ds)) u is may =
 -- ---- the test of a name
 
 other_bytes : (other name : List ℕ) → other ≢ name → bytes_eq other name ≡ false
-other_bytes other name differs = go (bytes_eq other name) refl
-  where
-    go : (b : Bool) → bytes_eq other name ≡ b → bytes_eq other name ≡ false
-    go false e = e
-    go true e = absurd (differs ((bytes_eq-Decides other name).0 e))
+other_bytes other name differs = false_from_ne_true (bytes_eq other name) (λ same. differs ((bytes_eq-Decides other name).0 same))
 
 -- a text that doesn't begin with the name is another's
 pub another_is_next : (name other text : List ℕ) → is_debug_name name ≡ true → IsNamed other text ⊎ IsBracketed other text → DoesNotBegin name text

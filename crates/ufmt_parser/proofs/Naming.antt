@@ -1,9 +1,10 @@
 -- Names that a test finds to be the same, and documents that print as a name alone.
-use Rattle.std.proofs.Common.{◌≡◌, refl, sym, ap, ◌∙◌, subst, ℕ, ◌&&◌, not, Bool, true, false, List, [], ◌∷◌, ◌++◌, zip}
+use Rattle.std.proofs.Common.{◌≡◌, refl, sym, ap, ◌∙◌, subst, ℕ, not, Bool, true, false, List, [], ◌∷◌, ◌++◌}
 use Rattle.std.specs.Str.{bytes_eq}
+use Rattle.std.proofs.lemmas.Bool.{and_parts}
 use Rattle.std.proofs.lemmas.List.{append-nil, append_cancel_left}
 use Rattle.std.proofs.lemmas.Slice.Eq.{bytes_eq-Decides}
-use Rattle.ufmt_core.specs.Document.{Document, leaf, joined, list_of, set_of, map_of, struct_of, non_exhaustive_of, tuple_of, pretty_part, no_documents, first_document, no_fields, first_field, Documents, fields_of}
+use Rattle.ufmt_core.specs.Document.{Document, leaf, joined, list_of, set_of, map_of, struct_of, non_exhaustive_of, tuple_of, pretty_part, no_documents, first_document, no_fields, first_field, Documents, Fields}
 use Rattle.ufmt_core.specs.Layout.{layout}
 use Rattle.ufmt_core.specs.declared.layout.Mode.{Mode}
 use Rattle.ufmt_core.specs.declared.layout.Setting.{Setting}
@@ -16,39 +17,60 @@ names_are : (others names : List (List ℕ)) → same_names others names ≡ tru
 names_are [] [] same = refl
 names_are [] (name ∷ names) same = absurd (cc)
 names_are (other ∷ others) [] same = absurd (cc)
-names_are (other ∷ others) (name ∷ names) same = go (bytes_eq other name) refl same (names_are others names)
-  where
-    go : (b : Bool) → bytes_eq other name ≡ b → (b && same_names others names) ≡ true → (same_names others names ≡ true → others ≡ names) → other ∷ others ≡ name ∷ names
-    go true is same_others are = ap (λ o. o ∷ others) ((bytes_eq-Decides other name).0 is) ∙ ap (λ os. name ∷ os) (are same_others)
-    go false is same_others are = absurd (cc)
+names_are (other ∷ others) (name ∷ names) same =
+    let parts = and_parts (bytes_eq other name) (same_names others names) same in
+    ap (λ o. o ∷ others) ((bytes_eq-Decides other name).0 parts.0) ∙ ap (λ os. name ∷ os) (names_are others names parts.1)
 
 -- names are the same as themselves: for a caller that doesn't know them
 pub same_names-refl : (names : List (List ℕ)) → same_names names names ≡ true
 same_names-refl [] = refl
 same_names-refl (name ∷ names) = rw ((bytes_eq-Decides name name).1 refl) (same_names-refl names)
 
--- the struct whose name is the first of these, and whose fields' names are the others
-named_document : List (List ℕ) → List Document → Document
-named_document [] ds = leaf []
-named_document (name ∷ names) ds = struct_of name (fields_of (zip names ds))
+-- the fields' names, and their values
+abbrev pub field_names : Fields → List (List ℕ)
+field_names no_fields = []
+field_names (first_field name d fs) = name ∷ field_names fs
 
--- what is said of a struct is said of one with the same names
-module _ {M : Type 0} (mode : Mode) (old : Parser M) (other name : List ℕ) (others names : List (List ℕ)) (ds : List Document) (same : same_names (other ∷ others) (name ∷ names) ≡ true) where
-  pub struct_leaves : (new : Parser M) → NextLeaves mode old (struct_of name (fields_of (zip names ds))) new → NextLeaves mode old (struct_of other (fields_of (zip others ds))) new
-  unfolding named_document
-  struct_leaves new leaves = subst (λ ns. NextLeaves mode old (named_document ns ds) new) (sym (names_are (other ∷ others) (name ∷ names) same)) leaves
+abbrev pub field_values : Fields → List Document
+field_values no_fields = []
+field_values (first_field name d fs) = d ∷ field_values fs
 
-  pub no_struct : IsNotNext mode old (struct_of name (fields_of (zip names ds))) → IsNotNext mode old (struct_of other (fields_of (zip others ds)))
-  unfolding named_document
-  no_struct none = subst (λ ns. IsNotNext mode old (named_document ns ds)) (sym (names_are (other ∷ others) (name ∷ names) same)) none
+-- fields with the same names and the same values are the same
+fields_are : (others fs : Fields) → field_names others ≡ field_names fs → field_values others ≡ field_values fs → others ≡ fs
+fields_are no_fields no_fields named same = refl
+fields_are no_fields (first_field name d fs) named same = absurd (cc)
+fields_are (first_field other e es) no_fields named same = absurd (cc)
+fields_are (first_field other e es) (first_field name d fs) named same =
+    let name_is : other ≡ name = cc named in
+    let value_is : e ≡ d = cc same in
+    let names : field_names es ≡ field_names fs = cc named in
+    let values : field_values es ≡ field_values fs = cc same in
+    ap (λ n. first_field n e es) name_is ∙ ap (λ value. first_field name value es) value_is ∙ ap (λ rest. first_field name d rest) (fields_are es fs names values)
+
+-- what is said of a struct is said of one with the same names and the same values
+module _ {M : Type 0} (mode : Mode) (old : Parser M) (other name : List ℕ) (others fs : Fields) where
+  struct_is : same_names (other ∷ field_names others) (name ∷ field_names fs) ≡ true → field_values others ≡ field_values fs → struct_of other others ≡ struct_of name fs
+  struct_is same values =
+      let named : other ∷ field_names others ≡ name ∷ field_names fs = names_are (other ∷ field_names others) (name ∷ field_names fs) same in
+      let name_is : other ≡ name = cc named in
+      let names : field_names others ≡ field_names fs = cc named in
+      ap (λ n. struct_of n others) name_is ∙ ap (λ es. struct_of name es) (fields_are others fs names values)
+
+  pub struct_leaves : (new : Parser M) → NextLeaves mode old (struct_of name fs) new → same_names (other ∷ field_names others) (name ∷ field_names fs) ≡ true
+      → field_values others ≡ field_values fs → NextLeaves mode old (struct_of other others) new
+  struct_leaves new leaves same values = subst (λ d. NextLeaves mode old d new) (sym (struct_is same values)) leaves
+
+  pub no_struct : IsNotNext mode old (struct_of name fs) → same_names (other ∷ field_names others) (name ∷ field_names fs) ≡ true
+      → field_values others ≡ field_values fs → IsNotNext mode old (struct_of other others)
+  no_struct none same values = subst (λ d. IsNotNext mode old d) (sym (struct_is same values)) none
 
 -- what is said of a tuple is said of one with the same name
-module _ {M : Type 0} (mode : Mode) (old : Parser M) (other name : List ℕ) (ds : Documents) (same : bytes_eq other name ≡ true) where
-  pub tuple_leaves : (new : Parser M) → NextLeaves mode old (tuple_of name ds) new → NextLeaves mode old (tuple_of other ds) new
-  tuple_leaves new leaves = subst (λ n. NextLeaves mode old (tuple_of n ds) new) (sym ((bytes_eq-Decides other name).0 same)) leaves
+module _ {M : Type 0} (mode : Mode) (old : Parser M) (other name : List ℕ) (ds : Documents) where
+  pub tuple_leaves : (new : Parser M) → NextLeaves mode old (tuple_of name ds) new → bytes_eq other name ≡ true → NextLeaves mode old (tuple_of other ds) new
+  tuple_leaves new leaves same = subst (λ n. NextLeaves mode old (tuple_of n ds) new) (sym ((bytes_eq-Decides other name).0 same)) leaves
 
-  pub no_tuple : IsNotNext mode old (tuple_of name ds) → IsNotNext mode old (tuple_of other ds)
-  no_tuple none = subst (λ n. IsNotNext mode old (tuple_of n ds)) (sym ((bytes_eq-Decides other name).0 same)) none
+  pub no_tuple : IsNotNext mode old (tuple_of name ds) → bytes_eq other name ≡ true → IsNotNext mode old (tuple_of other ds)
+  no_tuple none same = subst (λ n. IsNotNext mode old (tuple_of n ds)) (sym ((bytes_eq-Decides other name).0 same)) none
 
 -- ---- documents that print as a name alone
 

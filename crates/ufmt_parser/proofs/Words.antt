@@ -1,5 +1,7 @@
 -- Words as leaves of debug documents, and names that pass the test of a name.
-use Rattle.std.proofs.Common.{◌≡◌, ◌≢◌, refl, ℕ, ◌==◌, ◌||◌, ◌&&◌, not, Bool, true, false, List, [], ◌∷◌, inl, arith}
+use Rattle.std.proofs.Common.{◌≡◌, ◌≢◌, refl, ℕ, ◌==◌, ◌||◌, not, Bool, true, false, List, [], ◌∷◌, inl, arith}
+use Rattle.std.proofs.Math.Bool.{and-false}
+use Rattle.std.proofs.lemmas.Bool.{and_parts, not-true}
 use Rattle.std.proofs.lemmas.Bool.Decides.{nat_tests}
 use Rattle.std.specs.Str.{IsUtf8}
 use Rattle.std.proofs.lemmas.Str.{is_utf8-from_IsUtf8}
@@ -17,21 +19,13 @@ word_is_leaf word is = (tokens_are_debug (leaf word) (record { shape = inl is },
 
 -- ---- names that pass the test
 
-both : (a b : Bool) → a && b ≡ true → (a ≡ true) × (b ≡ true)
-both true b h = (refl, h)
-both false b h = absurd (cc)
-
 -- its bytes, and its end
 name_parts : (name : List ℕ) → is_debug_name_or_empty name ≡ true → (has_name_bytes name ≡ true) × (ends_in_colon name ≡ false)
-name_parts name h = let parts = both (has_name_bytes name) (not (ends_in_colon name)) h in (parts.0, no_colon (ends_in_colon name) refl parts.1)
-  where
-    no_colon : (ends : Bool) → ends_in_colon name ≡ ends → not (ends_in_colon name) ≡ true → ends_in_colon name ≡ false
-    no_colon true e h = absurd (cc)
-    no_colon false e h = e
+name_parts name h = let parts = and_parts (has_name_bytes name) (not (ends_in_colon name)) h in (parts.0, not-true (ends_in_colon name) parts.1)
 
 -- such a byte is no bracket, for one
 pub begins_name : (c : ℕ) (name : List ℕ) → is_debug_name (c ∷ name) ≡ true → is_debug_byte c || c == 58 ≡ true
-begins_name c name h = (both (is_debug_byte c || c == 58) (has_name_bytes name) (name_parts (c ∷ name) h).0).0
+begins_name c name h = (and_parts (is_debug_byte c || c == 58) (has_name_bytes name) (name_parts (c ∷ name) h).0).0
 
 pub name_ends_in_no_colon : (name : List ℕ) → is_debug_name name ≡ true → ends_in_colon name ≡ false
 name_ends_in_no_colon [] h = refl
@@ -47,16 +41,12 @@ name_byte_next b t h = (rw none.0 refl, none.1)
 bytes_end : (name : List ℕ) → has_name_bytes name ≡ true → EndsLeaf outside name
 bytes_end [] h = refl
 bytes_end (c ∷ name) h =
-    let parts = both (is_debug_byte c || c == 58) (has_name_bytes name) h in
+    let parts = and_parts (is_debug_byte c || c == 58) (has_name_bytes name) h in
     (outside, rw (in_word name parts.1 (is_debug_byte c) (c == 58) refl refl parts.0) refl, bytes_end name parts.1)
   where
     next : (name : List ℕ) → has_name_bytes name ≡ true → (is_spaced name ≡ false) × (begins_quote name ≡ false)
     next [] h = (refl, refl)
-    next (b ∷ t) h = name_byte_next b t (both (is_debug_byte b || b == 58) (has_name_bytes t) h).0
-
-    and-false : (b : Bool) → b && false ≡ false
-    and-false true = refl
-    and-false false = refl
+    next (b ∷ t) h = name_byte_next b t (and_parts (is_debug_byte b || b == 58) (has_name_bytes t) h).0
 
     in_word : (name : List ℕ) → has_name_bytes name ≡ true → (word colon : Bool) → is_debug_byte c ≡ word → (c == 58) ≡ colon → word || colon ≡ true → is_in_word c name ≡ true
     in_word name named word true e f h = rw (f, (next name named).0) refl
@@ -90,7 +80,7 @@ AreUtf8 (name ∷ names) = IsUtf8 name × AreUtf8 names
 
 pub names_are : (names : List (List ℕ)) → AreUtf8 names → are_debug_names names ≡ true → AreNames names
 names_are [] utf8 h = tt
-names_are (name ∷ names) utf8 h = let parts = both (is_debug_name name) (are_debug_names names) h in (name_is name utf8.0 parts.0, names_are names utf8.1 parts.1)
+names_are (name ∷ names) utf8 h = let parts = and_parts (is_debug_name name) (are_debug_names names) h in (name_is name utf8.0 parts.0, names_are names utf8.1 parts.1)
 
 -- ---- each name of a debug document passes it, for a caller that knows only that
 

@@ -1,6 +1,9 @@
 //! What is missing where a text stops fitting.
 
-/// What should come where a text stops fitting.
+/// What should come where a text stops fitting: what a parser refuses a text for.
+//
+// `Expected` of `ufmt_parse` is the same with `End`, which no parser may say: only `parse` knows that a whole value is
+// before the place. So nothing is asked of a parser by hand, and nothing is tested.
 #[derive(Clone, Copy, Drop)]
 pub enum Need {
     /// A name of the type: of a struct, a field or a variant, or a truth value.

@@ -15,6 +15,7 @@ use crate::need::Need;
 use crate::strip::{strip_ending, strip_lead, strip_piece};
 use std::marker::PhantomData;
 use ufmt_core::layout::{Count, Kind};
+use ufmt_grammar::bytes::ByteClass;
 
 /// Why a value isn't parsed.
 #[derive(Clone, Copy, Drop)]
@@ -249,19 +250,11 @@ fn begins_with(byte: u8, text: &[u8]) -> bool
     }
 }
 
-// Marks each byte that comes after a name.
-static ENDING_BYTES: [u8; 256] = *b"\
-    ................................e.......ee..e...................\
-    ...........................e.e.............................e.e..\
-    ................................................................\
-    ................................................................";
-
 // Whether the byte comes after a name: a space, a comma or a bracket. The compiler would make of a `match` two
 // tests of bits and some comparisons.
 #[inline(always)]
-#[tactic(auto, using(crate::proofs::NameBytes::ending_bytes))]
 fn ends_name(byte: u8) -> bool
     ensures { result ≡ ends_name byte }
 {
-    ENDING_BYTES[byte as usize] == b'e'
+    ByteClass::AfterName.contains(byte)
 }

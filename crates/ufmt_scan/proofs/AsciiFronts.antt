@@ -18,26 +18,18 @@ use Rattle.ufmt_grammar.proofs.QuotedSound.{read_quoted-sound}
 use Rattle.ufmt_grammar.specs.declared.class.Class.TheVariants.{Debug}
 use Rattle.ufmt_scan.specs.declared.front.Front.{Front}
 use Rattle.ufmt_scan.specs.Private.Fronts.{EndsAt, IsSplit, Passes, is_started}
-use Rattle.ufmt_scan.specs.Private.MarkedBytes.{is_marked, marked_len}
-use Rattle.ufmt_scan.specs.declared.debug_leaf.TheConstants.{LEAF_BYTES}
-use Rattle.ufmt_scan.proofs.WordBytes.{marks}
+use Rattle.ufmt_scan.specs.Private.MarkedBytes.{marked_len}
+use Rattle.ufmt_grammar.specs.Bytes.{is_in}
+use Rattle.ufmt_grammar.specs.declared.bytes.ByteClass.TheVariants.{PlainAscii}
 use Rattle.ufmt_scan.proofs.DebugFronts.{NoneNext, ends_leaf, leaf_splits, not_started, passes_none, passes_then, plain_is, word_passes}
-
-in_ascii : ℕ → Bool
-in_ascii c = is_plain_byte c && nat_lt c 128
-
-ascii_are_marked : (c : ℕ) → is_marked LEAF_BYTES c ≡ in_ascii c
-unfolding in_ascii
-ascii_are_marked c = marks LEAF_BYTES in_ascii refl refl (λ c past. grind (arith, nat_tests)) c
 
 -- a word byte in ASCII
 record IsAsciiByte (c : ℕ) : Type 0 where
   word : is_plain_byte c ≡ true
   low : c < 128
 
-marked_in_ascii : (c : ℕ) → is_marked LEAF_BYTES c ≡ true → IsAsciiByte c
-unfolding in_ascii
-marked_in_ascii c h = go (is_plain_byte c) (nat_lt c 128) refl refl (sym (ascii_are_marked c) ∙ h)
+marked_in_ascii : (c : ℕ) → is_in PlainAscii c ≡ true → IsAsciiByte c
+marked_in_ascii c h = go (is_plain_byte c) (nat_lt c 128) refl refl h
   where
     go : (word low : Bool) → is_plain_byte c ≡ word → nat_lt c 128 ≡ low → word && low ≡ true → IsAsciiByte c
     go true true e f h = record { word = e; low = ltb-true c 128 f }
@@ -57,17 +49,17 @@ no_colon_before : (c : ℕ) (w : List ℕ) → (c == 58) ≡ false → ends_in_c
 no_colon_before c [] first last = first
 no_colon_before c (b ∷ w) first last = last
 
-ascii_run : (t : List ℕ) → PassesAscii t (marked_len LEAF_BYTES t)
+ascii_run : (t : List ℕ) → PassesAscii t (marked_len PlainAscii t)
 ascii_run [] = record { passes = passes_none outside []; ascii = IsAscii-nil; no_colon = refl }
-ascii_run (c ∷ t) = go (is_marked LEAF_BYTES c) refl (ascii_run t)
+ascii_run (c ∷ t) = go (is_in PlainAscii c) refl (ascii_run t)
   where
-    go : (b : Bool) → is_marked LEAF_BYTES c ≡ b → PassesAscii t (marked_len LEAF_BYTES t) → PassesAscii (c ∷ t) (cond b (suc (marked_len LEAF_BYTES t)) 0)
+    go : (b : Bool) → is_in PlainAscii c ≡ b → PassesAscii t (marked_len PlainAscii t) → PassesAscii (c ∷ t) (cond b (suc (marked_len PlainAscii t)) 0)
     go true is more =
         let byte = marked_in_ascii c is in
         record {
           passes = passes_then (word_passes c t byte.word) more.passes;
-          ascii = IsAscii-cons c (take (marked_len LEAF_BYTES t) t) byte.low more.ascii;
-          no_colon = no_colon_before c (take (marked_len LEAF_BYTES t) t) (plain_no_colon c byte.word) more.no_colon;
+          ascii = IsAscii-cons c (take (marked_len PlainAscii t) t) byte.low more.ascii;
+          no_colon = no_colon_before c (take (marked_len PlainAscii t) t) (plain_no_colon c byte.word) more.no_colon;
         }
     go false is more = record { passes = passes_none outside (c ∷ t); ascii = IsAscii-nil; no_colon = refl }
 
@@ -75,7 +67,7 @@ none_at : (t : List ℕ) → EndsAt t → NoneNext t
 none_at [] h = tt
 none_at (c ∷ t) h = h.0
 
-module _ (t word : List ℕ) (n : ℕ) (len : n ≡ marked_len LEAF_BYTES t) (front : word ≡ take n t) where
+module _ (t word : List ℕ) (n : ℕ) (len : n ≡ marked_len PlainAscii t) (front : word ≡ take n t) where
   pub word_is_ascii : IsAscii word
   word_is_ascii = rw (front, len) (ascii_run t).ascii
 
@@ -90,9 +82,9 @@ module _ (t word : List ℕ) (n : ℕ) (len : n ≡ marked_len LEAF_BYTES t) (fr
       (named ∙ sym (ap not no_colon)) (IsUtf8-from_ascii word word_is_ascii)
 
 -- a leaf with a start begins with no word
-pub started_by_bracket : (t : List ℕ) (n : ℕ) → n ≡ marked_len LEAF_BYTES t → n ≢ 0 → is_started t ≡ false
+pub started_by_bracket : (t : List ℕ) (n : ℕ) → n ≡ marked_len PlainAscii t → n ≢ 0 → is_started t ≡ false
 started_by_bracket [] n len some = refl
-started_by_bracket (c ∷ t) n len some = go (is_marked LEAF_BYTES c) refl
+started_by_bracket (c ∷ t) n len some = go (is_in PlainAscii c) refl
   where
     bare : is_plain_byte c ≡ true → is_started (c ∷ t) ≡ false
     bare word =
@@ -100,9 +92,9 @@ started_by_bracket (c ∷ t) n len some = go (is_marked LEAF_BYTES c) refl
         let no_bracket : (c == 91) ≡ false = grind (arith, nat_tests) in
         rw (no_parenthesis, no_bracket) refl
 
-    go : (b : Bool) → is_marked LEAF_BYTES c ≡ b → is_started (c ∷ t) ≡ false
+    go : (b : Bool) → is_in PlainAscii c ≡ b → is_started (c ∷ t) ≡ false
     go true e = bare (marked_in_ascii c e).word
-    go false e = absurd (some (len ∙ ap (λ b. cond b (suc (marked_len LEAF_BYTES t)) 0) e))
+    go false e = absurd (some (len ∙ ap (λ b. cond b (suc (marked_len PlainAscii t)) 0) e))
 
 -- a text whose last byte is no colon
 ends_otherwise : (w : List ℕ) (c : ℕ) → (c == 58) ≡ false → ends_in_colon (w ++ c ∷ []) ≡ false

@@ -1,6 +1,6 @@
 -- Leaves of debug documents, byte by byte: what the scanner passes belongs to the leaf at the front.
 use Rattle.std.proofs.Common.{◌≡◌, inl, inr, refl, ap, sym, subst, ◌∙◌, ℕ, suc, ◌≤◌, ◌==◌, ◌&&◌, ◌||◌, not, nat_le, Bool, true, false, cond, List, [], ◌∷◌, ◌++◌, append_assoc, append-nil, length, length-append, take, drop, codes, Option, Some, None, eqb-true, arith}
-use Rattle.std.specs.Prelude.{◌≢◌, ◌⊎◌, ◌-◌, slice_index_or, ⊤}
+use Rattle.std.specs.Prelude.{◌≢◌, ◌⊎◌, ◌-◌, ⊤}
 use Rattle.std.specs.Str.{IsUtf8, is_utf8}
 use Rattle.std.proofs.lemmas.Bool.Decides.{nat_tests}
 use Rattle.std.proofs.lemmas.Str.{IsUtf8-from_is_utf8, is_utf8-from_IsUtf8}
@@ -16,9 +16,10 @@ use Rattle.ufmt_grammar.specs.declared.class.Class.TheVariants.{Debug}
 use Rattle.ufmt_grammar.specs.Reading.{is_whole}
 use Rattle.ufmt_scan.specs.declared.front.Front.{Front}
 use Rattle.ufmt_scan.specs.Private.Fronts.{EndsLeaf, IsSplit, Passes, StaysBetween, StopsWord, begins_name, is_started}
-use Rattle.ufmt_scan.specs.Private.MarkedBytes.{is_marked, marked_len}
-use Rattle.ufmt_scan.specs.declared.debug_leaf.TheConstants.{CONTINUATION_BYTES, DEBUG_BYTES, ESCAPE_BYTES, NAME_BYTES, QUOTED_BYTES, RUN_BYTES, WORD_BYTES}
-use Rattle.ufmt_scan.proofs.WordBytes.{marks}
+use Rattle.ufmt_scan.specs.Private.MarkedBytes.{marked_len}
+use Rattle.ufmt_grammar.specs.Bytes.{is_in, is_run_byte}
+use Rattle.ufmt_grammar.specs.declared.bytes.ByteClass.{ByteClass}
+use Rattle.ufmt_grammar.specs.declared.bytes.ByteClass.TheVariants.{Continuation, Escape, Name, Quoted, Run, Word}
 
 has_name_bytes-append : (a b : List ℕ) → has_name_bytes (a ++ b) ≡ has_name_bytes a && has_name_bytes b
 has_name_bytes-append [] b = refl
@@ -61,9 +62,6 @@ pass_byte place c t next e =
 
 -- ---- words
 
-pub words_are_marked : (c : ℕ) → is_marked WORD_BYTES c ≡ is_plain_byte c
-words_are_marked c = marks WORD_BYTES is_plain_byte refl refl (λ c past. grind (arith, nat_tests)) c
-
 -- such a byte is one of a debug word, and no backslash
 pub record IsPlain (c : ℕ) : Type 0 where
   pub word : is_debug_byte c ≡ true
@@ -97,13 +95,6 @@ in_word_passes c t h = subst (Passes outside (c ∷ t) outside t) (named (c == 5
 
 -- ---- runs of bytes of words and colons
 
-is_run_byte : ℕ → Bool
-is_run_byte c = is_plain_byte c || c == 58
-
-runs_are_marked : (c : ℕ) → is_marked RUN_BYTES c ≡ is_run_byte c
-unfolding is_run_byte
-runs_are_marked c = marks RUN_BYTES is_run_byte refl refl (λ c past. grind (arith, nat_tests)) c
-
 -- whether these bytes end in a colon, and a space is after them
 run_spaced : List ℕ → ℕ → Bool
 run_spaced t n = ends_in_colon (take n t) && is_spaced (drop n t)
@@ -114,18 +105,16 @@ record PassesRun (t : List ℕ) (n : ℕ) : Type 0 where
   shorter : run_spaced t n ≡ true → (m : ℕ) × (n ≡ suc m) × (begins_with 58 (drop m t) ≡ true) × Passes outside t outside (drop m t) true
   stops : StopsWord (drop n t)
 
-run_stops_word : (c : ℕ) → is_marked RUN_BYTES c ≡ false → is_plain_byte c ≡ false
-unfolding is_run_byte
-run_stops_word c h = go (is_plain_byte c) refl (sym (runs_are_marked c) ∙ h)
+run_stops_word : (c : ℕ) → is_in Run c ≡ false → is_plain_byte c ≡ false
+run_stops_word c h = go (is_plain_byte c) refl h
   where
     go : (plain : Bool) → is_plain_byte c ≡ plain → is_run_byte c ≡ false → is_plain_byte c ≡ false
     go false e k = e
     go true e k = let yes : is_run_byte c ≡ true = rw e refl in absurd (cc)
 
 -- such a byte is passed, if it is no colon before a space
-run_byte_passes : (c : ℕ) (t : List ℕ) → is_marked RUN_BYTES c ≡ true → (c == 58) && is_spaced t ≡ false → Passes outside (c ∷ t) outside t true
-unfolding is_run_byte
-run_byte_passes c t h unspaced = go (is_plain_byte c) (c == 58) refl refl (sym (runs_are_marked c) ∙ h) unspaced
+run_byte_passes : (c : ℕ) (t : List ℕ) → is_in Run c ≡ true → (c == 58) && is_spaced t ≡ false → Passes outside (c ∷ t) outside t true
+run_byte_passes c t h unspaced = go (is_plain_byte c) (c == 58) refl refl h unspaced
   where
     go : (plain colon : Bool) → is_plain_byte c ≡ plain → (c == 58) ≡ colon → plain || colon ≡ true → colon && is_spaced t ≡ false → Passes outside (c ∷ t) outside t true
     go true colon e f k none = word_passes c t e
@@ -133,7 +122,7 @@ run_byte_passes c t h unspaced = go (is_plain_byte c) (c == 58) refl refl (sym (
     go false false e f k none = absurd (cc)
 
 -- a run of one byte
-one_runs : (c : ℕ) (t : List ℕ) → is_marked RUN_BYTES c ≡ true → StopsWord t → PassesRun (c ∷ t) 1
+one_runs : (c : ℕ) (t : List ℕ) → is_in Run c ≡ true → StopsWord t → PassesRun (c ∷ t) 1
 unfolding run_spaced
 one_runs c t h stops = record {
   whole = λ unspaced. run_byte_passes c t h unspaced;
@@ -146,8 +135,8 @@ one_runs c t h stops = record {
     colon false k = absurd (cc)
 
 -- and a longer one: no space comes after its first byte
-more_runs : (c b : ℕ) (u : List ℕ) (k : ℕ) → is_marked RUN_BYTES c ≡ true → is_marked RUN_BYTES b ≡ true → PassesRun (b ∷ u) (suc k) → PassesRun (c ∷ b ∷ u) (suc (suc k))
-unfolding run_spaced is_run_byte
+more_runs : (c b : ℕ) (u : List ℕ) (k : ℕ) → is_in Run c ≡ true → is_in Run b ≡ true → PassesRun (b ∷ u) (suc k) → PassesRun (c ∷ b ∷ u) (suc (suc k))
+unfolding run_spaced
 more_runs c b u k first second more = record {
   whole = λ unspaced. passes_then passed (more.whole unspaced);
   shorter = λ spaced. let left = more.shorter spaced in (suc left.0, ap suc left.1, left.2, passes_then passed left.3);
@@ -162,27 +151,27 @@ more_runs c b u k first second more = record {
     and-false false = refl
 
     passed : Passes outside (c ∷ b ∷ u) outside (b ∷ u) true
-    passed = run_byte_passes c (b ∷ u) first (rw (no_space_next (sym (runs_are_marked b) ∙ second)) (and-false (c == 58)))
+    passed = run_byte_passes c (b ∷ u) first (rw (no_space_next second) (and-false (c == 58)))
 
-run : (t : List ℕ) → PassesRun t (marked_len RUN_BYTES t)
+run : (t : List ℕ) → PassesRun t (marked_len Run t)
 unfolding run_spaced
 run [] = record { whole = λ unspaced. passes_none outside []; shorter = λ spaced. absurd (cc); stops = tt }
-run (c ∷ t) = go (is_marked RUN_BYTES c) refl (run t)
+run (c ∷ t) = go (is_in Run c) refl (run t)
   where
-    longer : (t : List ℕ) → is_marked RUN_BYTES c ≡ true → PassesRun t (marked_len RUN_BYTES t) → PassesRun (c ∷ t) (suc (marked_len RUN_BYTES t))
+    longer : (t : List ℕ) → is_in Run c ≡ true → PassesRun t (marked_len Run t) → PassesRun (c ∷ t) (suc (marked_len Run t))
     longer [] e more = one_runs c [] e tt
-    longer (b ∷ u) e more = by (is_marked RUN_BYTES b) refl more
+    longer (b ∷ u) e more = by (is_in Run b) refl more
       where
-        by : (x : Bool) → is_marked RUN_BYTES b ≡ x → PassesRun (b ∷ u) (cond x (suc (marked_len RUN_BYTES u)) 0)
-            → PassesRun (c ∷ b ∷ u) (suc (cond x (suc (marked_len RUN_BYTES u)) 0))
-        by true f more = more_runs c b u (marked_len RUN_BYTES u) e f more
+        by : (x : Bool) → is_in Run b ≡ x → PassesRun (b ∷ u) (cond x (suc (marked_len Run u)) 0)
+            → PassesRun (c ∷ b ∷ u) (suc (cond x (suc (marked_len Run u)) 0))
+        by true f more = more_runs c b u (marked_len Run u) e f more
         by false f more = one_runs c (b ∷ u) e more.stops
 
-    go : (x : Bool) → is_marked RUN_BYTES c ≡ x → PassesRun t (marked_len RUN_BYTES t) → PassesRun (c ∷ t) (cond x (suc (marked_len RUN_BYTES t)) 0)
+    go : (x : Bool) → is_in Run c ≡ x → PassesRun t (marked_len Run t) → PassesRun (c ∷ t) (cond x (suc (marked_len Run t)) 0)
     go true e more = longer t e more
     go false e more = record { whole = λ unspaced. passes_none outside (c ∷ t); shorter = λ spaced. absurd (cc); stops = run_stops_word c e }
 
-module _ (t front rest : List ℕ) (n : ℕ) (len : n ≡ marked_len RUN_BYTES t) (before : front ≡ take n t) (after : rest ≡ drop n t) where
+module _ (t front rest : List ℕ) (n : ℕ) (len : n ≡ marked_len Run t) (before : front ≡ take n t) (after : rest ≡ drop n t) where
   run_here : PassesRun t n
   run_here = subst (PassesRun t) (sym len) (run t)
 
@@ -263,17 +252,13 @@ no_character c t is none = sym (ap (λ b. opens_quotes b t) is) ∙ none
 
 -- ---- quotes
 
-stays_test : ℕ → Bool
-stays_test c = nat_le c 255 && not (is_control c || is_quote c || c == 92)
-
 record StaysInside (c : ℕ) : Type 0 where
   no_control : is_control c ≡ false
   no_quote : is_quote c ≡ false
   no_backslash : (c == 92) ≡ false
 
-marked_stays : (c : ℕ) → is_marked QUOTED_BYTES c ≡ true → StaysInside c
-unfolding stays_test
-marked_stays c h = go (nat_le c 255) (is_control c) (is_quote c) (c == 92) refl refl refl (sym (marks QUOTED_BYTES stays_test refl refl (λ c past. grind (arith, nat_tests)) c) ∙ h)
+marked_stays : (c : ℕ) → is_in Quoted c ≡ true → StaysInside c
+marked_stays c h = go (nat_le c 255) (is_control c) (is_quote c) (c == 92) refl refl refl h
   where
     go : (low control quote backslash : Bool) → is_control c ≡ control → is_quote c ≡ quote → (c == 92) ≡ backslash
         → low && not (control || quote || backslash) ≡ true → StaysInside c
@@ -291,19 +276,19 @@ no_such_quote q c quote none = go (c == q) refl
     go false e = e
     go true e = let same = eqb-true c q e in let is = subst (λ b. is_quote b ≡ false) same none in absurd (cc)
 
-stretch_run : (q : ℕ) (t : List ℕ) → is_quote q ≡ true → StaysBetween q t (drop (marked_len QUOTED_BYTES t) t)
+stretch_run : (q : ℕ) (t : List ℕ) → is_quote q ≡ true → StaysBetween q t (drop (marked_len Quoted t) t)
 stretch_run q [] quote = record { named = true; passes = passes_none (between q) [] }
-stretch_run q (c ∷ t) quote = go (is_marked QUOTED_BYTES c) refl (stretch_run q t quote)
+stretch_run q (c ∷ t) quote = go (is_in Quoted c) refl (stretch_run q t quote)
   where
-    go : (b : Bool) → is_marked QUOTED_BYTES c ≡ b → StaysBetween q t (drop (marked_len QUOTED_BYTES t) t)
-        → StaysBetween q (c ∷ t) (drop (cond b (suc (marked_len QUOTED_BYTES t)) 0) (c ∷ t))
+    go : (b : Bool) → is_in Quoted c ≡ b → StaysBetween q t (drop (marked_len Quoted t) t)
+        → StaysBetween q (c ∷ t) (drop (cond b (suc (marked_len Quoted t)) 0) (c ∷ t))
     go false is more = record { named = true; passes = passes_none (between q) (c ∷ t) }
     go true is more =
         let stays = marked_stays c is in
         let step : place_after (between q) c t ≡ Some (between q) = rw (stays.no_control, no_such_quote q c quote stays.no_quote, stays.no_backslash) refl in
         record { named = _; passes = passes_then (pass_byte (between q) c t (between q) step) more.passes }
 
-pub stretches_are_passed : (q : ℕ) (t rest : List ℕ) (n : ℕ) → is_quote q ≡ true → n ≡ marked_len QUOTED_BYTES t → rest ≡ drop n t → StaysBetween q t rest
+pub stretches_are_passed : (q : ℕ) (t rest : List ℕ) (n : ℕ) → is_quote q ≡ true → n ≡ marked_len Quoted t → rest ≡ drop n t → StaysBetween q t rest
 stretches_are_passed q t rest n quote len is = rw (is, len) (stretch_run q t quote)
 
 -- a byte between quotes that isn't the closing one: itself, or a backslash and what it takes
@@ -470,7 +455,7 @@ no_address_starts t u c first is none = not_started t (ap is_started first ∙ r
 pub no_bracket_starts : (t u : List ℕ) (c : ℕ) → t ≡ c ∷ u → c ≢ 40 → c ≢ 91 → Passes beginning t outside t true
 no_bracket_starts t u c first no_parenthesis no_bracket = not_started t (ap is_started first ∙ rw (differ c 40 no_parenthesis, differ c 91 no_bracket) refl)
 
--- bytes that the table marks stay at such a place
+-- bytes of a class stay at such a place
 record PassesSome (place : Place) (t rest : List ℕ) : Type 0 where
   pub named : Bool
   pub passes : Passes place t place rest named
@@ -484,15 +469,13 @@ module _ (place : Place) (is : ℕ → Bool) (stays : (c : ℕ) (t : List ℕ) �
       go true e more = record { named = _; passes = passes_then (pass_byte place c t place (stays c t e)) more.passes }
       go false e more = record { named = true; passes = passes_none place (c ∷ t) }
 
-past_marked : (table : List ℕ) (is : ℕ → Bool) → ((c : ℕ) → is_marked table c ≡ is c) → (t : List ℕ) → drop (marked_len table t) t ≡ past is t
-past_marked table is marked [] = refl
-past_marked table is marked (c ∷ t) = go (is_marked table c) (is c) (marked c) (past_marked table is marked t)
+past_marked : (set : ByteClass) (t : List ℕ) → drop (marked_len set t) t ≡ past (is_in set) t
+past_marked set [] = refl
+past_marked set (c ∷ t) = go (is_in set c) (past_marked set t)
   where
-    go : (a b : Bool) → a ≡ b → drop (marked_len table t) t ≡ past is t → drop (cond a (suc (marked_len table t)) 0) (c ∷ t) ≡ cond b (past is t) (c ∷ t)
-    go true true e more = more
-    go false false e more = refl
-    go true false e more = absurd (cc)
-    go false true e more = absurd (cc)
+    go : (b : Bool) → drop (marked_len set t) t ≡ past (is_in set) t → drop (cond b (suc (marked_len set t)) 0) (c ∷ t) ≡ cond b (past (is_in set) t) (c ∷ t)
+    go true more = more
+    go false more = refl
 
 -- no start is where no name could begin
 pub no_word_without_name : (t : List ℕ) → begins_name t ≡ false → is_word_closed t ≡ false
@@ -508,26 +491,11 @@ no_address_without_name [] h = refl
 no_address_without_name (c ∷ t) h = ap (λ b. b && is_port (past is_name_byte t)) h
 
 -- what is looked at after an apostrophe
-continuations_are_marked : (c : ℕ) → is_marked CONTINUATION_BYTES c ≡ is_continuation c
-continuations_are_marked c = marks CONTINUATION_BYTES is_continuation refl refl (λ c past. grind (arith, nat_tests)) c
+pub continuations_are_past : (t rest : List ℕ) (n : ℕ) → n ≡ marked_len Continuation t → rest ≡ drop n t → rest ≡ past is_continuation t
+continuations_are_past t rest n len is = is ∙ ap (λ k. drop k t) len ∙ past_marked Continuation t
 
-pub continuations_are_past : (t rest : List ℕ) (n : ℕ) → n ≡ marked_len CONTINUATION_BYTES t → rest ≡ drop n t → rest ≡ past is_continuation t
-continuations_are_past t rest n len is = is ∙ ap (λ k. drop k t) len ∙ past_marked CONTINUATION_BYTES is_continuation continuations_are_marked t
-
-escape_bytes_are_marked : (c : ℕ) → is_marked ESCAPE_BYTES c ≡ is_escape_byte c
-escape_bytes_are_marked c = marks ESCAPE_BYTES is_escape_byte refl refl (λ c past. grind (arith, nat_tests)) c
-
-pub escape_is_past : (t rest : List ℕ) (n : ℕ) → n ≡ marked_len ESCAPE_BYTES t → rest ≡ drop n t → rest ≡ past is_escape_byte t
-escape_is_past t rest n len is = is ∙ ap (λ k. drop k t) len ∙ past_marked ESCAPE_BYTES is_escape_byte escape_bytes_are_marked t
-
-debug_bytes_are_marked : (c : ℕ) → is_marked DEBUG_BYTES c ≡ is_debug_byte c
-debug_bytes_are_marked c = marks DEBUG_BYTES is_debug_byte refl refl (λ c past. grind (arith, nat_tests)) c
-
-name_bytes_are_marked : (c : ℕ) → is_marked NAME_BYTES c ≡ is_name_byte c
-name_bytes_are_marked c = marks NAME_BYTES is_name_byte refl refl (λ c past. grind (arith, nat_tests)) c
-
-pub name_bytes_are_marked_so : (c : ℕ) → (slice_index_or NAME_BYTES c 0 == 119) ≡ is_name_byte c
-name_bytes_are_marked_so c = name_bytes_are_marked c
+pub escape_is_past : (t rest : List ℕ) (n : ℕ) → n ≡ marked_len Escape t → rest ≡ drop n t → rest ≡ past is_escape_byte t
+escape_is_past t rest n len is = is ∙ ap (λ k. drop k t) len ∙ past_marked Escape t
 
 word_stays : (c : ℕ) (t : List ℕ) → is_debug_byte c ≡ true → place_after in_word c t ≡ Some in_word
 word_stays c t h = let other : (c == 41) ≡ false = grind (arith, nat_tests) in rw (h, other) refl
@@ -539,24 +507,24 @@ address_stays c t h = let other : (c == 93) ≡ false = go (c == 93) refl in rw 
     go false e = e
     go true e = let none = subst (λ b. is_name_byte b ≡ true) (eqb-true c 93 e) h in absurd (cc)
 
--- the first byte is marked exactly if some are
-first_marked : (table : List ℕ) (c : ℕ) (t : List ℕ) (none : Bool) → (marked_len table (c ∷ t) == 0) ≡ none → is_marked table c ≡ not none
-first_marked table c t none h = go (is_marked table c) refl h
+-- the first byte is of the class if and only if some are
+first_marked : (set : ByteClass) (c : ℕ) (t : List ℕ) (none : Bool) → (marked_len set (c ∷ t) == 0) ≡ none → is_in set c ≡ not none
+first_marked set c t none h = go (is_in set c) refl h
   where
-    go : (b : Bool) → is_marked table c ≡ b → (cond b (suc (marked_len table t)) 0 == 0) ≡ none → is_marked table c ≡ not none
-    go true e k = let some : (suc (marked_len table t) == 0) ≡ false = grind (arith, nat_tests) in e ∙ sym (ap not (sym k ∙ some))
+    go : (b : Bool) → is_in set c ≡ b → (cond b (suc (marked_len set t)) 0 == 0) ≡ none → is_in set c ≡ not none
+    go true e k = let some : (suc (marked_len set t) == 0) ≡ false = grind (arith, nat_tests) in e ∙ sym (ap not (sym k ∙ some))
     go false e k = e ∙ sym (ap not (sym k))
 
-module _ (t after : List ℕ) (n : ℕ) (len : n ≡ marked_len DEBUG_BYTES t) (back : after ≡ drop n t) where
+module _ (t after : List ℕ) (n : ℕ) (len : n ≡ marked_len Word t) (back : after ≡ drop n t) where
   word_past : after ≡ past is_debug_byte t
-  word_past = back ∙ ap (λ k. drop k t) len ∙ past_marked DEBUG_BYTES is_debug_byte debug_bytes_are_marked t
+  word_past = back ∙ ap (λ k. drop k t) len ∙ past_marked Word t
 
   pub no_word_here : (n == 0) ≡ true → is_word_closed t ≡ false
   no_word_here none = go t (ap (λ k. k == 0) (sym len) ∙ none)
     where
-      go : (t : List ℕ) → (marked_len DEBUG_BYTES t == 0) ≡ true → is_word_closed t ≡ false
+      go : (t : List ℕ) → (marked_len Word t == 0) ≡ true → is_word_closed t ≡ false
       go [] e = refl
-      go (c ∷ u) e = rw (sym (debug_bytes_are_marked c) ∙ first_marked DEBUG_BYTES c u true e) refl
+      go (c ∷ u) e = rw (first_marked Word c u true e) refl
 
   pub word_unclosed : strip (codes ")") after ≡ None → is_word_closed t ≡ false
   word_unclosed none = word_by_end t (ap (begins_with 41) (sym word_past) ∙ go after none)
@@ -575,10 +543,10 @@ module _ (t after : List ℕ) (n : ℕ) (len : n ≡ marked_len DEBUG_BYTES t) (
       all : past is_debug_byte t ≡ 41 ∷ rest
       all = sym word_past ∙ strip_found (codes ")") after rest closes
 
-      go : (t : List ℕ) → (marked_len DEBUG_BYTES t == 0) ≡ false → past is_debug_byte t ≡ 41 ∷ rest → is_word_closed t ≡ true
+      go : (t : List ℕ) → (marked_len Word t == 0) ≡ false → past is_debug_byte t ≡ 41 ∷ rest → is_word_closed t ≡ true
       go [] e is = absurd (cc)
       go (c ∷ u) e is =
-          let word : is_debug_byte c ≡ true = sym (debug_bytes_are_marked c) ∙ first_marked DEBUG_BYTES c u false e in
+          let word : is_debug_byte c ≡ true = first_marked Word c u false e in
           let later : past is_debug_byte u ≡ 41 ∷ rest = sym (ap (λ b. cond b (past is_debug_byte u) (c ∷ u)) word) ∙ is in
           rw (word, ap (begins_with 41) later) refl
 
@@ -591,16 +559,16 @@ module _ (t after : List ℕ) (n : ℕ) (len : n ≡ marked_len DEBUG_BYTES t) (
       end : Passes in_word (past is_debug_byte t) outside rest false
       end = subst (λ u. Passes in_word u outside rest false) (sym all) (pass_byte in_word 41 rest outside refl)
 
-module _ (t after : List ℕ) (n : ℕ) (len : n ≡ marked_len NAME_BYTES t) (back : after ≡ drop n t) where
+module _ (t after : List ℕ) (n : ℕ) (len : n ≡ marked_len Name t) (back : after ≡ drop n t) where
   address_past : after ≡ past is_name_byte t
-  address_past = back ∙ ap (λ k. drop k t) len ∙ past_marked NAME_BYTES is_name_byte name_bytes_are_marked t
+  address_past = back ∙ ap (λ k. drop k t) len ∙ past_marked Name t
 
   pub no_address_here : (n == 0) ≡ true → is_address_closed t ≡ false
   no_address_here none = go t (ap (λ k. k == 0) (sym len) ∙ none)
     where
-      go : (t : List ℕ) → (marked_len NAME_BYTES t == 0) ≡ true → is_address_closed t ≡ false
+      go : (t : List ℕ) → (marked_len Name t == 0) ≡ true → is_address_closed t ≡ false
       go [] e = refl
-      go (c ∷ u) e = rw (sym (name_bytes_are_marked c) ∙ first_marked NAME_BYTES c u true e) refl
+      go (c ∷ u) e = rw (first_marked Name c u true e) refl
 
   unclosed : is_port after ≡ false → is_address_closed t ≡ false
   unclosed none = address_by_port t (ap is_port (sym address_past) ∙ none)
@@ -646,10 +614,10 @@ module _ (t after : List ℕ) (n : ℕ) (len : n ≡ marked_len NAME_BYTES t) (b
         port : is_port (past is_name_byte t) ≡ true
         port = ap is_port all ∙ ap (λ v. is_port (93 ∷ 58 ∷ v)) first ∙ plain
 
-        go : (t : List ℕ) → (marked_len NAME_BYTES t == 0) ≡ false → is_port (past is_name_byte t) ≡ true → is_address_closed t ≡ true
+        go : (t : List ℕ) → (marked_len Name t == 0) ≡ false → is_port (past is_name_byte t) ≡ true → is_address_closed t ≡ true
         go [] e is = absurd (cc)
         go (c ∷ v) e is =
-            let name : is_name_byte c ≡ true = sym (name_bytes_are_marked c) ∙ first_marked NAME_BYTES c v false e in
+            let name : is_name_byte c ≡ true = first_marked Name c v false e in
             let later : is_port (past is_name_byte v) ≡ true = sym (ap (λ b. is_port (cond b (past is_name_byte v) (c ∷ v))) name) ∙ is in
             rw (name, later) refl
 

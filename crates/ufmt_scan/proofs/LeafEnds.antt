@@ -1,19 +1,14 @@
 -- Where a leaf of a debug document ends, and its last byte.
 use Rattle.std.proofs.Common.{◌≡◌, refl, ap, sym, subst, ◌∙◌, ℕ, ◌==◌, ◌&&◌, ◌||◌, not, nat_le, Bool, true, false, List, [], ◌∷◌, ◌++◌, length, None, arith}
-use Rattle.std.specs.Prelude.{◌-◌, slice_index_or}
-use Rattle.std.proofs.lemmas.Bool.Decides.{nat_tests}
+use Rattle.std.specs.Prelude.{◌-◌}
 use Rattle.ufmt_grammar.specs.Leaves.{place_outside, begins_with, is_in_word, is_spaced, is_quote, is_debug_byte, ends_in_colon}
-use Rattle.ufmt_scan.specs.Private.Fronts.{EndsAt, is_ending}
-use Rattle.ufmt_scan.specs.declared.debug_leaf.TheConstants.{LEAF_BYTES}
-use Rattle.ufmt_scan.proofs.WordBytes.{marks_with}
+use Rattle.ufmt_grammar.specs.Bytes.{is_ending}
+use Rattle.ufmt_scan.specs.Private.Fronts.{EndsAt}
 use Rattle.ufmt_scan.proofs.DebugFronts.{NoneNext, other_stops}
 
 pub nothing_stops : (t : List ℕ) → length t ≡ 0 → NoneNext t
 nothing_stops [] h = tt
 nothing_stops (c ∷ t) h = absurd (omega (arith, h))
-
-pub endings_are_marked : (c : ℕ) → (slice_index_or LEAF_BYTES c 0 == 101) ≡ is_ending c
-endings_are_marked c = marks_with 101 LEAF_BYTES is_ending refl refl refl (λ c past. grind (arith, nat_tests)) c
 
 -- such a byte is in no word, opens no quotes and no `()`
 ending_is : (c : ℕ) (t : List ℕ) → is_ending c ≡ true → (place_outside c t ≡ None) × (is_quote c ≡ false)

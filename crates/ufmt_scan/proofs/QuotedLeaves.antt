@@ -11,8 +11,9 @@ use Rattle.std.proofs.lemmas.List.{take-append-drop}
 use Rattle.std.proofs.lemmas.Str.Ascii.{IsAscii-cons, IsAscii-nil}
 use Rattle.ufmt_grammar.specs.Reading.{strip}
 use Rattle.ufmt_grammar.proofs.Parsing.{strip_found}
-use Rattle.ufmt_scan.specs.Private.MarkedBytes.{is_marked, marked_len}
-use Rattle.ufmt_scan.specs.declared.quoted.TheConstants.{PLAIN_ASCII}
+use Rattle.ufmt_scan.specs.Private.MarkedBytes.{marked_len}
+use Rattle.ufmt_grammar.specs.Bytes.{is_unescaped}
+use Rattle.ufmt_grammar.specs.declared.bytes.ByteClass.TheVariants.{Unescaped}
 use Rattle.ufmt_core.specs.Quoted.{IsQuote, IsQuoted, escape, escaped, escaped_all, escaped_byte, escaped_bytes, quoted}
 use Rattle.ufmt_grammar.specs.ReadingQuoted.{read_quoted}
 use Rattle.ufmt_grammar.proofs.QuotedComplete.{length-escaped_bytes, quoted-bytes, read_quoted-complete}
@@ -21,7 +22,6 @@ use Rattle.ufmt_grammar.proofs.QuotedUtf8.{quoted-utf8}
 use Rattle.ufmt_scan.specs.Private.Spelled.{Closes, IsOneCharacter, NeverCloses}
 use Rattle.ufmt_scan.proofs.Characters.{Written, ascii, past_ascii, length-led, is_written}
 use Rattle.ufmt_scan.proofs.Spelled.{quote_ends, same_bytes, spelled_once}
-use Rattle.ufmt_scan.proofs.WordBytes.{marks}
 
 -- a leaf in quotes at the front of a text
 pub record Quotes (t : List ℕ) : Type 0 where
@@ -156,35 +156,35 @@ module _ (leaf inside : List ℕ) (x : ℕ) (opens : leaf ≡ x ∷ inside) wher
       go [] scalars whole = refl
       go (c ∷ cs) scalars whole = absurd (ends (lead c).0 ((lead c).1 ++ (escaped_all 39 cs ++ (39 ∷ []))) (led c cs whole))
 
--- marked bytes are ASCII, and each is written as itself
+-- unescaped bytes are ASCII, and each is written as itself
 abbrev IsPlain : List ℕ → ℕ → Type 0
 IsPlain t n = (escaped_bytes 34 (take n t) ≡ take n t) × IsAscii (take n t)
 
-plain_front : (t : List ℕ) → IsPlain t (marked_len PLAIN_ASCII t)
+plain_front : (t : List ℕ) → IsPlain t (marked_len Unescaped t)
 plain_front [] = (refl, IsAscii-nil)
-plain_front (c ∷ t) = go (is_marked PLAIN_ASCII c) (marks PLAIN_ASCII (λ n. is_none (escape 34 n) && nat_lt n 128) refl refl (λ c past. grind (arith, nat_tests)) c) (plain_front t)
+plain_front (c ∷ t) = go (is_unescaped c) refl (plain_front t)
   where
-    go : (b : Bool) → b ≡ (is_none (escape 34 c) && nat_lt c 128) → IsPlain t (marked_len PLAIN_ASCII t) → IsPlain (c ∷ t) (cond b (suc (marked_len PLAIN_ASCII t)) 0)
+    go : (b : Bool) → b ≡ (is_none (escape 34 c) && nat_lt c 128) → IsPlain t (marked_len Unescaped t) → IsPlain (c ∷ t) (cond b (suc (marked_len Unescaped t)) 0)
     go true is more =
         let itself : escape 34 c ≡ None = grind (arith, nat_tests) in
-        (rw itself (ap (λ v. c ∷ v) more.0), IsAscii-cons c (take (marked_len PLAIN_ASCII t) t) (grind (arith, nat_tests)) more.1)
+        (rw itself (ap (λ v. c ∷ v) more.0), IsAscii-cons c (take (marked_len Unescaped t) t) (grind (arith, nat_tests)) more.1)
     go false is more = (refl, IsAscii-nil)
 
--- so marked bytes between quotation marks are a leaf
-module _ (t u end rest leaf : List ℕ) (opening : Some u ≡ strip (34 ∷ []) t) (past : end ≡ drop (marked_len PLAIN_ASCII u) u) (closing : Some rest ≡ strip (34 ∷ []) end)
+-- so unescaped bytes between quotation marks are a leaf
+module _ (t u end rest leaf : List ℕ) (opening : Some u ≡ strip (34 ∷ []) t) (past : end ≡ drop (marked_len Unescaped u) u) (closing : Some rest ≡ strip (34 ∷ []) end)
     (front : leaf ≡ take (length t - length rest) t) where
   opens : t ≡ 34 ∷ u
   opens = strip_found (34 ∷ []) t u (sym opening)
 
   abbrev closes : Closes 34 u rest
   closes =
-      let stretch = take (marked_len PLAIN_ASCII u) u in
-      let ends : u ≡ stretch ++ (34 ∷ rest) = sym (take-append-drop (marked_len PLAIN_ASCII u) u) ∙ ap (λ v. stretch ++ v) (sym past ∙ strip_found (34 ∷ []) end rest (sym closing)) in
+      let stretch = take (marked_len Unescaped u) u in
+      let ends : u ≡ stretch ++ (34 ∷ rest) = sym (take-append-drop (marked_len Unescaped u) u) ∙ ap (λ v. stretch ++ v) (sym past ∙ strip_found (34 ∷ []) end rest (sym closing)) in
       record { is_quote = inl refl; bytes = stretch; is = ends ∙ ap (λ v. v ++ (34 ∷ rest)) (sym (plain_front u).0) }
 
   pub plain_ascii : IsAscii leaf
   plain_ascii = subst IsAscii (sym (leaf_is t u 34 opens rest closes leaf front ∙ ap (λ v. 34 ∷ (v ++ (34 ∷ []))) (plain_front u).0))
-      (IsAscii-cons 34 _ (omega arith) (IsAscii-append (take (marked_len PLAIN_ASCII u) u) (34 ∷ []) (plain_front u).1 (IsAscii-cons 34 [] (omega arith) IsAscii-nil)))
+      (IsAscii-cons 34 _ (omega arith) (IsAscii-append (take (marked_len Unescaped u) u) (34 ∷ []) (plain_front u).1 (IsAscii-cons 34 [] (omega arith) IsAscii-nil)))
 
   pub plain_read : (text : List ℕ) → text ≡ leaf → read_quoted t ≡ Some (text, rest)
   plain_read text same = sym (is_read t u 34 opens rest closes leaf front text same (IsUtf8-from_ascii leaf plain_ascii) (λ no. absurd (omega (arith, no))))

@@ -1,11 +1,11 @@
 -- A sink that lays out the events of a document writes the document's other text.
-use Rattle.std.proofs.Common.{◌≡◌, ◌∙◌, sym, subst, ℕ, Bool, true, false, List, [], ◌∷◌, ◌++◌, append-nil, Result, Ok, Err, arith}
-use Rattle.std.specs.Borrow.{MutBor}
+use Rattle.std.proofs.Common.{◌≡◌, ◌∙◌, refl, ap, sym, subst, ℕ, Bool, true, false, List, [], ◌∷◌, ◌++◌, append-nil, Result, Ok, Err, arith}
 use Rattle.std.specs.Prelude.{⊤}
 use Rattle.ufmt_core.specs.Document.{Document}
 use Rattle.ufmt_core.specs.Layout.{layout, setting}
 use Rattle.ufmt_core.specs.declared.layout.Mode.{Mode}
 use Rattle.ufmt_core.specs.declared.layout.Mode.TheVariants.{Plain, Pretty}
+use Rattle.ufmt_core.specs.declared.layout.Setting.{Setting}
 use Rattle.ufmt_grammar.specs.declared.class.Class.{Class}
 use Rattle.ufmt_grammar.specs.Token.{IsDocument, normal}
 use Rattle.ufmt_core.specs.Writes.{Seen, Writes}
@@ -15,7 +15,7 @@ use Rattle.ufmt_core.proofs.Writing.{Writes-fails, Writes-then}
 use Rattle.ufmt_scan.specs.declared.convert.text_sink.TextSink.{TextSink}
 use Rattle.ufmt_scan.specs.declared.scan.event.ScanError.TheVariants.{NotText, Sink}
 use Rattle.ufmt_scan.specs.Private.TextSink.{Wrote}
-use Rattle.ufmt_scan.specs.Scan.{TextEvent, TakesEvent, Scans, events_of, ScanError}
+use Rattle.ufmt_scan.specs.Scan.{TextEvent, TakesEvent, Scans, events_of, ScanError, Leaf, Empty, OnlyDots, Open, FieldName, Colon, Next, Close, Dots}
 use Rattle.ufmt_scan.specs.ScanTexts.{written, setting_after, texts_written}
 use Rattle.ufmt_scan.specs.Texts.{ConvertsTo, IsConverted, IsNormalForm}
 use Rattle.ufmt_scan.proofs.EventTexts.{last_setting-append, texts_written-append, events_written}
@@ -43,11 +43,23 @@ module _ (class : Class) (from to : Mode) (input : List ℕ) where
         λ text other. whole ∙ other.each d form.0 form.2,
       )
 
-module _ {W : Type 0} {p : ℕ} (seen : Seen W) where
+-- an event leaves the mode as it is
+mode_stays : (to : Mode) (k : ℕ) (e : TextEvent) → setting to (setting_after (setting to k) e).depth ≡ setting_after (setting to k) e
+mode_stays to k (Leaf text) = refl
+mode_stays to k (Empty kind) = refl
+mode_stays to k (OnlyDots name) = refl
+mode_stays to k (Open kind name) = refl
+mode_stays to k (FieldName text) = refl
+mode_stays to k Colon = refl
+mode_stays to k Next = refl
+mode_stays to k (Close kind count) = refl
+mode_stays to k Dots = refl
+
+module _ {W M : Type 0} (seen : Seen W) (to : Mode) where
   -- a sink that wrote events and then one more wrote them all
-  event_after : (start old new : TextSink W p) (es : List TextEvent) (e : TextEvent) (ok : Bool) → Wrote seen true start es old
-      → Writes seen old.writer.now (written old.setting e) ok new.writer.now → new.setting ≡ setting_after old.setting e → new.writer.ghost_name ≡ old.writer.ghost_name
-      → Wrote seen ok start (es ++ e ∷ []) new
+  event_after : (start old new : TextSink W M) (es : List TextEvent) (e : TextEvent) (ok : Bool) → Wrote seen to true start es old
+      → Writes seen old.writer.now (written (setting to old.depth) e) ok new.writer.now → setting to new.depth ≡ setting_after (setting to old.depth) e
+      → new.writer.ghost_name ≡ old.writer.ghost_name → Wrote seen to ok start (es ++ e ∷ []) new
   event_after start old new es e ok before writes continues same = record {
     writes = simp (texts_written-append, sym before.continues, append-nil) (Writes-then before.writes writes);
     continues = simp (last_setting-append, sym before.continues) continues;
@@ -55,45 +67,56 @@ module _ {W : Type 0} {p : ℕ} (seen : Seen W) where
   }
 
   -- the sink takes an event as `Sink` asks
-  pub takes_event : (old new : TextSink W p) (e : TextEvent) (ok : Bool) → Writes seen old.writer.now (written old.setting e) ok new.writer.now
-      → new.setting ≡ setting_after old.setting e → new.writer.ghost_name ≡ old.writer.ghost_name → TakesEvent (Wrote seen true) (Wrote seen false) old e ok new
-  takes_event old new e true writes continues same = λ start es before. event_after start old new es e true before writes continues same
-  takes_event old new e false writes continues same = λ start es before. event_after start old new es e false before writes continues same
+  pub takes_event : (mode : Mode) → mode ≡ to → (old new : TextSink W M) (e : TextEvent) (ok : Bool) (next : Setting) → Writes seen old.writer.now (written (setting mode old.depth) e) ok new.writer.now
+      → next ≡ setting_after (setting mode old.depth) e → new.depth ≡ next.depth → new.writer.ghost_name ≡ old.writer.ghost_name → TakesEvent (Wrote seen to true) (Wrote seen to false) old e ok new
+  takes_event mode is old new e ok next writes after continues same = go ok (subst (λ m. Writes seen old.writer.now (written (setting m old.depth) e) ok new.writer.now) is writes)
+    where
+      depth_of : Setting → ℕ
+      depth_of s = s.depth
 
-  module _ (class : Class) (from to : Mode) (input : List ℕ) (writer : MutBor W) where
-    abbrev begun : TextSink W p
-    begun = record { writer = writer; setting = setting to 0 }
+      onward : setting to new.depth ≡ setting_after (setting to old.depth) e
+      onward = ap (setting to) (continues ∙ ap depth_of (subst (λ m. next ≡ setting_after (setting m old.depth) e) is after)) ∙ mode_stays to old.depth e
+
+      go : (ok : Bool) → Writes seen old.writer.now (written (setting to old.depth) e) ok new.writer.now → TakesEvent (Wrote seen to true) (Wrote seen to false) old e ok new
+      go true writes = λ start es before. event_after start old new es e true before writes onward same
+      go false writes = λ start es before. event_after start old new es e false before writes onward same
+
+  module _ (class : Class) (from : Mode) (input : List ℕ) (begun : TextSink W M) where
+    from_start : (es : List TextEvent) (ok : Bool) (new : W) → begun.depth ≡ 0 → Writes seen begun.writer.now (texts_written (setting to begun.depth) es) ok new
+        → Writes seen begun.writer.now (texts_written (setting to 0) es) ok new
+    from_start es ok new outermost h = subst (λ k. Writes seen begun.writer.now (texts_written (setting to k) es) ok new) outermost h
 
     -- what a scan with that sink does with its writer
-    pub scan_converts : {E : Type 0} (outcome : Result (⊤) (ScanError E)) (new : TextSink W p) → Scans (Wrote seen true) (Wrote seen false) class outcome begun new (layout (setting from 0)) input
-        → ConvertsTo seen class (layout (setting from 0)) (layout (setting to 0)) input writer.now outcome new.writer.now × (writer.ghost_name ≡ new.writer.ghost_name)
-    scan_converts (Ok x) new h = (
+    pub scan_converts : {E : Type 0} (outcome : Result (⊤) (ScanError E)) (new : TextSink W M) → Scans (Wrote seen to true) (Wrote seen to false) class outcome begun new (layout (setting from 0)) input
+        → begun.depth ≡ 0
+        → ConvertsTo seen class (layout (setting from 0)) (layout (setting to 0)) input begun.writer.now outcome new.writer.now × (begun.writer.ghost_name ≡ new.writer.ghost_name)
+    scan_converts (Ok x) new h start = (
       record {
         ok = λ is. (written_of to h.0, (read_is class from to input h.0 h.1).0);
         not_text = λ is. absurd (cc);
-        writes = λ text other. subst (λ t. Writes seen writer.now t true new.writer.now) ((read_is class from to input h.0 h.1).1 text other) h.2.writes;
-        lawful = (written_of to h.0, true, h.2.writes);
+        writes = λ text other. subst (λ t. Writes seen begun.writer.now t true new.writer.now) ((read_is class from to input h.0 h.1).1 text other) (from_start (events_of h.0) true new.writer.now start h.2.writes);
+        lawful = (written_of to h.0, true, from_start (events_of h.0) true new.writer.now start h.2.writes);
       },
       sym h.2.same_writer,
     )
-    scan_converts (Err NotText) new h = (
+    scan_converts (Err NotText) new h start = (
       record {
         ok = λ is. absurd (cc);
         not_text = λ is. h.2;
         writes = λ text other. absurd (h.2 other.some.0 other.some.1 other.some.2);
-        lawful = (texts_written (setting to 0) h.0, true, h.1.writes);
+        lawful = (texts_written (setting to 0) h.0, true, from_start h.0 true new.writer.now start h.1.writes);
       },
       sym h.1.same_writer,
     )
-    scan_converts (Err (Sink e)) new h = (
+    scan_converts (Err (Sink e)) new h start = (
       record {
         ok = λ is. absurd (cc);
         not_text = λ is. absurd (cc);
         writes = λ text other.
             let d = other.some.0 in
             let form : IsNormalForm class (layout (setting from 0)) input (normal d) = (IsDocument-normal class d other.some.1, normal-normal d, layout-normal (setting from 0) d ∙ other.some.2) in
-            rw (← (read_is class from to input (normal d) form).1 text other, (h.2 (normal d) form).1, texts_written-append) (Writes-fails _ h.1.writes);
-        lawful = (texts_written (setting to 0) h.0, false, h.1.writes);
+            rw (← (read_is class from to input (normal d) form).1 text other, (h.2 (normal d) form).1, texts_written-append) (Writes-fails _ (from_start h.0 false new.writer.now start h.1.writes));
+        lawful = (texts_written (setting to 0) h.0, false, from_start h.0 false new.writer.now start h.1.writes);
       },
       sym h.1.same_writer,
     )

@@ -8,14 +8,18 @@ mod growing;
 pub(crate) mod text_sink;
 
 use crate::error::ReadError;
+use crate::markers::{ModeType, PlainMode, PrettyMode};
 use crate::scan::{ScanError, scan};
 use growing::Growing;
 use std::alloc::Global;
+use std::marker::PhantomData;
 use text_sink::TextSink;
-use ufmt_core::layout::{Mode, Setting};
+use ufmt_core::layout::Mode;
 use ufmt_core::{Cursor, Full, uWrite};
 use ufmt_grammar::class::Class;
 
+// Promise (reading): A conversion accepts the texts of its class in one mode, and returns the text of the same
+// document in the other. Also: `to_pretty`, `to_plain`.
 /// Returns the text in the mode `to` of the documents of the class that have this text in the other mode.
 /// Undoes the conversion to the other mode. Fails with `NotText` only if no document of the class has
 /// this text; the other error is `OutOfMemory`.
@@ -47,6 +51,8 @@ pub fn convert_into(
     Ok(cursor.written().len())
 }
 
+// Promise (reading): A conversion into a writer whose text is known, or into a buffer, writes everything if
+// there is room, and a prefix if it fails. Also: `convert_into`.
 /// Writes the converted text to the writer, and takes no memory of its own. Fails with `NotText` only if
 /// no document of the class has this text; any other error is the writer's. Part of the converted text
 /// may have been written.
@@ -61,29 +67,27 @@ pub fn write_converted<W: uWrite>(
         writer.old result writer.new }
 {
     match to {
-        Mode::Plain => write_in::<W, false>(writer, class, Mode::Plain, text),
-        Mode::Pretty => write_in::<W, true>(writer, class, Mode::Pretty, text),
+        Mode::Plain => write_in::<W, PlainMode>(writer, class, text),
+        Mode::Pretty => write_in::<W, PrettyMode>(writer, class, text),
     }
 }
 
-// `PRETTY` says whether `to` is the pretty mode, so that it is a constant for the scanner's copy.
+// Writes the text in the mode `M`.
 #[inline(always)]
-fn write_in<W: uWrite, const PRETTY: bool>(
+fn write_in<W: uWrite, M: ModeType>(
     writer: &mut W,
     class: Class,
-    to: Mode,
     text: &[u8],
 ) -> Result<(), ScanError<W::Error>>
-    ensures { ConvertsTo W.seen class (layout (setting (other_mode to) 0)) (layout (setting to 0)) text.now
+    ensures { ConvertsTo W.seen class (layout (setting (other_mode M.mode) 0)) (layout (setting M.mode 0)) text.now
         writer.old result writer.new }
 {
-    let setting = Setting { mode: to, depth: 0 };
-    scan(
-        class,
-        other_mode(to),
-        text,
-        &mut TextSink::<_, PRETTY> { writer, setting },
-    )
+    let mut sink = TextSink::<_, M> {
+        writer,
+        depth: 0,
+        mode: PhantomData,
+    };
+    scan(class, other_mode(M::mode()), text, &mut sink)
 }
 
 /// Returns the pretty text of the token documents with this plain text, as `convert` does.

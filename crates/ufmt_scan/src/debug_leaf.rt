@@ -1,79 +1,24 @@
 //! Leaves of debug documents: words, lifetimes, texts in quotes and `()` in a row, with a word in
 //! parentheses or an address in brackets before them.
 ghost use Rattle.std.specs.Prelude.{◌≡◌, ◌<◌, ◌≤◌, ◌==◌, ◌&&◌, ◌||◌, ◌≢◌, ◌∷◌, [], ℕ, IfSome, IsTrue, MatchOption, None, false, length, nat_le, not, true};
+ghost use Rattle.ufmt_grammar.specs.Bytes.{is_ending};
 ghost use Rattle.ufmt_grammar.specs.declared.class.Class.TheVariants.{Debug};
-ghost use Rattle.ufmt_grammar.specs.Leaves.{after_quotes, beginning, begins_plain, begins_quote, begins_with, between, ends_in_colon, is_address_closed, is_character_closed, is_continuation, is_control, is_escape_byte, is_escape_closed, is_in_word, is_name_byte, is_plain_byte, is_quote, is_spaced, is_word_closed, opens_quotes, outside, past, place_outside};
-ghost use Rattle.ufmt_scan.specs.Private.Fronts.{EndsAt, EndsLeaf, IsSplit, NeverCloses, Passes, SplitsFront, StaysBetween, StopsWord, begins_name, is_ending, is_started};
+ghost use Rattle.ufmt_grammar.specs.Leaves.{after_quotes, beginning, begins_plain, begins_quote, between, ends_in_colon, is_address_closed, is_character_closed, is_continuation, is_control, is_escape_byte, is_escape_closed, is_in_word, is_name_byte, is_plain_byte, is_quote, is_spaced, is_word_closed, opens_quotes, outside, past, place_outside};
+ghost use Rattle.ufmt_scan.specs.Private.Fronts.{EndsAt, EndsLeaf, IsSplit, NeverCloses, Passes, SplitsFront, StaysBetween, StopsWord, begins_name, is_started};
 
 use crate::front::Front;
 use crate::leaf::marked_len;
 use crate::quoted::split_plain;
-use crate::strip::strip_piece;
+use crate::strip::{begins_with, strip_piece};
 use ufmt_core::ascii::text_from;
-
-// `w` marks each ASCII byte that is in a word whatever follows, and `e` each byte that no leaf has outside
-// of quotes.
-static LEAF_BYTES: [u8; 256] = *b"\
-    eeeeeeeeeeeeeeeeeeeeeeeeeeeeeeeeew.wwww..ewwewwwwwwwwwwwww.wwwww\
-    wwwwwwwwwwwwwwwwwwwwwwwwwwwe.ewwwwwwwwwwwwwwwwwwwwwwwwwwwwwewewe\
-    ................................................................\
-    ................................................................";
-
-// Marks each byte that is in a word whatever follows: no colon and no backslash.
-static WORD_BYTES: [u8; 256] = *b"\
-    .................................w.wwww...ww.wwwwwwwwwwwww.wwwww\
-    wwwwwwwwwwwwwwwwwwwwwwwwwww...wwwwwwwwwwwwwwwwwwwwwwwwwwwww.w.w.\
-    wwwwwwwwwwwwwwwwwwwwwwwwwwwwwwwwwwwwwwwwwwwwwwwwwwwwwwwwwwwwwwww\
-    wwwwwwwwwwwwwwwwwwwwwwwwwwwwwwwwwwwwwwwwwwwwwwwwwwwwwwwwwwwwwwww";
-
-// Marks each byte of a word.
-static DEBUG_BYTES: [u8; 256] = *b"\
-    .................................w.wwww...ww.wwwwwwwwwwwww.wwwww\
-    wwwwwwwwwwwwwwwwwwwwwwwwwww.w.wwwwwwwwwwwwwwwwwwwwwwwwwwwww.w.w.\
-    wwwwwwwwwwwwwwwwwwwwwwwwwwwwwwwwwwwwwwwwwwwwwwwwwwwwwwwwwwwwwwww\
-    wwwwwwwwwwwwwwwwwwwwwwwwwwwwwwwwwwwwwwwwwwwwwwwwwwwwwwwwwwwwwwww";
-
-// Marks each byte of a word that is no backslash, and a colon.
-static RUN_BYTES: [u8; 256] = *b"\
-    .................................w.wwww...ww.wwwwwwwwwwwwwwwwwww\
-    wwwwwwwwwwwwwwwwwwwwwwwwwww...wwwwwwwwwwwwwwwwwwwwwwwwwwwww.w.w.\
-    wwwwwwwwwwwwwwwwwwwwwwwwwwwwwwwwwwwwwwwwwwwwwwwwwwwwwwwwwwwwwwww\
-    wwwwwwwwwwwwwwwwwwwwwwwwwwwwwwwwwwwwwwwwwwwwwwwwwwwwwwwwwwwwwwww";
-
-// Marks each byte that a name may have: that of a word, and a colon.
-static NAME_BYTES: [u8; 256] = *b"\
-    .................................w.wwww...ww.wwwwwwwwwwwwwwwwwww\
-    wwwwwwwwwwwwwwwwwwwwwwwwwww.w.wwwwwwwwwwwwwwwwwwwwwwwwwwwww.w.w.\
-    wwwwwwwwwwwwwwwwwwwwwwwwwwwwwwwwwwwwwwwwwwwwwwwwwwwwwwwwwwwwwwww\
-    wwwwwwwwwwwwwwwwwwwwwwwwwwwwwwwwwwwwwwwwwwwwwwwwwwwwwwwwwwwwwwww";
-
-// Marks each byte that stays between quotes, whichever they are, and is no backslash.
-static QUOTED_BYTES: [u8; 256] = *b"\
-    ................................ww.wwww.wwwwwwwwwwwwwwwwwwwwwwww\
-    wwwwwwwwwwwwwwwwwwwwwwwwwwww.wwwwwwwwwwwwwwwwwwwwwwwwwwwwwwwwww.\
-    wwwwwwwwwwwwwwwwwwwwwwwwwwwwwwwwwwwwwwwwwwwwwwwwwwwwwwwwwwwwwwww\
-    wwwwwwwwwwwwwwwwwwwwwwwwwwwwwwwwwwwwwwwwwwwwwwwwwwwwwwwwwwwwwwww";
-
-// Marks each byte of a character in UTF-8 after its first.
-static CONTINUATION_BYTES: [u8; 256] = *b"\
-    ................................................................\
-    ................................................................\
-    wwwwwwwwwwwwwwwwwwwwwwwwwwwwwwwwwwwwwwwwwwwwwwwwwwwwwwwwwwwwwwww\
-    ................................................................";
-
-// Marks each byte that an escape may have after its first: letters, digits and braces.
-static ESCAPE_BYTES: [u8; 256] = *b"\
-    ................................................wwwwwwwwww......\
-    .wwwwwwwwwwwwwwwwwwwwwwwwww......wwwwwwwwwwwwwwwwwwwwwwwwwww.w..\
-    ................................................................\
-    ................................................................";
+use ufmt_grammar::bytes::ByteClass;
 
 /// The leaf, if it is a word in ASCII. It may be empty. Nothing of it is tested again.
 #[inline(always)]
 pub(crate) fn split_debug_word(input: &[u8]) -> Option<Front<'_>>
     ensures { IfSome result (λ front. IsSplit Debug input.now front) }
 {
-    let (word, rest) = input.split_at(marked_len(&LEAF_BYTES, input));
+    let (word, rest) = input.split_at(marked_len(ByteClass::PlainAscii, input));
     if ends_here(rest) && (!word.is_empty() || !is_started(rest)) {
         Some(Front {
             text: text_from(word, 0),
@@ -222,11 +167,10 @@ fn is_address_closed(input: &[u8]) -> bool
 }
 
 #[inline(always)]
-#[tactic(auto, using(crate::proofs::DebugFronts::name_bytes_are_marked_so))]
 fn is_name_byte(byte: u8) -> bool
     ensures { result ≡ is_name_byte byte }
 {
-    NAME_BYTES[byte as usize] == b'w'
+    ByteClass::Name.contains(byte)
 }
 
 #[inline(always)]
@@ -267,7 +211,7 @@ fn after_closed_word(input: &[u8]) -> Option<&[u8]>
     ensures { MatchOption result (is_word_closed input.now ≡ false)
         (λ rest. (is_word_closed input.now ≡ true) × Passes beginning (40 ∷ input.now) outside rest.now false) }
 {
-    let (word, after) = input.split_at(marked_len(&DEBUG_BYTES, input));
+    let (word, after) = input.split_at(marked_len(ByteClass::Word, input));
     if word.is_empty() {
         return None;
     }
@@ -280,7 +224,7 @@ fn after_closed_address(input: &[u8]) -> Option<&[u8]>
     ensures { MatchOption result (is_address_closed input.now ≡ false)
         (λ rest. (is_address_closed input.now ≡ true) × Passes beginning (91 ∷ input.now) outside rest.now false) }
 {
-    let (address, after) = input.split_at(marked_len(&NAME_BYTES, input));
+    let (address, after) = input.split_at(marked_len(ByteClass::Name, input));
     if address.is_empty() {
         return None;
     }
@@ -301,7 +245,7 @@ fn after_word(input: &[u8]) -> &[u8]
     ensures stops { StopsWord result.now }
     ensures within { length result.now ≤ length input.now }
 {
-    let len = marked_len(&RUN_BYTES, input);
+    let len = marked_len(ByteClass::Run, input);
     let (run, rest) = input.split_at(len);
     if ends_in_colon(run) && is_spaced(rest) {
         input.split_at(len - 1).1
@@ -401,7 +345,7 @@ fn is_escape_closed(input: &[u8]) -> bool
 fn after_continuations(input: &[u8]) -> &[u8]
     ensures { result.now ≡ past is_continuation input.now }
 {
-    input.split_at(marked_len(&CONTINUATION_BYTES, input)).1
+    input.split_at(marked_len(ByteClass::Continuation, input)).1
 }
 
 #[inline(always)]
@@ -409,7 +353,7 @@ fn after_continuations(input: &[u8]) -> &[u8]
 fn after_escape(input: &[u8]) -> &[u8]
     ensures { result.now ≡ past is_escape_byte input.now }
 {
-    input.split_at(marked_len(&ESCAPE_BYTES, input)).1
+    input.split_at(marked_len(ByteClass::Escape, input)).1
 }
 
 #[inline(always)]
@@ -445,7 +389,7 @@ fn after_stretch(input: &[u8]) -> &[u8]
     ensures passes { (quote : ℕ) → is_quote quote ≡ true → StaysBetween quote input.now result.now }
     ensures within { length result.now ≤ length input.now }
 {
-    input.split_at(marked_len(&QUOTED_BYTES, input)).1
+    input.split_at(marked_len(ByteClass::Quoted, input)).1
 }
 
 // What follows a byte between quotes that is not the closing one. A backslash takes a byte with it.
@@ -495,16 +439,6 @@ fn begins_quote(input: &[u8]) -> bool
 }
 
 #[inline(always)]
-fn begins_with(byte: u8, input: &[u8]) -> bool
-    ensures { result ≡ begins_with byte input.now }
-{
-    match input.split_first() {
-        Some((&first, _)) => first == byte,
-        None => false,
-    }
-}
-
-#[inline(always)]
 #[tactic(auto, using(crate::proofs::LeafEnds::last_is_colon, crate::proofs::LeafEnds::no_last_colon))]
 fn ends_in_colon(text: &[u8]) -> bool
     ensures { result ≡ ends_in_colon text.now }
@@ -532,17 +466,15 @@ fn is_control(byte: u8) -> bool
 
 // Whether no leaf has the byte outside of quotes.
 #[inline(always)]
-#[tactic(auto, using(crate::proofs::LeafEnds::endings_are_marked))]
 fn is_ending(byte: u8) -> bool
     ensures { result ≡ is_ending byte }
 {
-    LEAF_BYTES[byte as usize] == b'e'
+    ByteClass::Ending.contains(byte)
 }
 
 #[inline(always)]
-#[tactic(auto, using(crate::proofs::DebugFronts::words_are_marked))]
 fn is_plain_byte(byte: u8) -> bool
     ensures { result ≡ is_plain_byte byte }
 {
-    WORD_BYTES[byte as usize] == b'w'
+    ByteClass::Plain.contains(byte)
 }

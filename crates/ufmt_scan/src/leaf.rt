@@ -4,19 +4,13 @@ ghost use Rattle.ufmt_grammar.specs.declared.class.Class.TheVariants.{Token};
 ghost use Rattle.ufmt_grammar.specs.Leaves.{IsDebugLeaf};
 ghost use Rattle.ufmt_grammar.specs.Token.{IsLeaf, IsName, IsSymbol, IsTokenLeaf, IsWord};
 ghost use Rattle.ufmt_grammar.specs.Reading.{after_word, read_quotes, read_symbol, word_of};
-ghost use Rattle.ufmt_scan.specs.Private.MarkedBytes.{is_marked, marked_len};
+ghost use Rattle.ufmt_scan.specs.Private.MarkedBytes.{marked_len};
 
 use crate::front::{split_front, split_name};
 use crate::quoted::{split_any, split_plain};
 use crate::strip::strip_piece;
+use ufmt_grammar::bytes::ByteClass;
 use ufmt_grammar::class::Class;
-
-// Marks each byte that a word may have: ASCII digits, ASCII letters, `_` and `-`.
-static WORD_BYTES: [u8; 256] = *b"\
-    .............................................w..wwwwwwwwww......\
-    .wwwwwwwwwwwwwwwwwwwwwwwwww....w.wwwwwwwwwwwwwwwwwwwwwwwwww.....\
-    ................................................................\
-    ................................................................";
 
 /// The word bytes at the front, and what follows them.
 #[inline(always)]
@@ -25,69 +19,62 @@ pub(crate) fn split_word(input: &[u8]) -> (&[u8], &[u8])
     ensures word { result.0.now ≡ word_of input.now }
     ensures rest { result.1.now ≡ after_word input.now }
 {
-    input.split_at(marked_len(&WORD_BYTES, input))
+    input.split_at(marked_len(ByteClass::TokenWord, input))
 }
 
-/// How many bytes at the front the table marks with a `w`.
-pub(crate) fn marked_len(table: &[u8; 256], input: &[u8]) -> usize
-    ensures len { result ≡ marked_len table.now input.now }
+/// How many bytes at the front are of the class.
+pub(crate) fn marked_len(class: ByteClass, input: &[u8]) -> usize
+    ensures len { result ≡ marked_len class input.now }
     ensures within { result ≤ length input.now }
 {
     // Eight bytes a turn, so that the length is compared once for eight bytes.
     let mut end = 0;
     'eights: while input.len() - end >= 8 {
-        if !is_marked(table, input[end]) {
+        if !class.contains(input[end]) {
             return end;
         }
-        if !is_marked(table, input[end + 1]) {
+        if !class.contains(input[end + 1]) {
             return end + 1;
         }
-        if !is_marked(table, input[end + 2]) {
+        if !class.contains(input[end + 2]) {
             return end + 2;
         }
-        if !is_marked(table, input[end + 3]) {
+        if !class.contains(input[end + 3]) {
             return end + 3;
         }
-        if !is_marked(table, input[end + 4]) {
+        if !class.contains(input[end + 4]) {
             return end + 4;
         }
-        if !is_marked(table, input[end + 5]) {
+        if !class.contains(input[end + 5]) {
             return end + 5;
         }
-        if !is_marked(table, input[end + 6]) {
+        if !class.contains(input[end + 6]) {
             return end + 6;
         }
-        if !is_marked(table, input[end + 7]) {
+        if !class.contains(input[end + 7]) {
             return end + 7;
         }
         end += 8;
     }
-    marked_len_from(table, input, end)
+    marked_len_from(class, input, end)
 }
 
-// The same, if the bytes before `start` are marked.
-fn marked_len_from(table: &[u8; 256], input: &[u8], start: usize) -> usize
+// The same, if the bytes before `start` are of the class.
+fn marked_len_from(class: ByteClass, input: &[u8], start: usize) -> usize
     requires within { start ≤ length input.now }
-    requires marked { marked_len table.now input.now
-        ≡ start + marked_len table.now (drop start input.now) }
-    ensures len { result ≡ marked_len table.now input.now }
+    requires marked { marked_len class input.now
+        ≡ start + marked_len class (drop start input.now) }
+    ensures len { result ≡ marked_len class input.now }
     ensures within { result ≤ length input.now }
 {
     let mut end = start;
     'bytes: while end < input.len() {
-        if !is_marked(table, input[end]) {
+        if !class.contains(input[end]) {
             return end;
         }
         end += 1;
     }
     end
-}
-
-#[inline(always)]
-fn is_marked(table: &[u8; 256], byte: u8) -> bool
-    ensures { result ≡ is_marked table.now byte }
-{
-    table[byte as usize] == b'w'
 }
 
 /// A leaf in quotes at the front of a text, and what follows it. In a debug document it is a front.
@@ -139,6 +126,8 @@ pub fn is_symbol(text: &str) -> bool
     }
 }
 
+// Promise (reading): Each test of a leaf or a name is true for the leaves or the names of its class, and for
+// nothing else. Also: `is_name_of`, `is_leaf`, `is_word`, `is_symbol`.
 /// Returns whether a text is a leaf of documents of the class.
 pub fn is_leaf_of(class: Class, text: &str) -> bool
     ensures { IsTrue result ↔ IsLeaf class text.now }

@@ -10,6 +10,7 @@ mod front;
 pub mod laws;
 pub mod leaf;
 mod level;
+mod markers;
 mod place;
 pub mod quoted;
 pub mod scan;

@@ -11,6 +11,8 @@ use std::convert::Infallible;
 use ufmt_core::layout::{Mode, Setting};
 use ufmt_grammar::class::Class;
 
+// Promise (reading): `valid_up_to` never exceeds the length of the input. For the text of a document it is the
+// end of that text, also when a text that may follow comes after it.
 /// Returns how many bytes at the front were read before the piece that doesn't fit, or all of them if some
 /// document of this class has this text in this mode. A piece is a leaf, or what one event of `scan` has
 /// around leaves. A text that is only cut may be read to its end. Takes no memory.

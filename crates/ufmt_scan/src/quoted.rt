@@ -12,22 +12,16 @@ use crate::leaf::marked_len;
 use crate::strip::{strip_byte, strip_piece};
 use ufmt_core::ascii::text_from;
 use ufmt_core::quoted::{escape, unescaped_len};
+use ufmt_grammar::bytes::ByteClass;
 
-// Marks each ASCII byte that has no escape in a quoted text.
-static PLAIN_ASCII: [u8; 256] = *b"\
-    ................................ww.wwwwwwwwwwwwwwwwwwwwwwwwwwwww\
-    wwwwwwwwwwwwwwwwwwwwwwwwwwww.wwwwwwwwwwwwwwwwwwwwwwwwwwwwwwwwww.\
-    ................................................................\
-    ................................................................";
-
-/// A leaf of such bytes in quotation marks, and what follows it. It needs no test of UTF-8.
+/// A leaf in quotation marks in ASCII and without an escape, and what follows it. It needs no test of UTF-8.
 #[inline(always)]
 #[tactic(auto, using(crate::proofs::QuotedLeaves::plain_ascii))]
 pub(crate) fn split_plain(input: &[u8]) -> Option<(&str, &[u8])>
     ensures { IfSome result (λ x. read_quoted input.now ≡ Some (x.0.now, x.1.now)) }
 {
     let inside = strip_byte(b'"', input)?;
-    let (_, end) = inside.split_at(marked_len(&PLAIN_ASCII, inside));
+    let (_, end) = inside.split_at(marked_len(ByteClass::Unescaped, inside));
     let rest = strip_byte(b'"', end)?;
     let (leaf, _) = input.split_at(input.len() - rest.len());
     Some((text_from(leaf, 0), rest))

@@ -10,11 +10,14 @@ mod event;
 mod step;
 
 use crate::level::Level;
+use crate::markers::{ClassType, DebugClass, ModeType, PlainMode, PrettyMode, TokenClass};
 pub use event::{Event, ScanError, Sink};
 use step::{Stage, after_document, begin, field_name};
 use ufmt_core::layout::{Kind, Mode};
 use ufmt_grammar::class::Class;
 
+// Promise (reading): `scan` passes a lawful sink the events of the document that the text prints, or a prefix
+// of them.
 /// Emits the events of the document of this class that has this text, in the text's order. Fails
 /// with `NotText` only if no document of the class has this text; any other error is the sink's. The
 /// sink may have taken events then.
@@ -28,18 +31,10 @@ pub fn scan<S: Sink>(
         input.now }
 {
     match (class, mode) {
-        (Class::Token, Mode::Plain) => {
-            scan_in::<S, false, false>(Class::Token, Mode::Plain, input, sink)
-        }
-        (Class::Token, Mode::Pretty) => {
-            scan_in::<S, true, false>(Class::Token, Mode::Pretty, input, sink)
-        }
-        (Class::Debug, Mode::Plain) => {
-            scan_in::<S, false, true>(Class::Debug, Mode::Plain, input, sink)
-        }
-        (Class::Debug, Mode::Pretty) => {
-            scan_in::<S, true, true>(Class::Debug, Mode::Pretty, input, sink)
-        }
+        (Class::Token, Mode::Plain) => scan_in::<S, TokenClass, PlainMode>(input, sink),
+        (Class::Token, Mode::Pretty) => scan_in::<S, TokenClass, PrettyMode>(input, sink),
+        (Class::Debug, Mode::Plain) => scan_in::<S, DebugClass, PlainMode>(input, sink),
+        (Class::Debug, Mode::Pretty) => scan_in::<S, DebugClass, PrettyMode>(input, sink),
     }
 }
 
@@ -55,45 +50,31 @@ pub(crate) fn scan_front<S: Sink>(
     ensures { ScansFront S.took S.stopped class mode input.now sink.old result sink.new }
 {
     match (class, mode) {
-        (Class::Token, Mode::Plain) => {
-            scan_front_in::<S, false, false>(Class::Token, Mode::Plain, input, sink)
-        }
-        (Class::Token, Mode::Pretty) => {
-            scan_front_in::<S, true, false>(Class::Token, Mode::Pretty, input, sink)
-        }
-        (Class::Debug, Mode::Plain) => {
-            scan_front_in::<S, false, true>(Class::Debug, Mode::Plain, input, sink)
-        }
-        (Class::Debug, Mode::Pretty) => {
-            scan_front_in::<S, true, true>(Class::Debug, Mode::Pretty, input, sink)
-        }
+        (Class::Token, Mode::Plain) => scan_front_in::<S, TokenClass, PlainMode>(input, sink),
+        (Class::Token, Mode::Pretty) => scan_front_in::<S, TokenClass, PrettyMode>(input, sink),
+        (Class::Debug, Mode::Plain) => scan_front_in::<S, DebugClass, PlainMode>(input, sink),
+        (Class::Debug, Mode::Pretty) => scan_front_in::<S, DebugClass, PrettyMode>(input, sink),
     }
 }
 
-fn scan_front_in<S: Sink, const PRETTY: bool, const DEBUG: bool>(
-    class: Class,
-    mode: Mode,
+fn scan_front_in<S: Sink, C: ClassType, M: ModeType>(
     input: &[u8],
     sink: &mut S,
 ) -> Result<usize, ScanError<S::Error>>
-    ensures { ScansFront S.took S.stopped class mode input.now sink.old result sink.new }
+    ensures { ScansFront S.took S.stopped C.class M.mode input.now sink.old result sink.new }
 {
-    let rest = scan_document::<S, PRETTY, DEBUG>(class, mode, input, sink)?;
+    let rest = scan_document::<S, (C, M)>(C::class(), M::mode(), input, sink)?;
     Ok(input.len() - rest.len())
 }
 
-// `PRETTY` and `DEBUG` are never read, here and below. They make one copy per sink, mode and class,
-// in which brackets are constants.
-fn scan_in<S: Sink, const PRETTY: bool, const DEBUG: bool>(
-    class: Class,
-    mode: Mode,
+fn scan_in<S: Sink, C: ClassType, M: ModeType>(
     input: &[u8],
     sink: &mut S,
 ) -> Result<(), ScanError<S::Error>>
-    ensures { Scans S.took S.stopped class result sink.old sink.new (layout (setting mode 0))
+    ensures { Scans S.took S.stopped C.class result sink.old sink.new (layout (setting M.mode 0))
         input.now }
 {
-    if scan_document::<S, PRETTY, DEBUG>(class, mode, input, sink)?.is_empty() {
+    if scan_document::<S, (C, M)>(C::class(), M::mode(), input, sink)?.is_empty() {
         Ok(())
     } else {
         Err(ScanError::NotText)
@@ -108,9 +89,10 @@ struct OpenBlocks {
     innermost: Stage,
 }
 
-// Emits the events of the document at the front of the input, and returns what follows it.
+// Emits the events of the document at the front of the input, and returns what follows it. `K` names the
+// copy of the code, here and below: there is one per sink, mode and class, in which brackets are constants.
 #[inline(always)]
-fn scan_document<'a, S: Sink, const PRETTY: bool, const DEBUG: bool>(
+fn scan_document<'a, S: Sink, K>(
     class: Class,
     mode: Mode,
     input: &'a [u8],
@@ -126,9 +108,9 @@ fn scan_document<'a, S: Sink, const PRETTY: bool, const DEBUG: bool>(
     };
     let mut rest = input;
     'documents: loop {
-        let begun = name_field::<S, PRETTY, DEBUG>(blocks, class, mode, rest, sink)?;
+        let begun = name_field::<S, K>(blocks, class, mode, rest, sink)?;
         let open_blocks = blocks.count;
-        let (opened, after) = begin::<S, PRETTY, DEBUG>(
+        let (opened, after) = begin::<S, K>(
             Level {
                 class,
                 mode,
@@ -147,9 +129,7 @@ fn scan_document<'a, S: Sink, const PRETTY: bool, const DEBUG: bool>(
             blocks = OpenBlocks { count, innermost };
             continue 'documents;
         }
-        let (left, after) = end_entries::<S, PRETTY, DEBUG>(
-            blocks, &outer, class, mode, rest, sink,
-        )?;
+        let (left, after) = end_entries::<S, K>(blocks, &outer, class, mode, rest, sink)?;
         blocks = left;
         rest = after;
         if blocks.count == 0 {
@@ -169,12 +149,12 @@ pub(crate) fn scan_once<'a, S: Sink>(
     ensures { ScansOn S.took S.stopped result sink.old sink.new
         (parse_map events_of (read class (setting mode 0) 255 input.now)) (λ rest. Some ([], rest.now)) }
 {
-    scan_document::<S, false, false>(class, mode, input, sink)
+    scan_document::<S, ()>(class, mode, input, sink)
 }
 
 // Emits the name of the next field, if the innermost block is a struct.
 #[inline(always)]
-fn name_field<'a, S: Sink, const PRETTY: bool, const DEBUG: bool>(
+fn name_field<'a, S: Sink, K>(
     blocks: OpenBlocks,
     class: Class,
     mode: Mode,
@@ -189,7 +169,7 @@ fn name_field<'a, S: Sink, const PRETTY: bool, const DEBUG: bool>(
     ensures within { IfOk result (λ rest. length rest.now ≤ length input.now) }
 {
     match blocks.innermost {
-        Stage::FieldFirst | Stage::FieldLater => field_name::<S, PRETTY, DEBUG>(class, input, sink),
+        Stage::FieldFirst | Stage::FieldLater => field_name::<S, K>(class, input, sink),
         _ => Ok(input),
     }
 }
@@ -197,7 +177,7 @@ fn name_field<'a, S: Sink, const PRETTY: bool, const DEBUG: bool>(
 // Emits the events from the end of an entry to the next entry, key or value. Blocks may end there.
 // Returns the blocks that stay open, and what follows.
 #[inline(always)]
-fn end_entries<'a, S: Sink, const PRETTY: bool, const DEBUG: bool>(
+fn end_entries<'a, S: Sink, K>(
     blocks: OpenBlocks,
     outer: &[Stage; 256],
     class: Class,
@@ -218,7 +198,7 @@ fn end_entries<'a, S: Sink, const PRETTY: bool, const DEBUG: bool>(
             mode,
             open_blocks,
         };
-        let (next, after) = after_document::<S, PRETTY, DEBUG>(level, open.innermost, rest, sink)?;
+        let (next, after) = after_document::<S, K>(level, open.innermost, rest, sink)?;
         rest = after;
         if let Some(innermost) = next {
             let count = open.count;

@@ -2,6 +2,7 @@
 ghost use Rattle.std.specs.Prelude.{◌≡◌, ◌≢◌, ◌∷◌, ◌++◌, [], MatchBool};
 ghost use Rattle.ufmt_core.specs.Layout.{frame, lead, line_start};
 ghost use Rattle.ufmt_core.specs.declared.layout.Count.TheVariants.{Zero};
+ghost use Rattle.ufmt_grammar.specs.Leaves.{begins_with};
 ghost use Rattle.ufmt_grammar.specs.Reading.{strip};
 ghost use Rattle.ufmt_scan.specs.Depth.{setting_in};
 ghost use Rattle.ufmt_scan.specs.Rest.{now_of};
@@ -22,6 +23,17 @@ pub fn setting_in(mode: Mode, open_blocks: u8) -> Setting
         Mode::Pretty => open_blocks,
     };
     Setting { mode, depth }
+}
+
+/// Returns whether the input begins with this byte.
+#[inline(always)]
+pub fn begins_with(byte: u8, input: &[u8]) -> bool
+    ensures { result ≡ begins_with byte input.now }
+{
+    match input.split_first() {
+        Some((&first, _)) => first == byte,
+        None => false,
+    }
 }
 
 /// Returns what follows this byte, if the input begins with it.

@@ -15,6 +15,8 @@ use std::convert::Infallible;
 use ufmt_core::layout::{Count, Mode};
 use ufmt_grammar::class::Class;
 
+// Promise (reading): `is_text` is true for the texts of its class in its mode, and for no other text. Clauses:
+// `text`, `no_text`.
 /// Returns whether some document of the class has this text in this mode. Takes no memory.
 #[inline(always)]
 pub fn is_text(class: Class, mode: Mode, text: &[u8]) -> bool

@@ -51,6 +51,8 @@ impl Line for Difference<'_> {
     }
 }
 
+// Promise (programs): Comparing two texts returns `None` if and only if they are equal. Otherwise it returns
+// the first line that differs, with a message that has this line and the text. Also: `compare_pretty`.
 /// Returns the first line in which two texts differ, or `None` if they are equal.
 pub fn first_difference<'a>(given: &'a str, stored: &'a str) -> Option<Difference<'a>>
     ensures equal { IsNone result ↔ (given.now ≡ stored.now) }

@@ -10,10 +10,10 @@ use Rattle.ufmt_core.specs.declared.layout.Mode.TheVariants.{Plain, Pretty}
 use Rattle.ufmt_grammar.specs.declared.class.Class.{Class}
 use Rattle.ufmt_grammar.proofs.ReadingSound.{read_sound}
 use Rattle.ufmt_scan.specs.Fronts.{read_front}
-use Rattle.ufmt_values.specs.Fields.{Found, IsPlaced, field_at, field_from, field_in, field_with, first_leaf, leaf_of, leaf_start, leaf_text, value_in}
+use Rattle.ufmt_values.specs.Fields.{Found, IsPlaced, field_at, field_from, field_in, field_with, first_leaf, leaf_of, leaf_start, leaf_text}
 use Rattle.ufmt_values.specs.Private.FieldsLeft.{LeafAndRest, after_field, leaf_among, leaf_in}
 use Rattle.ufmt_values.specs.Unclosed.{HasNoMore, IsUnclosed}
-use Rattle.ufmt_values.specs.Values.{before_bracket, value_start}
+use Rattle.ufmt_values.specs.Values.{before_bracket, value_in, value_start}
 use Rattle.ufmt_values.proofs.FoundValues.{block_entries, block_read}
 use Rattle.ufmt_values.proofs.StructTexts.{Shape, StartsAfter, none_or_some, shape_of}
 use Rattle.ufmt_values.proofs.Unclosed.{further_unclosed, no_block, start_low}
@@ -21,13 +21,13 @@ use Rattle.ufmt_values.proofs.Unclosed.{further_unclosed, no_block, start_low}
 -- ---- the value at the front of a text
 
 -- it is a struct, of which this is the text, or another value
-pub value_shape : (class : Class) (t : List ℕ) (d : Document) (rest : List ℕ) → value_in class t ≡ Some (d, rest) → Shape class d rest t
+pub value_shape : (class : Class) (t : List ℕ) (d : Document) (rest : List ℕ) → value_in class Plain t ≡ Some (d, rest) → Shape class d rest t
 value_shape class t d rest is =
     let found = read_sound class 255 (setting Plain 0) t d rest (block_read (read_front class Plain t) d rest is) in
     subst (Shape class d rest) (sym found.whole) (shape_of class rest d found.tokens found.nests found.is_normal (block_entries (read_front class Plain t) d rest is))
 
 -- its leaf comes after what is before it in the struct's text
-leaf_starts_in : (class : Class) (t : List ℕ) (d : Document) (rest : List ℕ) → value_in class t ≡ Some (d, rest) → (name text after : List ℕ) → leaf_in name d rest ≡ Some (text, after)
+leaf_starts_in : (class : Class) (t : List ℕ) (d : Document) (rest : List ℕ) → value_in class Plain t ≡ Some (d, rest) → (name text after : List ℕ) → leaf_in name d rest ≡ Some (text, after)
     → StartsAfter t (leaf_start name d) text after
 leaf_starts_in class t d rest is name text after there = by (value_shape class t d rest is)
   where
@@ -69,7 +69,7 @@ leaf_of_in name d rest o is = sym (leaf_of_same name d rest) ∙ ap text_of is
 -- ---- where a text is in a line
 
 -- it has no more bytes with what follows it than the line
-pub leaf_fits : (class : Class) (line : List ℕ) (at : ℕ) (d : Document) (rest : List ℕ) → value_in class (drop at line) ≡ Some (d, rest) → (name text after : List ℕ)
+pub leaf_fits : (class : Class) (line : List ℕ) (at : ℕ) (d : Document) (rest : List ℕ) → value_in class Plain (drop at line) ≡ Some (d, rest) → (name text after : List ℕ)
     → Some (text, after) ≡ leaf_in name d rest → length after + length text ≤ length line
 leaf_fits class line at d rest is name text after there =
     let starts = leaf_starts_in class (drop at line) d rest is name text after (sym there) in
@@ -103,14 +103,14 @@ module _ (class : Class) (name line : List ℕ) (at : ℕ) where
       ∙ ap (λ b. cond b (field_with class name (field_from class name n line) line bracket (value_start Pretty line at bracket)) None) less
 
   -- one of no value is passed
-  pub bracket_passed : (n bracket : ℕ) → bracket ≡ at + before_bracket (drop at line) → bracket < length line → value_in class (drop (value_start Pretty line at bracket) line) ≡ None
+  pub bracket_passed : (n bracket : ℕ) → bracket ≡ at + before_bracket (drop at line) → bracket < length line → value_in class Plain (drop (value_start Pretty line at bracket) line) ≡ None
       → field_from class name (suc n) line at ≡ field_from class name n line (bracket + 1)
   bracket_passed n bracket next within none =
       at_bracket n bracket next within ∙ ap (field_in name (field_from class name n line) line bracket (value_start Pretty line at bracket)) none
 
   -- a value has the field, or the rest after it
   pub value_decides : (n bracket start size : ℕ) (d : Document) → bracket ≡ at + before_bracket (drop at line) → bracket < length line → start ≡ value_start Pretty line at bracket
-      → start ≤ length line → size ≤ length (drop start line) → value_in class (drop start line) ≡ Some (d, drop size (drop start line))
+      → start ≤ length line → size ≤ length (drop start line) → value_in class Plain (drop start line) ≡ Some (d, drop size (drop start line))
       → field_from class name (suc n) line at ≡ choose (leaf_of name d) (λ text. Some (start + leaf_start name d, text)) (field_from class name n line (start + size))
   value_decides n bracket start size d next within is inside fits some =
       let from_start = length-drop start line in
@@ -121,7 +121,7 @@ module _ (class : Class) (name line : List ℕ) (at : ℕ) where
       ∙ ap (λ k. choose (leaf_of name d) (λ text. Some (start + leaf_start name d, text)) (field_from class name n line k)) end
 
   module _ (n bracket start size : ℕ) (d : Document) (next : bracket ≡ at + before_bracket (drop at line)) (within : bracket < length line) (is : start ≡ value_start Pretty line at bracket)
-      (inside : start ≤ length line) (fits : size ≤ length (drop start line)) (some : value_in class (drop start line) ≡ Some (d, drop size (drop start line))) where
+      (inside : start ≤ length line) (fits : size ≤ length (drop start line)) (some : value_in class Plain (drop start line) ≡ Some (d, drop size (drop start line))) where
     decided : (o : Option (List ℕ)) → leaf_of name d ≡ o → field_from class name (suc n) line at ≡ choose o (λ text. Some (start + leaf_start name d, text)) (field_from class name n line (start + size))
     decided o there =
         value_decides n bracket start size d next within is inside fits some ∙ ap (λ o. choose o (λ text. Some (start + leaf_start name d, text)) (field_from class name n line (start + size))) there

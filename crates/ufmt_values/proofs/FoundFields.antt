@@ -15,10 +15,10 @@ use Rattle.ufmt_grammar.proofs.ClassLeaves.{name_some}
 use Rattle.ufmt_grammar.proofs.ReadingComplete.{IsBlock, NoAddressIn, block_read}
 use Rattle.ufmt_grammar.specs.declared.class.Class.{Class}
 use Rattle.ufmt_values.specs.FieldLaws.{PrintedFieldsAreFound, PrintedFieldsArePlaced, struct_with}
-use Rattle.ufmt_values.specs.Fields.{Found, field_from, field_of, first_leaf, leaf_of, leaf_start, leaf_text, placed_field, value_in}
+use Rattle.ufmt_values.specs.Fields.{Found, field_from, field_of, first_leaf, leaf_of, leaf_start, leaf_text, placed_field}
 use Rattle.ufmt_values.specs.Fronts.{MayNameFollow, OpensNothing}
 use Rattle.ufmt_values.specs.Private.FieldsLeft.{after_field}
-use Rattle.ufmt_values.specs.Values.{before_bracket, if_entries}
+use Rattle.ufmt_values.specs.Values.{before_bracket, if_entries, value_in}
 use Rattle.ufmt_values.proofs.Blocks.{block_entries}
 use Rattle.ufmt_values.proofs.FieldSearch.{value_decides}
 use Rattle.ufmt_values.proofs.FirstBrackets.{Without, before_first, without_append}
@@ -41,7 +41,7 @@ without_openings (c ∷ front) h = (by (is_opening c) (All-head OpensNone c fron
 
 -- a block with entries is the value at the front of its text
 pub block_value : (class : Class) (d : Document) (rest : List ℕ) → IsBuilt class d → IsBlock d → IsBlock (normal d) → nest d ≤ 255 → NoAddressIn class (setting Plain 0) d rest
-    → value_in class (plain_text d ++ rest) ≡ Some (normal d, rest)
+    → value_in class Plain (plain_text d ++ rest) ≡ Some (normal d, rest)
 block_value class d rest built block still deep none =
     ap (option_and_then if_entries) (block_read class 255 (setting Plain 0) d rest built block deep tt none)
     ∙ ap (λ b. cond b (Some (normal d, rest)) None) (block_entries (normal d) still)
@@ -50,7 +50,7 @@ module _ (class : Class) (front : List ℕ) (opens : OpensNothing front) (follow
   abbrev last : LastWord front
   last = last_word_of front
 
-  -- the name of the struct that is read
+  -- the name of the struct that is read: the last word of the front is a part of it
   abbrev its_name : List ℕ
   its_name = last.word ++ c ∷ w
 
@@ -60,7 +60,7 @@ module _ (class : Class) (front : List ℕ) (opens : OpensNothing front) (follow
   abbrev bracket : ℕ
   bracket = length front + length (c ∷ w) + 1
 
-  -- its bracket is the line's first
+  -- the struct's bracket is the first of the line
   bracket_first : (u : List ℕ) → bracket ≡ 0 + before_bracket (line u)
   bracket_first u =
       let name = (c ∷ w) ++ 32 ∷ [] in
@@ -70,15 +70,15 @@ module _ (class : Class) (front : List ℕ) (opens : OpensNothing front) (follow
       let place : before_bracket (line u) ≡ length (front ++ name) = ap before_bracket whole ∙ before_first (front ++ name) 123 (32 ∷ u) none refl in
       omega (arith, place, length-append front name, length-append (c ∷ w) (32 ∷ []))
 
-  -- it begins with the last word of the front
+  -- the struct begins where the last word of the front does
   from_start : (u : List ℕ) → drop (length last.before) (line u) ≡ its_name ++ (codes " { " ++ u)
   from_start u =
       let more = (c ∷ w) ++ (codes " { " ++ u) in
       ap (drop (length last.before)) (ap (λ t. t ++ more) last.is ∙ append_assoc last.before last.word more)
       ∙ drop-append_seam last.before (last.word ++ more) ∙ sym (append_assoc last.word (c ∷ w) (codes " { " ++ u))
 
-  -- so its field is that of the line
-  found : (d : Document) (rest u : List ℕ) → plain_text d ++ rest ≡ its_name ++ (codes " { " ++ u) → value_in class (plain_text d ++ rest) ≡ Some (normal d, rest)
+  -- so a field of the struct is the field of the line
+  found : (d : Document) (rest u : List ℕ) → plain_text d ++ rest ≡ its_name ++ (codes " { " ++ u) → value_in class Plain (plain_text d ++ rest) ≡ Some (normal d, rest)
       → (name text : List ℕ) → leaf_of name (normal d) ≡ Some text → placed_field class (line u) name ≡ Some (length last.before + leaf_start name (normal d), text)
   found d rest u is value name text there =
       let start = length last.before in
@@ -93,10 +93,10 @@ module _ (class : Class) (front : List ℕ) (opens : OpensNothing front) (follow
       ap (λ n. field_from class name n (line u) 0) more
       ∙ value_decides class name (line u) 0 (length (line u) - 1) bracket start size (normal d) (bracket_first u) (omega (arith, long, name_long))
       (sym (struct_after front last c w (debug_name class (c ∷ w) is_name) u)) (omega (arith, long, front_long)) (omega (arith, text_long))
-      (ap (value_in class) whole ∙ value ∙ ap (λ t. Some (normal d, t)) (sym left))
+      (ap (value_in class Plain) whole ∙ value ∙ ap (λ t. Some (normal d, t)) (sym left))
       ∙ ap (λ o. choose o (λ t. Some (start + leaf_start name (normal d), t)) (field_from class name (length (line u) - 1) (line u) (start + size))) there
 
-  -- it begins as many bytes after the struct's own name as the definition says
+  -- the field begins as many bytes after the struct's own name as `leaf_start` says
   placed : (n : ℕ) → length last.before + (length its_name + 3 + n) ≡ length front + (length (c ∷ w) + 3 + n)
   placed n = omega (arith, ap length last.is, length-append last.before last.word, length-append last.word (c ∷ w))
 
@@ -131,7 +131,7 @@ fields_placed class (non_exhaustive_of (c ∷ w) (first_field field value fs)) f
     (block_value class d rest (is.0.0, longer_name class front longer follows c w is.0.1, is.0.2) tt tt is.1 tt) name text there
     ∙ ap (λ n. Some (n, text)) (placed class front opens follows c w is.0.1 _)
 
--- ---- by its fields
+-- ---- the fields of the struct
 
 abbrev IsOther : List ℕ → List ℕ × Document → Type 0
 IsOther name field = field.0 ≢ name
@@ -141,7 +141,7 @@ struct_leaf : (its_name name : List ℕ) (fs : Fields) → leaf_of name (normal 
 struct_leaf word name no_fields = refl
 struct_leaf word name (first_field field value fs) = refl
 
--- the first of these fields with the name is this leaf
+-- the first field with the name is this leaf, if the fields before it have other names
 first_found : (name text : List ℕ) (before after : List (List ℕ × Document)) → All (λ field. field.0 ≢ name) before → first_leaf name (normal_fields (fields_of (before ++ (name, leaf text) ∷ after))) ≡ Some text
 first_found name text [] after others = ap (λ b. cond b (Some text) (first_leaf name (normal_fields (fields_of after)))) ((bytes_eq-Decides name name).1 refl)
 first_found name text (field ∷ before) after others =

@@ -10,7 +10,7 @@ use Rattle.ufmt_core.specs.declared.layout.Mode.{Mode}
 use Rattle.ufmt_core.specs.declared.layout.Mode.TheVariants.{Plain}
 use Rattle.ufmt_values.specs.FoundValues.{IsFoundValue}
 use Rattle.ufmt_values.specs.Private.FieldsLeft.{IsFoundIn}
-use Rattle.ufmt_values.specs.Values.{if_entries, value_from}
+use Rattle.ufmt_values.specs.Values.{if_entries, value_from, value_in}
 use Rattle.ufmt_scan.specs.Fronts.{IsFront, has_entries, read_front}
 use Rattle.ufmt_scan.specs.Texts.{other_mode}
 use Rattle.ufmt_scan.specs.declared.text.FrontText.{FrontText}
@@ -42,11 +42,9 @@ module _ (class : Class) (mode : Mode) (text : List ℕ) (front : FrontText) (is
       let within = is.within in
       omega (arith, fewer, left, within)
 
-  block_as : option_and_then if_entries (read_front class mode text) ≡ if_entries (is.document, drop front.len text)
-  block_as = ap (option_and_then if_entries) is.is_read
-
-  block_by : (b : Bool) → front.has_entries ≡ b → option_and_then if_entries (read_front class mode text) ≡ cond b (Some (is.document, drop front.len text)) None
-  block_by b entries = block_as ∙ ap (λ b. cond b (Some (is.document, drop front.len text)) None) (sym is.entries ∙ entries)
+  -- it is a value if it has entries
+  value_by : (b : Bool) → front.has_entries ≡ b → value_in class mode text ≡ cond b (Some (is.document, drop front.len text)) None
+  value_by b entries = ap (option_and_then if_entries) is.is_read ∙ ap (λ b. cond b (Some (is.document, drop front.len text)) None) (sym is.entries ∙ entries)
 
 -- a value is what was read, if that is a block with entries
 module _ (to : Mode) (text : List ℕ) where
@@ -59,12 +57,12 @@ module _ (to : Mode) (text : List ℕ) where
       document = is.document;
       some = takes_some Debug (other_mode to) text front is;
       within = is.within;
-      is = block_by Debug (other_mode to) text front is true some;
+      is = value_by Debug (other_mode to) text front is true some;
       leaf = is.leaf;
     }
 
     pub no_entries : front.has_entries ≡ false → value_from to text ≡ None
-    no_entries none = block_by Debug (other_mode to) text front is false none
+    no_entries none = value_by Debug (other_mode to) text front is false none
 
   pub value_read : (d : Document) (rest : List ℕ) → value_from to text ≡ Some (d, rest) → read_front Debug (other_mode to) text ≡ Some (d, rest)
   value_read d rest h = block_read _ d rest h
@@ -82,4 +80,4 @@ module _ (to : Mode) (text : List ℕ) (d : Document) (rest : List ℕ) where
 
 module _ (class : Class) (text : List ℕ) (front : FrontText) (is : IsFront class Plain text front) where
   pub found_in : front.has_entries ≡ true → IsFoundIn class text front
-  found_in some = record { document = is.document; some = takes_some class Plain text front is; within = is.within; is = block_by class Plain text front is true some }
+  found_in some = record { document = is.document; some = takes_some class Plain text front is; within = is.within; is = value_by class Plain text front is true some }

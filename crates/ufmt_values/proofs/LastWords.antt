@@ -1,4 +1,4 @@
--- The last word of a front, and where a value begins after it: a value with a name at that word, another at its bracket.
+-- The last word of a front: the bytes of a name that the front ends with. A value with a name that comes after the front begins at this word, any other value at its bracket.
 use Rattle.std.proofs.Common.{◌≡◌, ◌⊎◌, inl, inr, ◌∙◌, refl, ap, sym, ℕ, suc, ◌+◌, ◌-◌, ◌<◌, ◌==◌, ◌&&◌, Bool, true, false, cond, List, [], ◌∷◌, ◌++◌, append_assoc, append-nil, drop, length, length-append, get_or, arith}
 use Rattle.std.proofs.Math.Seq.{drop-append-add, drop-append_seam, get_or-append_seam}
 use Rattle.std.proofs.lemmas.Bool.Decides.{nat_tests}
@@ -13,19 +13,19 @@ use Rattle.ufmt_values.specs.Values.{is_after_name, is_named, run_start, value_s
 
 -- ---- runs of bytes of a name
 
--- a run goes on before such a byte
+-- a run that ends after a byte of a name begins where the run before that byte does
 run_on : (text : List ℕ) (n : ℕ) → is_name_byte (get_or text n 0) ≡ true → run_start text 0 (suc n) ≡ run_start text 0 n
 run_on text n named =
     let low : nat_le 0 n ≡ true = grind (arith, nat_tests) in
     ap (λ b. cond (b && is_name_byte (get_or text n 0)) (run_start text 0 n) (suc n)) low ∙ ap (λ b. cond b (run_start text 0 n) (suc n)) named
 
--- and begins after another
+-- a run that ends after any other byte is empty
 run_begins : (text : List ℕ) (n : ℕ) → is_name_byte (get_or text n 0) ≡ false → run_start text 0 (suc n) ≡ suc n
 run_begins text n other =
     let low : nat_le 0 n ≡ true = grind (arith, nat_tests) in
     ap (λ b. cond (b && is_name_byte (get_or text n 0)) (run_start text 0 n) (suc n)) low ∙ ap (λ b. cond b (run_start text 0 n) (suc n)) other
 
--- it goes on before such bytes
+-- the same for several bytes of a name
 run_through : (text front w u : List ℕ) → text ≡ front ++ (w ++ u) → has_name_bytes w ≡ true → run_start text 0 (length front + length w) ≡ run_start text 0 (length front)
 run_through text front [] u is named = let none : length front + 0 ≡ length front = omega arith in ap (run_start text 0) none
 run_through text front (c ∷ w) u is named =
@@ -39,11 +39,11 @@ run_through text front (c ∷ w) u is named =
 
 -- ---- the last word
 
--- a byte of no name is before the last word, or nothing is
+-- the front is this word alone, or a byte that no name has comes right before the word
 abbrev IsCut : List ℕ → List ℕ → Type 0
 IsCut front word = (front ≡ word) ⊎ ((y : List ℕ) × (c : ℕ) × (front ≡ (y ++ c ∷ []) ++ word) × (is_name_byte c ≡ false))
 
--- the bytes of a name that come last
+-- each front is cut before its last word
 cut_front : (front : List ℕ) → (word : List ℕ) × (has_name_bytes word ≡ true) × IsCut front word
 cut_front [] = ([], refl, inl refl)
 cut_front (c ∷ front) = go (cut_front front)
@@ -56,7 +56,7 @@ cut_front (c ∷ front) = go (cut_front front)
     go (word, named, inl whole) = first (is_name_byte c) refl word named whole
     go (word, named, inr (y, b, is, other)) = (word, named, inr (c ∷ y, b, ap (λ t. c ∷ t) is, other))
 
--- a front and its last word. From the word's end on, a run goes back to its start, whatever follows
+-- a front and its last word. Whatever follows the front, a run that ends where the front does begins where the word does
 pub record LastWord (front : List ℕ) : Type 0 where
   pub before : List ℕ
   pub word : List ℕ
@@ -93,7 +93,7 @@ last_word_of front = go (cut_front front)
               ∙ ap (run_start (front ++ x) 0) size ∙ run_begins (front ++ x) (length y) (ap is_name_byte byte ∙ other) ∙ sym size;
         }
 
--- it is the one of the definition
+-- the word is what `last_word` is defined as
 pub last_word_is : (front : List ℕ) (h : LastWord front) → last_word front ≡ h.word
 last_word_is front h =
     ap (λ n. drop n front) (ap (λ t. run_start t 0 (length front)) (sym (append-nil front)) ∙ h.starts [])
@@ -101,7 +101,7 @@ last_word_is front h =
 
 -- ---- where a value begins after a front
 
--- the last byte of a name is no colon
+-- a name doesn't end in a colon
 last_no_colon : (c : ℕ) (w u : List ℕ) → ends_in_colon (c ∷ w) ≡ false → (get_or ((c ∷ w) ++ u) (length w) 0 == 58) ≡ false
 last_no_colon c [] u none = none
 last_no_colon c (b ∷ w) u none = last_no_colon b w u none
@@ -126,7 +126,7 @@ module _ (front : List ℕ) (h : LastWord front) (c : ℕ) (w : List ℕ) (is_wo
   before_front : length h.before < end
   before_front = let size = ap length h.is ∙ length-append h.before h.word in omega (arith, size)
 
-  -- a name ends there
+  -- `is_named` says that a name ends there
   named_there : is_named text (run_start text 0 end) end ≡ true
   named_there =
       let some = before_front in
@@ -135,7 +135,7 @@ module _ (front : List ℕ) (h : LastWord front) (c : ℕ) (w : List ℕ) (is_wo
       let byte : (get_or text (end - 1) 0 == 58) ≡ false = ap (λ i. get_or text i 0 == 58) last ∙ ap (λ b. b == 58) (byte_at (length w)) ∙ last_no_colon c w u is_word.ends in
       ap (λ n. is_named text n end) from_name ∙ rw (less, byte) refl
 
--- a tuple with a name begins at the last word before it
+-- a tuple with a name begins at the last word of the front, which is then a part of its name
 pub tuple_after : (to : Mode) (front : List ℕ) (h : LastWord front) (c : ℕ) (w : List ℕ) → IsDebugWord (c ∷ w) → (u : List ℕ)
     → value_start to (front ++ ((c ∷ w) ++ 40 ∷ u)) 0 (length front + length (c ∷ w)) ≡ length h.before
 tuple_after to front h c w is_word u =
@@ -145,7 +145,7 @@ tuple_after to front h c w is_word u =
     let named = named_there front h c w is_word (40 ∷ u) in
     rw (byte, named) (from_name front h c w is_word (40 ∷ u))
 
--- so does a struct
+-- a struct begins there too
 pub struct_after : (front : List ℕ) (h : LastWord front) (c : ℕ) (w : List ℕ) → IsDebugWord (c ∷ w) → (u : List ℕ)
     → value_start Pretty (front ++ ((c ∷ w) ++ (32 ∷ 123 ∷ 32 ∷ u))) 0 (length front + length (c ∷ w) + 1) ≡ length h.before
 struct_after front h c w is_word u =
@@ -167,7 +167,7 @@ struct_after front h c w is_word u =
 pub list_after : (to : Mode) (front u : List ℕ) → value_start to (front ++ 91 ∷ u) 0 (length front) ≡ length front
 list_after to front u = rw (get_or-append_seam front 91 u 0) refl
 
--- so does a map or a set, in which no space comes first
+-- a map or a set begins at its bracket too: no space follows the bracket
 pub braces_after : (front u : List ℕ) → begins_with 32 u ≡ false → value_start Pretty (front ++ 123 ∷ u) 0 (length front) ≡ length front
 braces_after front u none =
     let inside : begins_with 32 (drop (length front + 1) (front ++ 123 ∷ u)) ≡ false = ap (begins_with 32) (drop-append-add front (123 ∷ u) 1) ∙ none in
@@ -177,7 +177,7 @@ braces_after front u none =
     go true = refl
     go false = refl
 
--- and so does a tuple without a name, if no name ends before it
+-- a tuple without a name begins at its bracket, if no name ends right before it
 pub tuple_unnamed : (to : Mode) (front : List ℕ) (h : LastWord front) → h.word ≡ [] → (u : List ℕ) → value_start to (front ++ 40 ∷ u) 0 (length front) ≡ length front
 tuple_unnamed to front h none u = rw (get_or-append_seam front 40 u 0) (go (is_named (front ++ 40 ∷ u) (run_start (front ++ 40 ∷ u) 0 (length front)) (length front)))
   where

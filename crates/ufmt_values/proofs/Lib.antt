@@ -8,7 +8,6 @@ pub mod FoundValues
 pub mod LastWords
 pub mod LongerNames
 pub mod NameBrackets
-pub mod NameBytes
 pub mod Searches
 pub mod SetLanes
 pub mod StructTexts

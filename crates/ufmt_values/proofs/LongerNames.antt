@@ -1,4 +1,4 @@
--- A name with more bytes of names before it is a name.
+-- A name is still a name if more bytes of a name are put before it.
 use Rattle.std.proofs.Common.{◌≡◌, ◌≢◌, ◌∙◌, refl, ap, sym, subst, ℕ, ◌==◌, ◌&&◌, ◌||◌, not, Bool, true, false, cond, List, [], ◌∷◌, ◌++◌, eqb-true, arith}
 use Rattle.std.proofs.lemmas.Str.{IsUtf8-append, IsUtf8-from_is_utf8, is_utf8-from_IsUtf8}
 use Rattle.std.specs.Str.{is_utf8}
@@ -28,7 +28,7 @@ name_no_quote c named = go (is_quote c) refl
     go false is = is
     go true is = let none = each_quote (λ b. is_name_byte b ≡ false) refl refl c is in absurd (cc (none, named))
 
--- one that is no colon is of a word
+-- a byte of a name other than a colon is a byte of a word
 name_debug : (c : ℕ) → is_name_byte c ≡ true → (c == 58) ≡ false → is_debug_byte c ≡ true
 name_debug c named other = go (is_debug_byte c) (c == 58) named other
   where
@@ -37,7 +37,7 @@ name_debug c named other = go (is_debug_byte c) (c == 58) named other
     go false true h none = absurd (cc)
     go false false h none = absurd (cc)
 
--- no space and no quote comes next
+-- the text doesn't begin with a space or a quote
 record NoneAhead (t : List ℕ) : Type 0 where
   unspaced : is_spaced t ≡ false
   unquoted : begins_quote t ≡ false
@@ -48,7 +48,7 @@ none_ahead (c ∷ t) named =
     let parts = both (is_name_byte c) (has_name_bytes t) named in
     record { unspaced = rw (name_no_space c parts.0) refl; unquoted = name_no_quote c parts.0 }
 
--- so such a byte is in a word, but for a colon that is the last
+-- before such a text, each byte of a name is in a word
 in_word : (c : ℕ) (t : List ℕ) → is_name_byte c ≡ true → NoneAhead t → is_in_word c t ≡ true
 in_word c t named ahead = go (c == 58) refl
   where
@@ -64,7 +64,7 @@ in_word c t named ahead = go (c == 58) refl
 
 -- ---- names
 
--- such bytes are a leaf
+-- bytes of a name are a leaf
 name_ends : (w : List ℕ) → has_name_bytes w ≡ true → EndsLeaf outside w
 name_ends [] named = refl
 name_ends (c ∷ w) named =
@@ -77,7 +77,7 @@ bytes_append (c ∷ a) b first second =
     let parts = both (is_name_byte c) (has_name_bytes a) first in
     rw (parts.0, bytes_append a b parts.1 second) refl
 
--- the last byte is that of the second
+-- if something follows a text, its last byte decides
 ends_append : (a : List ℕ) (c : ℕ) (w : List ℕ) → ends_in_colon (a ++ c ∷ w) ≡ ends_in_colon (c ∷ w)
 ends_append [] c w = refl
 ends_append (b ∷ []) c w = refl
@@ -102,12 +102,12 @@ longer_word a c w named utf8 h =
 
 -- ---- after a front
 
--- each name is one of a debug document
+-- a name of token documents is a name of debug documents too
 pub debug_name : (class : Class) (w : List ℕ) → IsName class w → IsName Debug w
 debug_name Token w h = (tokens_are_debug (tuple_of w no_documents) (h, omega arith)).0
 debug_name Debug w h = h
 
--- with the last word of a front before it, it is a name of the class
+-- a name with the last word of a front before it is a name, if one may follow the front
 pub longer_name : (class : Class) (front : List ℕ) (h : LastWord front) → MayNameFollow class front → (c : ℕ) (w : List ℕ) → IsName class (c ∷ w) → IsName class (h.word ++ c ∷ w)
 longer_name Token front h follows c w name = subst (λ t. IsName Token (t ++ c ∷ w)) (sym (sym (last_word_is front h) ∙ follows)) name
 longer_name Debug front h follows c w name = longer_word h.word c w h.named (ap is_utf8 (sym (last_word_is front h)) ∙ follows) name

@@ -1,4 +1,4 @@
--- No name has a bracket, and no opening bracket is a byte of a name.
+-- No byte of a name is a bracket or a comma.
 use Rattle.std.proofs.Common.{◌≡◌, refl, sym, subst, ℕ, ◌==◌, ◌||◌, Bool, true, false, List, [], ◌∷◌, ◌++◌, eqb-true}
 use Rattle.ufmt.specs.Bytes.{opening_brace, opening_bracket, opening_parenthesis, space}
 use Rattle.ufmt.specs.Leaves.{IsDebugWord, has_name_bytes, is_ender, is_name_byte, is_opening}
@@ -6,7 +6,7 @@ use Rattle.ufmt_grammar.proofs.DebugLeaves.{both}
 use Rattle.ufmt_grammar.proofs.ReadingWords.{each_ender}
 use Rattle.ufmt_values.proofs.FirstBrackets.{Without, without_append}
 
--- a property of each opening bracket
+-- what holds for each of the three opening brackets holds for every one
 each_opening : (P : ℕ → Type 0) → P opening_parenthesis → P opening_bracket → P opening_brace → (c : ℕ) → is_opening c ≡ true → P c
 each_opening P parenthesis bracket brace c h = go (c == opening_parenthesis) (c == opening_bracket) (c == opening_brace) refl refl refl h
   where
@@ -16,18 +16,18 @@ each_opening P parenthesis bracket brace c h = go (c == opening_parenthesis) (c 
     go false false true e f g k = subst P (sym (eqb-true c opening_brace g)) brace
     go false false false e f g k = absurd (cc)
 
--- an opening bracket is no name's byte, and no space
+-- an opening bracket isn't a byte of a name, nor a space
 pub opening_no_name : (c : ℕ) → is_opening c ≡ true → is_name_byte c ≡ false
 opening_no_name c h = each_opening (λ b. is_name_byte b ≡ false) refl refl refl c h
 
 pub opening_no_space : (c : ℕ) → is_opening c ≡ true → (c == space) ≡ false
 opening_no_space c h = each_opening (λ b. (b == space) ≡ false) refl refl refl c h
 
--- and no ender
+-- nor a byte that ends a leaf
 pub opening_no_ender : (c : ℕ) → is_opening c ≡ true → is_ender c ≡ false
 opening_no_ender c h = each_opening (λ b. is_ender b ≡ false) refl refl refl c h
 
--- no name has an opening bracket
+-- a byte of a name isn't an opening bracket
 pub name_no_opening : (c : ℕ) → is_name_byte c ≡ true → is_opening c ≡ false
 name_no_opening c h = go (is_opening c) refl
   where
@@ -35,7 +35,7 @@ name_no_opening c h = go (is_opening c) refl
     go false e = e
     go true e = let none = opening_no_name c e in absurd (cc (none, h))
 
--- and none has an ender
+-- nor a byte that ends a leaf
 pub name_no_ender : (c : ℕ) → is_name_byte c ≡ true → is_ender c ≡ false
 name_no_ender c h = go (is_ender c) refl
   where
@@ -53,7 +53,7 @@ name_without_openings w h = name_bytes_without is_opening name_no_opening w h.by
 pub name_without_enders : (w : List ℕ) → IsDebugWord w → Without is_ender w
 name_without_enders w h = name_bytes_without is_ender name_no_ender w h.bytes
 
--- nor has a name and a space
+-- a name with a space after it has no such byte either
 pub named_without_openings : (w : List ℕ) → IsDebugWord w → Without is_opening (w ++ space ∷ [])
 named_without_openings w h = without_append is_opening w (space ∷ []) (name_without_openings w h) (refl, tt)
 

@@ -1,4 +1,4 @@
--- The first byte of a set in a text, and the last, by the masks of sixteen bytes.
+-- The first and the last byte of a text that a set has, found by masks of sixteen bytes.
 use Rattle.std.proofs.Common.{◌≡◌, ◌≢◌, sym, ap, ◌∙◌, ℕ, ◌+◌, ◌-◌, ◌*◌, ◌^◌, ◌<◌, ◌≤◌, Bool, true, false, not, List, drop, map, length, length-drop, reverse, get_or, w64, arith, ⊎_elim}
 use Rattle.std.proofs.lemmas.Bool.{cases_lt, not-false, not-true}
 use Rattle.std.proofs.lemmas.List.{get_or-drop, get_or-reverse, length-map, length-reverse}
@@ -12,15 +12,15 @@ use Rattle.ufmt_values.proofs.SetLanes.{clear_above, clear_bit, highest_set, set
 use lib.Lanes.{chunk, mask_l}
 
 module _ (test : ℕ → Bool) (text : List ℕ) where
-  -- the set has no byte of the text from `low` on and before `high`
+  -- the set has none of the bytes from `low` on and before `high`
   abbrev pub None : ℕ → ℕ → Type 0
   None low high = (k : ℕ) → low ≤ k → k < high → test (get_or text k 0) ≡ false
 
-  -- the place of a byte of the set, before which there is none, is the first
+  -- a byte of the set is the first one if none is before it
   pub first_is : (at : ℕ) → at ≤ length text → None 0 at → (at < length text → test (get_or text at 0) ≡ true) → at ≡ position_or_len test text
   first_is at within none passes = sym (position_or_len_is test text at 0 within (λ k less. none k (omega arith) less) passes)
 
-  -- the end of a byte of the set, after which there is none, is the last's
+  -- a byte of the set is the last one if none is after it
   pub last_is : (end : ℕ) → end ≤ length text → None end (length text) → (0 < end → test (get_or text (end - 1) 0) ≡ true) → end ≡ length text - suffix_len (λ b. not (test b)) text
   last_is end within none passes =
       let after = suffix_len_is (λ b. not (test b)) text end 0 within (λ k from less. ap not (none k from less)) (λ some. ap not (passes some)) in
@@ -39,7 +39,7 @@ module _ (test : ℕ → Bool) (text : List ℕ) where
       not-true (test (get_or text k 0)) (ap (λ i. not (test (get_or text i 0))) (sym place) ∙ ap (λ b. not (test b)) (sym is)
       ∙ prefix_len_passes (λ b. not (test b)) (reverse text) back 0 (omega (arith, from, less, few)))
 
-  -- after it the set has no byte
+  -- the set has none of the bytes after these
   pub rest_has_none : All (λ b. test b ≡ false) (drop last_end text)
   rest_has_none =
       let left = length-drop last_end text in
@@ -47,7 +47,7 @@ module _ (test : ℕ → Bool) (text : List ℕ) where
       let low : last_end ≤ last_end + i = omega arith in
       ap test (get_or-drop last_end text i 0) ∙ none_after_last (last_end + i) low (omega (arith, left, less)))
 
-  -- and the set has the byte before, if there is one
+  -- if there are any, the set has the last of these
   pub last_is_of_set : 0 < last_end → test (get_or text (last_end - 1) 0) ≡ true
   last_is_of_set some =
       let count = suffix_len (λ b. not (test b)) text in
@@ -59,11 +59,11 @@ module _ (test : ℕ → Bool) (text : List ℕ) where
 
   -- sixteen bytes of the text, and their mask
   module _ (at mask : ℕ) (room : at + 16 ≤ length text) (is : mask ≡ mask_l (map test (chunk at 16 text))) where
-    -- an empty mask marks none of them
+    -- if the mask is 0, the set has none of them
     pub none_marked : mask ≡ 0 → None at (at + 16)
     none_marked empty = none_from_empty_mask test text at 16 0 room (sym is ∙ empty)
 
-    -- a bit that is set marks one, and one that isn't none
+    -- a bit is 1 if the set has its byte, and 0 if it doesn't
     marks_one : (i : ℕ) → bit_at mask i ≡ 1 → (i < 16) × (test (get_or text (at + i) 0) ≡ true)
     marks_one i set =
         let found = set_bit test (chunk at 16 text) i (ap (λ m. bit_at m i) (sym is) ∙ set) in
@@ -82,7 +82,7 @@ module _ (test : ℕ → Bool) (text : List ℕ) where
         let less : mask_l (map test (chunk at 16 text)) < 2 ^ 16 = rw long at (mask_l-lt (map test (chunk at 16 text))) in
         omega (arith, less, is)
 
-    -- the lowest bit marks the first
+    -- the lowest bit that is 1 is for the first byte of the set
     pub first_marked : mask ≢ 0 → None 0 at → (at + trailing_zeros w64 mask ≤ length text) × (at + trailing_zeros w64 mask ≡ position_or_len test text)
     first_marked some before =
         let bits = bit_at-trailing_zeros w64 mask (omega (arith, some)) few_bits in
@@ -96,7 +96,7 @@ module _ (test : ℕ → Bool) (text : List ℕ) where
               rw place at (marks_none (k - at) (omega (arith, less, found.0)) (bits.2 (k - at) (omega arith)))) (cases_lt k at)) (λ _. found.1),
         )
 
-    -- the highest bit marks the last
+    -- the highest bit that is 1 is for the last one
     pub last_marked : (high : ℕ) → 2 ^ high ≤ mask → mask < 2 * 2 ^ high → None (at + 16) (length text)
         → (high < 16) × (at + 1 + high ≡ length text - suffix_len (λ b. not (test b)) text)
     last_marked high low above after =

@@ -43,7 +43,7 @@ closing_before (c ∷ a) b h = go (is_closing c) h (closing_before a b)
     go true h rest = refl
     go false h rest = rest h
 
--- nor has what is left of it
+-- what is left of a text without a closing bracket has none
 rest_unclosed : (k : ℕ) (t : List ℕ) → IsUnclosed t → IsUnclosed (drop k t)
 rest_unclosed zero t h = h
 rest_unclosed (suc k) [] h = h
@@ -53,17 +53,17 @@ rest_unclosed (suc k) (c ∷ t) h = rest_unclosed k t (go (is_closing c) h)
     go true h = absurd (cc)
     go false h = h
 
--- there is none in bytes that aren't closing brackets
+-- bytes that aren't closing brackets are such a text
 none_close : (t : List ℕ) → All (λ c. is_closing c ≡ false) t → IsUnclosed t
 none_close [] none = refl
 none_close (c ∷ t) none =
     ap (λ x. x || has_closing t) (All-head (λ c. is_closing c ≡ false) c t none) ∙ none_close t (All-tail (λ c. is_closing c ≡ false) c t none)
 
--- nor after the last one
+-- so is what follows the last closing bracket
 pub past_last : (t : List ℕ) (end : ℕ) → end ≡ length t - suffix_len (λ c. not (is_closing c)) t → IsUnclosed (drop end t)
 past_last t end is = rw is (none_close (drop (last_end is_closing t) t) (rest_has_none is_closing t))
 
--- ---- a block with entries has one
+-- ---- the text of a block with entries has a closing bracket
 
 closes : (mode : Mode) (kind : Kind) (count : Count) → has_closing ((frame mode kind).closing (next count)) ≡ true
 closes mode Brackets count = refl
@@ -92,7 +92,7 @@ module _ (s : Setting) where
     abbrev tail : Count → List (List ℕ) → List ℕ
     tail count ts = block_tail (frame s.mode kind) s count ts
 
-    -- so has what follows an entry's lead, if this is left of the block
+    -- what follows the lead of an entry has one, if what is left of the block has one
     entry_closes : (t left : List ℕ) → has_closing left ≡ true → has_closing (t ++ (trail s.mode ++ left)) ≡ true
     entry_closes t left h = closing_after t (trail s.mode ++ left) (closing_after (trail s.mode) left h)
 
@@ -132,7 +132,7 @@ module _ (s : Setting) where
   entries_close (tuple_of name (first_document d ds)) h = block_closes (tuple_kind name) name (layout (inside s) d) (texts (inside s) ds)
   entries_close (pretty_part d) h = absurd (cc)
 
--- so such a text begins with no block that has entries
+-- so no block with entries is at the front of a text without a closing bracket
 pub no_block : (class : Class) (mode : Mode) (t : List ℕ) → IsUnclosed t → option_and_then if_entries (read_front class mode t) ≡ None
 no_block class mode t none = go (option_and_then if_entries (read_front class mode t)) refl
   where
@@ -148,7 +148,7 @@ no_block class mode t none = go (option_and_then if_entries (read_front class mo
 pub no_value : (to : Mode) (t : List ℕ) → IsUnclosed t → value_from to t ≡ None
 no_value to t none = no_block Debug (other_mode to) t none
 
--- ---- and none begins in such a rest of a text
+-- ---- where a text has no closing bracket any more, no value begins
 
 run_low : (text : List ℕ) (low n : ℕ) → low ≤ n → low ≤ run_start text low n
 run_low text low zero h = h
@@ -184,6 +184,6 @@ module _ (to : Mode) (text : List ℕ) (at b : ℕ) (order : at ≤ b) where
       go false true = in_name (is_named text (run_start text at b) b)
       go false false = order
 
--- nor does a value begin at the end
+-- no value begins at the end of a text
 pub none_at_end : (text : List ℕ) (at : ℕ) → length text ≤ at → HasNoMore text at
 none_at_end text at past = inl (omega (arith, past))

@@ -1,12 +1,11 @@
 -- A field of a struct in a line: of the first value from the left that is a struct with this field, where the field is a leaf.
-use Rattle.std.specs.Prelude.{◌≡◌, ℕ, zero, suc, ◌+◌, ◌-◌, ◌≤◌, nat_lt, if◌then◌else◌, List, bytes_eq, drop, take, length, Option, Some, None, option_and_then, option_map}
+use Rattle.std.specs.Prelude.{◌≡◌, ℕ, zero, suc, ◌+◌, ◌-◌, ◌≤◌, nat_lt, if◌then◌else◌, List, bytes_eq, drop, take, length, Option, Some, None, option_map}
 use Rattle.ufmt.specs.Document.{Document, leaf, struct_of, non_exhaustive_of, Fields, no_fields, first_field}
 use Rattle.ufmt.specs.Layout.{plain_text}
 use Rattle.ufmt.specs.Reading.{choose}
 use Rattle.ufmt_core.specs.declared.layout.Mode.TheVariants.{Plain, Pretty}
 use Rattle.ufmt_grammar.specs.declared.class.Class.{Class}
-use Rattle.ufmt_scan.specs.Fronts.{read_front}
-use Rattle.ufmt_values.specs.Values.{before_bracket, if_entries, value_start}
+use Rattle.ufmt_values.specs.Values.{before_bracket, value_in, value_start}
 
 -- the text of a leaf
 abbrev pub leaf_text : Document → Option (List ℕ)
@@ -35,10 +34,6 @@ leaf_start name (struct_of its_name fs) = length its_name + 3 + bytes_before nam
 leaf_start name (non_exhaustive_of its_name fs) = length its_name + 3 + bytes_before name fs
 leaf_start name _ = 0
 
--- the value at the front of a plain text, and what follows it: a block with entries, of this class
-abbrev pub value_in : Class → List ℕ → Option (Document × List ℕ)
-value_in class text = option_and_then if_entries (read_front class Plain text)
-
 -- where a field's text begins in its line, and the text
 abbrev pub Found : Type 0
 Found = ℕ × List ℕ
@@ -50,7 +45,7 @@ field_in name next line bracket start (Some x) = choose (leaf_of name x.0) (λ t
 
 -- the same of the value with this bracket, if there is one
 abbrev pub field_with : Class → List ℕ → (ℕ → Option Found) → List ℕ → ℕ → ℕ → Option Found
-field_with class name next line bracket start = field_in name next line bracket start (value_in class (drop start line))
+field_with class name next line bracket start = field_in name next line bracket start (value_in class Plain (drop start line))
 
 -- the same from `at` on, where this is the next bracket
 abbrev pub field_at : Class → List ℕ → (ℕ → Option Found) → List ℕ → ℕ → ℕ → Option Found

@@ -6,6 +6,7 @@ use Rattle.ufmt.specs.Leaves.{begins_with, is_name_byte, is_opening}
 use Rattle.ufmt.specs.Reading.{choose, strip}
 use Rattle.ufmt_core.specs.declared.layout.Mode.{Mode}
 use Rattle.ufmt_core.specs.declared.layout.Mode.TheVariants.{Plain, Pretty}
+use Rattle.ufmt_grammar.specs.declared.class.Class.{Class}
 use Rattle.ufmt_grammar.specs.declared.class.Class.TheVariants.{Debug}
 use Rattle.ufmt_scan.specs.Fronts.{begins_with_field, has_entries, read_front}
 use Rattle.ufmt_scan.specs.Texts.{other_mode}
@@ -52,6 +53,10 @@ value_start to text low bracket =
 abbrev pub if_entries : Document × List ℕ → Option (Document × List ℕ)
 if_entries x = if has_entries x.0 then Some x else None
 
--- the value at the front of a text, and what follows it: a block with entries, in the mode that isn't written
+-- the value at the front of a text, and what follows it: a block with entries, of this class and in this mode
+abbrev pub value_in : Class → Mode → List ℕ → Option (Document × List ℕ)
+value_in class mode text = option_and_then if_entries (read_front class mode text)
+
+-- a value that can be converted to this mode: one of a debug document, in the other mode
 abbrev pub value_from : Mode → List ℕ → Option (Document × List ℕ)
-value_from to text = option_and_then if_entries (read_front Debug (other_mode to) text)
+value_from to text = value_in Debug (other_mode to) text

@@ -1,8 +1,8 @@
 //! A field of a struct in a line of a log.
 ghost use Rattle.std.specs.Prelude.{◌≡◌, ◌<◌, ◌≤◌, ◌+◌, ℕ, List, Option, Some, MatchOption, drop, length, option_map, ⊤};
 ghost use Rattle.ufmt.specs.Document.{Document};
-ghost use Rattle.ufmt_values.specs.Fields.{IsPlaced, field_of, placed_field, value_in};
-ghost use Rattle.ufmt_values.specs.Values.{before_bracket};
+ghost use Rattle.ufmt_values.specs.Fields.{IsPlaced, field_of, placed_field};
+ghost use Rattle.ufmt_values.specs.Values.{before_bracket, value_in};
 ghost use Rattle.ufmt_values.specs.Private.FieldsLeft.{Comes, IsFoundAt, LeafAndRest, Looks, both_of, leaf_in};
 
 use crate::values::{next_bracket, value_at, value_start, values_end};
@@ -21,6 +21,8 @@ pub struct Field<'a> {
     pub text: &'a [u8],
 }
 
+// Promise (reading): A field of a line is the leaf of the first struct that has the field as a leaf, at the
+// place that `find_field` returns. It is `None` if and only if no struct has it. Also: `find_field`.
 /// Returns the text of a field in a line of a log: of the values in the line, from the left on, the first
 /// that is a struct with this field, where the field is a leaf. Nothing inside a value is looked at, but
 /// texts in quotes outside of values are: whoever controls one controls the result. A leaf in quotes keeps
@@ -108,7 +110,7 @@ fn token_value_at(line: &[u8], low: usize, bracket: usize) -> Option<(usize, Fro
 // The leaf of the first field with this name, and what follows it, if the value at the front is a struct
 // that has one.
 fn leaf_of<'a>(class: Class, text: &'a [u8], name: &str) -> Option<(&'a [u8], &'a [u8])>
-    ensures { (d : Document) (rest : List ℕ) → value_in class text.now ≡ Some (d, rest)
+    ensures { (d : Document) (rest : List ℕ) → value_in class Mode.Plain text.now ≡ Some (d, rest)
         → both_of result ≡ leaf_in name.now d rest }
 {
     let (_, after) = split_name(class, text)?;

@@ -9,6 +9,7 @@ ghost use Rattle.ufmt_values.specs.Private.WithoutEntries.{closing_of, is_withou
 use crate::search::{Closing, Opening, len_before_first, len_through_last};
 use ufmt::class::Class;
 use ufmt::layout::Mode;
+use ufmt_grammar::bytes::ByteClass;
 use ufmt_scan::convert::other_mode;
 use ufmt_scan::{FrontText, begins_with_field, front_text};
 
@@ -228,17 +229,9 @@ pub fn is_closing(byte: u8) -> bool
     byte == b')' || byte == b']' || byte == b'}'
 }
 
-// Marks each byte that a name may have: that of a word, and a colon.
-static NAME_BYTES: [u8; 256] = *b"\
-    .................................w.wwww...ww.wwwwwwwwwwwwwwwwwww\
-    wwwwwwwwwwwwwwwwwwwwwwwwwww.w.wwwwwwwwwwwwwwwwwwwwwwwwwwwww.w.w.\
-    wwwwwwwwwwwwwwwwwwwwwwwwwwwwwwwwwwwwwwwwwwwwwwwwwwwwwwwwwwwwwwww\
-    wwwwwwwwwwwwwwwwwwwwwwwwwwwwwwwwwwwwwwwwwwwwwwwwwwwwwwwwwwwwwwww";
-
 #[inline(always)]
-#[tactic(auto, using(crate::proofs::NameBytes::marks_names))]
 pub fn is_name_byte(byte: u8) -> bool
     ensures { result ≡ is_name_byte byte }
 {
-    NAME_BYTES[byte as usize] == b'w'
+    ByteClass::Name.contains(byte)
 }

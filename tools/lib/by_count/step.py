@@ -7,8 +7,8 @@ from lib.top import TOP
 
 SHARED = {"{written}": "`x generate` writes this file: change tools/lib/by_count."}
 STRUCT = {**SHARED, "{block}": "struct", "{list}": "Fields", "{same}": "SameFields", "{row}": "fields_of",
-          "{renamed}": "_ _ _ _ (⟪*$a_name ∷ ⟫[]) (⟪*c.args.$a.now ∷ ⟫[]) (⟪*g.$A.uDebug.document $a_value ∷ ⟫[]) same"}
-TUPLE = {**SHARED, "{block}": "tuple", "{list}": "Documents", "{same}": "SameDocuments", "{row}": "documents", "{renamed}": "_ _ _ _ _ same"}
+          "{compared}": "_ _ _ _ _ _"}
+TUPLE = {**SHARED, "{block}": "tuple", "{list}": "Documents", "{same}": "SameDocuments", "{row}": "documents", "{compared}": "_ _ _ _ _"}
 EACH = range(1, MOST + 1)
 # The calls that parse a kind of block are in two files, with these numbers of fields.
 HALVES = {"few": range(1, 7), "many": range(7, MOST + 1)}

@@ -1,7 +1,7 @@
-"""Writes the files that have a call, impl, clause or proof for each number of fields.
+"""Writes the files that have a call, impl, clause or proof for each number of fields, docs/API.md and docs/PROMISES.md.
 
 Run it after a change in tools/lib/by_count or in its templates, tools/data/by_count, and `rt fmt` in the crates of these files after that.
-With `--check` it writes nothing: it compares the files with what it would write, but for spaces, line ends and last commas.
+docs/API.md changes with the public calls, and docs/PROMISES.md with the comments of promises in the sources. With `--check` it writes nothing: it compares the files with what it would write, but for spaces, line ends and last commas.
 """
 
 
@@ -10,6 +10,10 @@ def add_arguments(parser):
 
 
 def main(given):
-    from lib.by_count import step
+    from lib.api import page as calls
+    from lib.by_count import step as by_count
+    from lib.promises import page as promises
 
-    return step.main(given) if given.check else step.write()
+    if given.check:
+        return max(part.main(given) for part in (by_count, calls, promises))
+    return max(part.write() for part in (by_count, calls, promises))

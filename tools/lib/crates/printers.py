@@ -6,8 +6,8 @@ from lib.contracts.source import closing, sources
 LIBRARIES = ("ufmt_core", "ufmt", "ufmt_snapshot", "ufmt_parse")
 # A type parameter with one of these bounds is a value, a mark, a line or a chain of values that is printed. One that is parsed is
 # printed too if the call takes it by reference.
-BOUND = re.compile(r": (?:[\w:<>]+ \+ )*(?:uDebug|uDisplay|uDisplayFixed|uDisplayHex|uDisplayRadix|uDisplayZeros|Mark<|Line\b|NamedFields<|UnnamedFields<|uParse<[^{]*: &T\b)")
-TRAIT = re.compile(r"(?:uDebug|uDisplay|uDisplayFixed|uDisplayHex|uDisplayRadix|uDisplayZeros|Mark<T>|Line|NamedFields<'a>|UnnamedFields<'a>) for [^{]+?(?= \{)")
+BOUND = re.compile(r": (?:[\w:<>]+ \+ )*(?:uDebug|uDisplay|uDisplayFixed|uDisplayHex|uDisplayRadix|uDisplayZeros|NotationOf<|Mark<|Line\b|NamedFields<|UnnamedFields<|uParse<[^{]*: &T\b)")
+TRAIT = re.compile(r"(?:uDebug|uDisplay|uDisplayFixed|uDisplayHex|uDisplayRadix|uDisplayZeros|InNotation<N>|Mark<T>|Line|NamedFields<'a>|UnnamedFields<'a>) for [^{]+?(?= \{)")
 HEAD = re.compile(r"(?:\bimpl|\bpub fn (\w+))(?=<)")
 
 

@@ -135,7 +135,8 @@ def calls_named(tree, name, before):
         found = [call for call in found if parts[-2] in call.owner or parts[-2] in call.path.with_suffix("").parts]
     if not found:
         found = [call for call in tree.calls if call.path.stem == parts[-1] and (len(parts) == 1 or parts[-2] in call.path.parts)]
-    return found
+    # Each implementation gives the names in a trait's clauses a meaning of its own. What all of them rest on is named beside the call.
+    return [call for call in found if not call.is_of_trait() and " for " not in call.owner]
 
 
 def is_private(key):

@@ -68,10 +68,10 @@ def export_tests(folder):
 
 
 def sources(name):
-    """The files of a crate, without its laws and its tests."""
+    """The files of a crate, without its laws, its tests, and the classes of bytes, which only reading needs."""
     folder = CRATES / name / "src"
     for path in sorted(folder.rglob("*.rt")):
-        if path.relative_to(folder).with_suffix("").parts[0] not in ("laws", "tests"):
+        if path.relative_to(folder).with_suffix("").parts[0] not in ("laws", "tests", "bytes"):
             yield path
 
 

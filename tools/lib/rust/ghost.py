@@ -15,8 +15,10 @@ BOUNDS = (
     (r"\n *[\w:]+: Drop,(?=\n)", ""),
     (r": Drop\b(?=[ >,])", ""),
     (r"(?m)^use (?:core|std)::marker::Model;\n", ""),
-    (r"(?m)(?:^//.*\n)*^impl Model for [^{]*\{\s*\}\n", ""),
+    (r"(?m)(?:^//.*\n)*^impl(?:<[^>]*>)? Model for [^{]*\{\s*\}\n", ""),
 )
+# A comment that says which promise the clauses below it carry.
+PROMISE = r"(?m)^ *// Promise \(.*\n(?: *// (?!Promise).*\n)*"
 # What is left where lines were removed; a brace or a semicolon that stood after clauses goes to the line before it.
 SHAPE = (
     (r"\n\n\n+", r"\n\n"), (r"\{\n\n+", r"{\n"), (r"\n\n+( *\})", r"\n\1"),
@@ -32,7 +34,7 @@ def without_ghost(path, text):
     for at, token in enumerate(source.tokens):
         if token.name in REMOVERS and token.kind in ("name", "sign"):
             REMOVERS[token.name](source, edits, at)
-    left = edits.apply()
+    left = re.sub(PROMISE, "", edits.apply())
     for pattern, new in BOUNDS + SHAPE:
         left = outside_texts(path, left, pattern, new)
     return left.lstrip("\n")

@@ -31,6 +31,12 @@ use std::num::{
 };
 use ufmt_core::{Formatter, uDebug, uWrite};
 
+// Promise (printing): Hexadecimal, binary and octal digits denote the number, and the padding is where the
+// options put it. Also: `laws::numbers::padding_reaches_length`,
+// `laws::numbers::unsigned_prints_in_each_radix`, `laws::numbers::signed_prints_bits_in_each_radix`,
+// `laws::numbers::nonzero_prints_one_radix_text`, `laws::numbers::references_print_one_radix_text`,
+// `laws::unsigned_prints_hexadecimal`, `laws::signed_prints_as_unsigned`,
+// `laws::nonzero_prints_one_hexadecimal_text`, `laws::references_print_one_hexadecimal_text`.
 /// In each base each whole number has exactly one text in lower case and one in upper case, and each
 /// text denotes one number.
 pub fn digits_are_one_text()
@@ -92,6 +98,10 @@ pub fn references_print_one_radix_text<T: uDisplayRadix>()
     ensures of_saturating { ⟦<Saturating<T> as uDisplayRadix>⟧.radix_text ≡ (λ x. T.radix_text x.0) }
 {}
 
+// Promise (printing): `zeros e to width` prints the sign, zeros and the digits of a whole number. It is as
+// long as the width, or as long as the number's own text if that is longer. Also:
+// `laws::numbers::integers_print_zeros`, `laws::numbers::nonzero_prints_zeros`,
+// `laws::numbers::references_print_zeros`.
 /// A zero-padded number is its sign, zeros, and its decimal digits. It is as long as the width, or as the
 /// number's text if that is longer.
 pub fn zeros_reach_width()
@@ -140,6 +150,8 @@ pub fn references_print_zeros<T: uDisplayZeros>()
     ensures of_saturating { ⟦<Saturating<T> as uDisplayZeros>⟧.zeros_text ≡ (λ x. T.zeros_text x.0) }
 {}
 
+// Promise (printing): A `Decimal` prints its sign and digits, with a point before its decimal places. Two of
+// them with equal texts have equal values and places. `zeros` fills after the sign. The text is a debug leaf.
 /// A fixed-point number's text is its sign, digits, and a point with as many digits as it has places. All
 /// digits joined denote the value's magnitude. No text denotes two values, or one value with two numbers
 /// of places. The text is a debug leaf, so it can be read again. Zeros up to a width are between the sign

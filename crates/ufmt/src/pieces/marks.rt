@@ -9,6 +9,7 @@ use crate::column::{CharacterCounter, missing_after};
 use crate::display::uDisplay;
 use crate::fixed::uDisplayFixed;
 use crate::hex::{HexOptions, uDisplayHex};
+use crate::number::notation::{NotationOf, RadixDigits, ZerosTo};
 use crate::print::fmt_pretty;
 use crate::radix::{Radix, uDisplayRadix};
 use crate::zeros::uDisplayZeros;
@@ -92,14 +93,7 @@ impl<T: uDisplayHex> Mark<T> for Hex {
     }
 
     fn missing_characters<W: uWrite>(&self, value: &T, f: &Formatter<W>, width: usize) -> usize {
-        let mut counting = f.with_writer(CharacterCounter::new(width));
-        if value.pads_hex() {
-            let printed = value.fmt_hex(&mut counting, self.options.unpadded());
-            let missing = missing_after(printed, counting);
-            return missing.min(width.saturating_sub(self.options.pad_length));
-        }
-        let printed = value.fmt_hex(&mut counting, self.options);
-        missing_after(printed, counting)
+        missing_padded(self.options, value, f, width)
     }
 }
 
@@ -120,14 +114,11 @@ impl<T: uDisplayRadix> Mark<T> for InRadix {
     }
 
     fn missing_characters<W: uWrite>(&self, value: &T, f: &Formatter<W>, width: usize) -> usize {
-        let mut counting = f.with_writer(CharacterCounter::new(width));
-        if value.pads_radix() {
-            let printed = value.fmt_radix(&mut counting, self.radix, self.options.unpadded());
-            let missing = missing_after(printed, counting);
-            return missing.min(width.saturating_sub(self.options.pad_length));
-        }
-        let printed = value.fmt_radix(&mut counting, self.radix, self.options);
-        missing_after(printed, counting)
+        let digits = RadixDigits {
+            radix: self.radix,
+            options: self.options,
+        };
+        missing_padded(digits, value, f, width)
     }
 }
 
@@ -146,14 +137,7 @@ impl<T: uDisplayZeros> Mark<T> for Zeros {
     }
 
     fn missing_characters<W: uWrite>(&self, value: &T, f: &Formatter<W>, width: usize) -> usize {
-        let mut counting = f.with_writer(CharacterCounter::new(width));
-        if value.pads_zeros() {
-            let printed = value.fmt_zeros(&mut counting, 0);
-            let missing = missing_after(printed, counting);
-            return missing.min(width.saturating_sub(self.width));
-        }
-        let printed = value.fmt_zeros(&mut counting, self.width);
-        missing_after(printed, counting)
+        missing_padded(ZerosTo { width: self.width }, value, f, width)
     }
 }
 
@@ -190,4 +174,26 @@ impl<T, M: Mark<T>> Line for Marked<'_, T, M> {
     fn print<W: uWrite>(&self, f: &mut Formatter<W>) -> Result<(), W::Error> {
         self.mark.print_value(self.value, f)
     }
+}
+
+// How many characters a value in this notation is short of the width. Where padding makes its text as long as asked, the text is
+// counted without it, since a padding of 2^63 would take 2^63 steps.
+fn missing_padded<T, N: NotationOf<T>, W: uWrite>(
+    notation: N,
+    value: &T,
+    f: &Formatter<W>,
+    width: usize,
+) -> usize
+    requires { N.is_ascii notation }
+    ensures { result ≡ width - char_count (N.text value.now notation) }
+{
+    let mut counting = f.with_writer(CharacterCounter::new(width));
+    if N::pads_of(value) {
+        let (unpadded, length) = notation.split_padding();
+        let printed = unpadded.write(value, &mut counting);
+        let missing = missing_after(printed, counting);
+        return missing.min(width.saturating_sub(length));
+    }
+    let printed = notation.write(value, &mut counting);
+    missing_after(printed, counting)
 }

@@ -28,7 +28,7 @@ impl uDebug for f64 {
     }
 }
 
-// The two functions take a float by value: a contract knows of such a one that it has the format.
+// The two functions take a float by value, because a contract knows the format of no other.
 
 #[inline(always)]
 fn text_of_f32(x: f32) -> DebugText

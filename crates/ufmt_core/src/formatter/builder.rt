@@ -95,7 +95,7 @@ impl<W: uWrite, K: BlockKind> Builder<'_, W, K> {
     }
 
     /// Writes the text before the value of a struct's field, and lends the formatter for the value.
-    // Out of line: fields of all types have one copy of it.
+    // Out of line: fields of all types share one copy.
     #[inline(never)]
     pub(crate) fn begin_named(&mut self, name: &str) -> Result<&mut Formatter<W>, W::Error>
         requires { IsInside (view_of K.kind self.old) }

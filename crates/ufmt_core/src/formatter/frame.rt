@@ -1,10 +1,10 @@
 //! Writing the text around the entries of a block, at the formatter's own mode and depth.
-ghost use Rattle.std.specs.Prelude.{◌≡◌, ◌++◌, List, ℕ, codes, is_ok};
+ghost use Rattle.std.specs.Prelude.{◌++◌, codes, is_ok};
 ghost use Rattle.ufmt_core.specs.Layout.{dots_ending, dots_line, ending, frame, indentation, inside, lead, line_start, trail};
 ghost use Rattle.ufmt_core.specs.Formatter.{Prints, depth_of, mode_of, setting_of};
 
 use crate::formatter::Formatter;
-use crate::layout::{COLON, Count, INDENT, Kind, Mode};
+use crate::layout::{COLON, Count, INDENT, Kind, Mode, ONLY_DOTS};
 use crate::write::uWrite;
 
 impl<W: uWrite> Formatter<W> {
@@ -67,7 +67,7 @@ impl<W: uWrite> Formatter<W> {
             self.new }
     {
         match count {
-            Count::Zero => self.write_str(" { .. }"),
+            Count::Zero => self.write_str(ONLY_DOTS),
             Count::One | Count::Several => {
                 self.write_dots_line()?;
                 self.write_ending(Kind::Struct, count)

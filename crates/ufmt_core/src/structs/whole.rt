@@ -36,7 +36,7 @@ pub trait NamedFields<'a> {
 impl<'a> NamedFields<'a> for () {
     ghost fields = { λ _. no_fields };
 
-    // Out of line, as `field`: all structs have one copy of it.
+    // Out of line, as `begin_named` is: all structs share one copy.
     #[inline(never)]
     fn finish<W: uWrite>(&self, builder: &mut DebugStruct<W>) -> Result<(), W::Error> {
         builder.finish()
@@ -65,6 +65,9 @@ impl<'a, D: uDebug, R: NamedFields<'a>> NamedFields<'a> for (&'a str, &'a D, R) 
 }
 
 impl<W: uWrite> Formatter<W> {
+    // Promise (printing): Calls for whole values and builders write each name and each value once, in its
+    // place. Also: `Formatter::list_of`, `Formatter::set_of`, `Formatter::map_of`, `Formatter::struct_of`,
+    // `Formatter::tuple_of`.
     /// Writes a name alone, as of a variant without fields.
     #[inline(always)]
     pub fn name_alone(&mut self, name: &str) -> Result<(), W::Error>
@@ -93,6 +96,8 @@ impl<W: uWrite> Formatter<W> {
         fields.finish(&mut builder)
     }
 
+    // Promise (printing): A struct that hides fields ends in dots. In pretty mode they are on a line of their
+    // own, at the depth of the fields, without a comma. Also: `DebugStruct::finish_non_exhaustive`.
     /// `struct_of` of a struct that has more fields, which aren't shown: it ends in `..`.
     #[inline(always)]
     pub fn non_exhaustive_of<'a, F: NamedFields<'a>>(

@@ -53,6 +53,9 @@ const NOT_A_NUMBER: &str =
 
 const LIMIT_OF_PLAIN: &str = "ufmt_lines: --longer-than doesn't go with --plain";
 
+// Promise (programs): The arguments of `ufmt_lines` ask for what its usage says, or the first wrong one is
+// named. Its inputs are the arguments that name files, or `-`. Its status says how the run ended. Also:
+// `arguments::inputs`, `fault::status`, `fault_line`.
 /// Returns what the arguments ask for, or the first that is wrong. Files may be between options. Of two
 /// limits the second counts.
 pub fn asked(words: &[String]) -> Result<Request, Mistake<'_>>

@@ -19,6 +19,8 @@ pub fn outputs_are_the_output()
     ensures { OutputsAreTheOutput }
 {}
 
+// Promise (programs): A log that `--plain` leaves unchanged comes back from its pretty form. Each group
+// becomes what it becomes in the whole log. Also: `laws::outputs_are_the_output`.
 /// A log that `--plain` leaves as it is comes back, byte for byte, after it is made pretty and then
 /// plain. So does a text that is converted as a whole.
 pub fn plain_logs_come_back()
@@ -26,6 +28,9 @@ pub fn plain_logs_come_back()
     ensures text { PlainTextsComeBack }
 {}
 
+// Promise (programs): A value whose text is longer than the limit becomes pretty, whatever follows, if there
+// is no opening bracket and no quotation mark before it. It stays if it is one leaf, or a map that would read
+// as a struct. Bytes of a name right before it must be UTF-8, and then it mustn't be a tuple without a name.
 /// The plain text of a value that is longer than the limit becomes its pretty text, unless it has one leaf
 /// only, or is a map that would read as a struct. Before it may be any bytes without an opening bracket and
 /// a quotation mark, and a name only if it has none or goes on with it.

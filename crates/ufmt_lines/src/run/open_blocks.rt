@@ -7,7 +7,7 @@ ghost use Rattle.ufmt_values.specs.Values.{value_from};
 
 use std::convert::Infallible;
 use ufmt::class::Class;
-use ufmt::layout::{Count, Kind, Mode};
+use ufmt::layout::{COLON, Count, Kind, Mode};
 use ufmt_scan::scan::{Event, Sink, scan};
 use ufmt_scan::{FrontText, front_text};
 use ufmt_values::{
@@ -17,6 +17,9 @@ use ufmt_values::{
 
 // So many blocks are open in a text at most, with one that is too deep.
 const MOST: usize = 256;
+
+// How many bytes come between two entries, or a key and its value: a comma or a colon, and a space.
+const SEPARATOR_LEN: usize = 2;
 
 /// What tries that failed in a group say of the brackets after them.
 #[derive(Drop)]
@@ -239,19 +242,21 @@ impl Sink for OpenStarts {
 
     ghost begun = { λ _. tt };
 
-    // Each number is how many bytes an event has besides a name or a leaf.
+    // Each text is what an event has in a plain text, besides a name or a leaf.
     fn event(&mut self, event: Event<&str>) -> Result<(), Infallible> {
         match event {
             Event::Leaf(text) => self.pass(text.len()),
-            Event::Empty(_) | Event::Colon | Event::Next => self.pass(2),
-            Event::OnlyDots(name) => self.pass(name.len().saturating_add(7)),
-            Event::Open(Kind::Struct, name) => self.open(name.len().saturating_add(3)),
-            Event::Open(_, name) => self.open(name.len().saturating_add(1)),
-            Event::FieldName(name) => self.pass(name.len().saturating_add(2)),
-            Event::Close(Kind::Struct, _) => self.close(2),
-            Event::Close(Kind::Unnamed, Count::One) => self.close(2),
-            Event::Close(_, _) => self.close(1),
-            Event::Dots => self.close(4),
+            Event::Empty(_) => self.pass("[]".len()),
+            Event::OnlyDots(name) => self.pass(name.len().saturating_add(" { .. }".len())),
+            Event::Open(Kind::Struct, name) => self.open(name.len().saturating_add(" { ".len())),
+            Event::Open(_, name) => self.open(name.len().saturating_add("(".len())),
+            Event::FieldName(name) => self.pass(name.len().saturating_add(COLON.len())),
+            Event::Colon => self.pass(COLON.len()),
+            Event::Next => self.pass(", ".len()),
+            Event::Close(Kind::Struct, _) => self.close(" }".len()),
+            Event::Close(Kind::Unnamed, Count::One) => self.close(",)".len()),
+            Event::Close(_, _) => self.close(")".len()),
+            Event::Dots => self.close(".. }".len()),
         }
         Ok(())
     }
@@ -303,7 +308,7 @@ fn next_entry(text: &[u8], at: usize) -> Option<usize>
     let front = front_text(Class::Debug, Mode::Plain, &text[at..])?;
     let end = at + front.len;
     if is_separated(&text[end..]) {
-        Some(end + 2)
+        Some(end + SEPARATOR_LEN)
     } else {
         None
     }

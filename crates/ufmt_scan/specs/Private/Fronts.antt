@@ -1,8 +1,8 @@
 -- The leaf at the front of a text, as the scanner splits it off.
-use Rattle.std.specs.Prelude.{◌≡◌, ℕ, ◌==◌, ◌&&◌, ◌||◌, nat_le, Bool, true, false, not, List, [], ◌∷◌, ◌++◌, Option, None, MatchOption, ⊤}
-use Rattle.ufmt_core.specs.Bytes.{colon, opening_bracket, opening_parenthesis}
+use Rattle.std.specs.Prelude.{◌≡◌, ℕ, ◌==◌, ◌&&◌, ◌||◌, Bool, true, false, List, [], ◌∷◌, ◌++◌, Option, None, MatchOption, ⊤}
+use Rattle.ufmt_core.specs.Bytes.{opening_bracket, opening_parenthesis}
 use Rattle.ufmt_grammar.specs.declared.class.Class.{Class}
-use Rattle.ufmt_grammar.specs.Leaves.{Place, beginning, between, is_outside, is_address_closed, is_name_byte, is_plain_byte, is_word_closed, place_outside, has_name_bytes, is_debug_byte, is_quote}
+use Rattle.ufmt_grammar.specs.Leaves.{Place, beginning, between, is_outside, is_address_closed, is_name_byte, is_plain_byte, is_word_closed, place_outside, has_name_bytes, is_quote}
 use Rattle.ufmt_grammar.specs.Reading.{front_of, after_front, is_whole, is_name, leaf_from, after_leaf, last_place}
 use Rattle.ufmt_scan.specs.declared.front.Front.{Front}
 
@@ -39,10 +39,6 @@ StopsWord (c ∷ t) = is_plain_byte c ≡ false
 pub record StaysBetween (quote : ℕ) (t rest : List ℕ) : Type 0 where
   pub named : Bool
   pub passes : Passes (between quote) t (between quote) rest named
-
--- no leaf of a debug document has this byte outside of quotes
-abbrev pub is_ending : ℕ → Bool
-is_ending c = nat_le c 255 && not (is_debug_byte c || is_quote c || c == colon || c == opening_parenthesis)
 
 -- a name could begin here
 abbrev pub begins_name : List ℕ → Bool

@@ -1,9 +1,8 @@
--- Bytes at the front of a text that a table marks with a `w`.
-use Rattle.std.specs.Prelude.{ℕ, suc, ◌==◌, Bool, if◌then◌else◌, List, [], ◌∷◌, slice_index_or}
+-- Bytes at the front of a text of a class.
+use Rattle.std.specs.Prelude.{ℕ, suc, if◌then◌else◌, List, [], ◌∷◌}
+use Rattle.ufmt_grammar.specs.Bytes.{is_in}
+use Rattle.ufmt_grammar.specs.declared.bytes.ByteClass.{ByteClass}
 
-abbrev pub is_marked : List ℕ → ℕ → Bool
-is_marked table byte = slice_index_or table byte 0 == 119
-
-abbrev pub marked_len : List ℕ → List ℕ → ℕ
-marked_len table [] = 0
-marked_len table (c ∷ t) = if is_marked table c then suc (marked_len table t) else 0
+abbrev pub marked_len : ByteClass → List ℕ → ℕ
+marked_len class [] = 0
+marked_len class (c ∷ t) = if is_in class c then suc (marked_len class t) else 0

@@ -9,7 +9,9 @@ ghost use Rattle.ufmt_scan.specs.ScanTexts.{setting_after, written};
 ghost use Rattle.std.proofs.Common.{refl};
 ghost use Rattle.ufmt_core.proofs.Writing.{Writes-nothing};
 
+use crate::markers::ModeType;
 use crate::scan::{Event, Sink};
+use std::marker::PhantomData;
 use ufmt_core::ascii::text_from;
 use ufmt_core::layout::{COLON, Count, Kind, Mode, Setting};
 use ufmt_core::uWrite;
@@ -29,28 +31,32 @@ macro_rules! new_line {
     };
 }
 
-/// A writer, and the mode and depth at which the text continues. `PRETTY` is never read. It makes
-/// one scan per mode, in which the mode is a constant.
+/// A writer, and the depth at which the text continues in the mode `M`. So there is one scan per mode.
 #[derive(Drop)]
-pub(super) struct TextSink<'w, W, const PRETTY: bool> {
+pub(super) struct TextSink<'w, W, M> {
     pub(super) writer: &'w mut W,
-    pub(super) setting: Setting,
+    pub(super) depth: u8,
+    pub(super) mode: PhantomData<M>,
 }
 
 /// Fails with the writer's error.
-impl<W: uWrite, const PRETTY: bool> Sink for TextSink<'_, W, PRETTY> {
+impl<W: uWrite, M: ModeType> Sink for TextSink<'_, W, M> {
     type Error = W::Error;
 
-    ghost took = { Wrote W.seen true };
+    ghost took = { Wrote W.seen M.mode true };
 
-    ghost stopped = { Wrote W.seen false };
+    ghost stopped = { Wrote W.seen M.mode false };
 
     ghost begun = { λ s. record { writes = Writes-nothing s.writer.now; continues = refl; same_writer = refl } };
 
     #[inline(always)]
     fn event(&mut self, event: Event<&str>) -> Result<(), W::Error> {
-        let (first, second) = pieces(self.setting, event);
-        self.setting = setting_after(self.setting, event);
+        let setting = Setting {
+            mode: M::mode(),
+            depth: self.depth,
+        };
+        let (first, second) = pieces(setting, event);
+        self.depth = setting_after(setting, event).depth;
         write_piece(first, self.writer)?;
         write_piece(second, self.writer)
     }

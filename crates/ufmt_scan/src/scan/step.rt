@@ -118,6 +118,12 @@ impl Stage {
     }
 }
 
+// `K` names a copy of a function, here and below. What follows a word and what follows another front are two
+// copies. So each copy is called in one place only, and is part of its scan's loop.
+struct WordFront;
+
+struct OtherFront;
+
 // What comes next in a block that opens or continues, if one does, and the rest of the text.
 type Step<'a> = (Option<Stage>, &'a [u8]);
 
@@ -134,7 +140,7 @@ fn emit<S: Sink>(event: Event<&str>, sink: &mut S) -> Result<(), ScanError<S::Er
 
 /// Emits a field's name and the colon after it. Returns what follows.
 #[inline(always)]
-pub(super) fn field_name<'a, S: Sink, const PRETTY: bool, const DEBUG: bool>(
+pub(super) fn field_name<'a, S: Sink, K>(
     class: Class,
     input: &'a [u8],
     sink: &mut S,
@@ -156,7 +162,7 @@ pub(super) fn field_name<'a, S: Sink, const PRETTY: bool, const DEBUG: bool>(
 
 /// Emits a leaf, an empty block, or the name and the opening of a block.
 #[inline(always)]
-pub(super) fn begin<'a, S: Sink, const PRETTY: bool, const DEBUG: bool>(
+pub(super) fn begin<'a, S: Sink, K>(
     level: Level,
     input: &'a [u8],
     sink: &mut S,
@@ -166,19 +172,19 @@ pub(super) fn begin<'a, S: Sink, const PRETTY: bool, const DEBUG: bool>(
         (after level) }
 {
     if let Some(front) = split_word_front(level.class, input) {
-        return begin_split::<S, PRETTY, DEBUG, true>(level, input, front, sink);
+        return begin_split::<S, (K, WordFront)>(level, input, front, sink);
     }
     if let Some(front) = split_quoted_front(level.class, input) {
         emit(Event::Leaf(front.text), sink)?;
         return Ok((None, front.rest));
     }
-    begin_other::<S, PRETTY, DEBUG>(level, input, sink)
+    begin_other::<S, K>(level, input, sink)
 }
 
 // The same, whichever leaf is at the front. A call returns the front in memory. So the front is a
 // variable here: one of `begin` would be cleared for each text.
 #[inline(always)]
-fn begin_other<'a, S: Sink, const PRETTY: bool, const DEBUG: bool>(
+fn begin_other<'a, S: Sink, K>(
     level: Level,
     input: &'a [u8],
     sink: &mut S,
@@ -188,16 +194,14 @@ fn begin_other<'a, S: Sink, const PRETTY: bool, const DEBUG: bool>(
         (after level) }
 {
     match split_front(level.class, input) {
-        Some(front) => begin_split::<S, PRETTY, DEBUG, false>(level, input, front, sink),
+        Some(front) => begin_split::<S, (K, OtherFront)>(level, input, front, sink),
         None => Err(ScanError::NotText),
     }
 }
 
-// The same for a text whose front was split off. The front may be empty. `WORD` is never read, here and
-// below. It makes one copy for words and one for other leaves. Each is called in one place only, and so
-// is part of the scan's loop.
+// The same for a text whose front was split off. The front may be empty.
 #[inline(always)]
-fn begin_split<'a, S: Sink, const PRETTY: bool, const DEBUG: bool, const WORD: bool>(
+fn begin_split<'a, S: Sink, K>(
     level: Level,
     input: &'a [u8],
     front: Front<'a>,
@@ -209,15 +213,15 @@ fn begin_split<'a, S: Sink, const PRETTY: bool, const DEBUG: bool, const WORD: b
         (after level) }
 {
     if front.text.is_empty() {
-        begin_without_name::<S, PRETTY, DEBUG, WORD>(level, input, sink)
+        begin_without_name::<S, K>(level, input, sink)
     } else {
-        begin_front::<S, PRETTY, DEBUG, WORD>(level, front, sink)
+        begin_front::<S, K>(level, front, sink)
     }
 }
 
 // The same for a text that begins with a leaf, which may be the name of a block.
 #[inline(always)]
-fn begin_front<'a, S: Sink, const PRETTY: bool, const DEBUG: bool, const WORD: bool>(
+fn begin_front<'a, S: Sink, K>(
     level: Level,
     front: Front<'a>,
     sink: &mut S,
@@ -247,7 +251,7 @@ fn begin_front<'a, S: Sink, const PRETTY: bool, const DEBUG: bool, const WORD: b
 
 // The same for a text that begins with no such leaf.
 #[inline(always)]
-fn begin_without_name<'a, S: Sink, const PRETTY: bool, const DEBUG: bool, const WORD: bool>(
+fn begin_without_name<'a, S: Sink, K>(
     level: Level,
     input: &'a [u8],
     sink: &mut S,
@@ -257,7 +261,7 @@ fn begin_without_name<'a, S: Sink, const PRETTY: bool, const DEBUG: bool, const 
         (after level) }
 {
     if let Some((kind, rest)) = strip_bracket(input) {
-        begin_block::<S, PRETTY, DEBUG, WORD>(level, kind, rest, sink)
+        begin_block::<S, K>(level, kind, rest, sink)
     } else if let Some(rest) = strip_piece("()", input) {
         emit(Event::Leaf("()"), sink)?;
         Ok((None, rest))
@@ -286,7 +290,7 @@ fn strip_bracket(input: &[u8]) -> Option<(Kind, &[u8])>
 
 // Emits an empty list, set or map, or the opening of one, after its bracket.
 #[inline(always)]
-fn begin_block<'a, S: Sink, const PRETTY: bool, const DEBUG: bool, const WORD: bool>(
+fn begin_block<'a, S: Sink, K>(
     level: Level,
     kind: Kind,
     input: &'a [u8],
@@ -308,7 +312,7 @@ fn begin_block<'a, S: Sink, const PRETTY: bool, const DEBUG: bool, const WORD: b
 
 /// Emits what follows the entry, key or value at this stage of a block.
 #[inline(always)]
-pub(super) fn after_document<'a, S: Sink, const PRETTY: bool, const DEBUG: bool>(
+pub(super) fn after_document<'a, S: Sink, K>(
     level: Level,
     stage: Stage,
     input: &'a [u8],
@@ -327,12 +331,12 @@ pub(super) fn after_document<'a, S: Sink, const PRETTY: bool, const DEBUG: bool>
             return Err(ScanError::NotText);
         }
     }
-    after_entry::<S, PRETTY, DEBUG>(level, stage, input, sink)
+    after_entry::<S, K>(level, stage, input, sink)
 }
 
 // Emits what follows an entry, a pair or a field.
 #[inline(always)]
-fn after_entry<'a, S: Sink, const PRETTY: bool, const DEBUG: bool>(
+fn after_entry<'a, S: Sink, K>(
     level: Level,
     stage: Stage,
     input: &'a [u8],
@@ -349,7 +353,7 @@ fn after_entry<'a, S: Sink, const PRETTY: bool, const DEBUG: bool>(
         return Err(ScanError::NotText);
     };
     if let Some(start) = strip_piece(rest_of_lead, line) {
-        return next_entry::<S, PRETTY, DEBUG>(level, stage, start, sink);
+        return next_entry::<S, K>(level, stage, start, sink);
     }
     let (kind, count) = stage.kind_and_count();
     let Some(end) = strip_closing(level.mode, kind, count, line) else {
@@ -361,7 +365,7 @@ fn after_entry<'a, S: Sink, const PRETTY: bool, const DEBUG: bool>(
 
 // Emits what separates two entries, and then the end of the block if it ends in dots.
 #[inline(always)]
-fn next_entry<'a, S: Sink, const PRETTY: bool, const DEBUG: bool>(
+fn next_entry<'a, S: Sink, K>(
     level: Level,
     stage: Stage,
     input: &'a [u8],

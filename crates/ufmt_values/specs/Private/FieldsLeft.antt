@@ -4,14 +4,14 @@ use Rattle.std.specs.Borrow.{Bor}
 use Rattle.ufmt.specs.Document.{Document, struct_of, non_exhaustive_of, Fields, no_fields, first_field, nest}
 use Rattle.ufmt.specs.Layout.{plain_text}
 use Rattle.ufmt.specs.Token.{IsBuilt, IsName, normal}
-use Rattle.ufmt_core.specs.declared.layout.Mode.TheVariants.{Pretty}
+use Rattle.ufmt_core.specs.declared.layout.Mode.TheVariants.{Plain, Pretty}
 use Rattle.ufmt_grammar.specs.declared.class.Class.{Class}
 use Rattle.ufmt_scan.specs.declared.text.FrontText.{FrontText}
 use Rattle.ufmt_values.specs.declared.field.Look.{Look}
 use Rattle.ufmt_values.specs.declared.field.Look.TheVariants as look
-use Rattle.ufmt_values.specs.Fields.{IsPlaced, field_from, leaf_text, value_in}
+use Rattle.ufmt_values.specs.Fields.{IsPlaced, field_from, leaf_text}
 use Rattle.ufmt_values.specs.FoundValues.{IsStart}
-use Rattle.ufmt_values.specs.Values.{value_start}
+use Rattle.ufmt_values.specs.Values.{value_in, value_start}
 
 -- a document of the class in normal form
 abbrev pub IsGood : Class → Document → Type 0
@@ -72,11 +72,11 @@ pub record IsFoundIn (class : Class) (text : List ℕ) (value : FrontText) : Typ
   pub document : Document
   pub some : 0 < value.len
   pub within : value.len ≤ length text
-  pub is : value_in class text ≡ Some (document, drop value.len text)
+  pub is : value_in class Plain text ≡ Some (document, drop value.len text)
 
 -- where the value with this bracket begins, and the value, or there is none
 abbrev pub IsFoundAt : Class → List ℕ → ℕ → ℕ → Option (ℕ × FrontText) → Type 0
-IsFoundAt class line low bracket outcome = MatchOption outcome (value_in class (drop (value_start Pretty line low bracket) line) ≡ None)
+IsFoundAt class line low bracket outcome = MatchOption outcome (value_in class Plain (drop (value_start Pretty line low bracket) line) ≡ None)
     (λ x. IsStart Pretty line low bracket x.0 × IsFoundIn class (drop x.0 line) x.1)
 
 -- a bracket was looked at: the field was found, or the rest has it if the line has

@@ -17,16 +17,12 @@ entries-init g c =
 
 pub returns-in-Err-clause-takes : goal.returns-in-Err-clause-takes
 returns-in-Err-clause-takes g c =
-    let blocks = open_blocks c.args.parser.now in
-    let text = g.P.EntryParser.text c.args.by.now (setting_in g.M.ParseMode.mode blocks) in
-    next_refused (g.P.EntryParser.fit blocks) text g.M.ParseMode.mode c.args.kind blocks c.requires.bracketed c.requires.counted c.eat_lead.ensures.counted c.entries.entries.items c.entries.invariant.so_far
+    next_refused c.entries.invariant.so_far
     (in_blocks g.P.EntryParser.fit (g.P.EntryParser.text c.args.by.now) g.M.ParseMode.mode c.entries.invariant.blocks c.in-Err.ensures.takes)
 
 pub returns-then-not-eat-clause-takes : goal.returns-then-not-eat-clause-takes
 returns-then-not-eat-clause-takes g c =
-    let blocks = open_blocks c.args.parser.now in
-    let text = g.P.EntryParser.text c.args.by.now (setting_in g.M.ParseMode.mode blocks) in
-    next_trail_refused (g.P.EntryParser.fit blocks) text g.M.ParseMode.mode c.args.kind blocks c.requires.bracketed c.requires.counted c.eat_lead.ensures.counted c.entries.entries.items c.entries.invariant.so_far
+    next_trail_refused c.entries.invariant.so_far
     (in_blocks g.P.EntryParser.fit (g.P.EntryParser.text c.args.by.now) g.M.ParseMode.mode c.entries.invariant.blocks c.in-Ok.ensures.takes)
     (rw (c.trail.ensures, c.mode.ensures) at c.if-not-eat.ensures.eats)
 
@@ -34,10 +30,9 @@ pub returns-then-eat_ending-clause-takes : goal.returns-then-eat_ending-clause-t
 returns-then-eat_ending-clause-takes g c =
     let mode = g.M.ParseMode.mode in
     let blocks = open_blocks c.args.parser.now in
-    let text = g.P.EntryParser.text c.args.by.now (setting_in mode blocks) in
     let same : open_blocks c.eat.new.self ≡ blocks = c.if-not-eat.ensures.blocks ∙ c.in-Ok.ensures.blocks ∙ c.entries.invariant.blocks in
     let still : open_blocks c.eat_lead-in-entries.new.self ≡ blocks = c.if-not-eat_lead-2.ensures.blocks ∙ same in
-    rw (c.in-Ok-push.ensures.items) (the_last (g.P.EntryParser.fit blocks) text mode c.args.kind blocks c.requires.bracketed c.requires.counted c.eat_lead.ensures.counted c.entries.entries.items c.entries.invariant.so_far
+    rw (c.in-Ok-push.ensures.items) (the_last c.entries.invariant.so_far
     (in_blocks g.P.EntryParser.fit (g.P.EntryParser.text c.args.by.now) mode c.entries.invariant.blocks c.in-Ok.ensures.takes)
     (rw (c.trail.ensures, c.mode.ensures) at c.if-not-eat.ensures.eats)
     (subst (λ n. DoesNotBegin (lead (frame mode c.args.kind) (setting_in mode n) One) (rest c.eat.new.self)) same c.if-not-eat_lead-2.ensures.eats)
@@ -48,10 +43,9 @@ pub returns-else-eat_ending-clause-takes : goal.returns-else-eat_ending-clause-t
 returns-else-eat_ending-clause-takes g c =
     let mode = g.M.ParseMode.mode in
     let blocks = open_blocks c.args.parser.now in
-    let text = g.P.EntryParser.text c.args.by.now (setting_in mode blocks) in
     let same : open_blocks c.eat.new.self ≡ blocks = c.if-not-eat.ensures.blocks ∙ c.in-Ok.ensures.blocks ∙ c.entries.invariant.blocks in
     let still : open_blocks c.eat_lead-in-entries.new.self ≡ blocks = c.if-not-eat_lead-2.ensures.blocks ∙ same in
-    end_not_there (g.P.EntryParser.fit blocks) text mode c.args.kind blocks c.requires.bracketed c.requires.counted c.eat_lead.ensures.counted c.entries.entries.items c.entries.invariant.so_far
+    end_not_there c.entries.invariant.so_far
     (in_blocks g.P.EntryParser.fit (g.P.EntryParser.text c.args.by.now) mode c.entries.invariant.blocks c.in-Ok.ensures.takes)
     (rw (c.trail.ensures, c.mode.ensures) at c.if-not-eat.ensures.eats)
     (subst (λ n. DoesNotBegin (lead (frame mode c.args.kind) (setting_in mode n) One) (rest c.eat.new.self)) same c.if-not-eat_lead-2.ensures.eats)
@@ -62,10 +56,9 @@ pub entries-preserved : goal.entries-preserved
 entries-preserved g c =
     let mode = g.M.ParseMode.mode in
     let blocks = open_blocks c.args.parser.now in
-    let text = g.P.EntryParser.text c.args.by.now (setting_in mode blocks) in
     let same : open_blocks c.eat.new.self ≡ blocks = c.if-not-eat.ensures.blocks ∙ c.in-Ok.ensures.blocks ∙ c.entries.invariant.blocks in
     record {
-      so_far = rw (c.in-Ok-push.ensures.items) (one_more (g.P.EntryParser.fit blocks) text mode c.args.kind blocks c.requires.bracketed c.requires.counted c.eat_lead.ensures.counted c.entries.entries.items c.entries.invariant.so_far
+      so_far = rw (c.in-Ok-push.ensures.items) (one_more c.entries.invariant.so_far
           (in_blocks g.P.EntryParser.fit (g.P.EntryParser.text c.args.by.now) mode c.entries.invariant.blocks c.in-Ok.ensures.takes)
           (rw (c.trail.ensures, c.mode.ensures) at c.if-not-eat.ensures.eats)
           (subst (λ n. rest c.eat.new.self ≡ lead (frame mode c.args.kind) (setting_in mode n) One ++ rest c.eat_lead-in-entries.new.self) same c.if-not-eat_lead-2.ensures.eats));

@@ -3,10 +3,12 @@ use Rattle.ufmt_parser.proofs.Views.{viewed}
 use Rattle.ufmt_parser.proofs.by_count.field_parsers.Tuple1RefFieldParsersTuple1.parse_rest.Goals as goal
 
 pub returns-in-Err-clause-takes : goal.returns-in-Err-clause-takes
-returns-in-Err-clause-takes g c = viewed (λ v. (v.0, tt)) c.in-Err.ensures.takes
+returns-in-Err-clause-takes g c = viewed
+    (λ v. (v.0, tt)) c.in-Err.ensures.takes
 
 pub returns-clause-takes : goal.returns-clause-takes
-returns-clause-takes g c = viewed (λ v. (v.0, tt)) c.in-Ok.ensures.takes
+returns-clause-takes g c = viewed
+    (λ v. (v.0, tt)) c.in-Ok.ensures.takes
 
 pub returns-in-Err-clause-memory : goal.returns-in-Err-clause-memory
 returns-in-Err-clause-memory g c = c.in-Err.ensures.memory

@@ -7,25 +7,44 @@ use Rattle.ufmt_parser.proofs.Words.{names_are}
 use Rattle.ufmt_parser.proofs.by_count.structs.few.parse_struct_2.Goals as goal
 
 pub parse_struct-requires-clause-named : goal.parse_struct-requires-clause-named
-parse_struct-requires-clause-named g c = names_are (c.args.name.now ∷ c.args.a.now ∷ c.args.b.now ∷ []) (c.utf8.name, (c.utf8.a, (c.utf8.b, tt))) c.requires.named
+parse_struct-requires-clause-named g c = names_are
+    (c.args.name.now ∷ c.args.a.now ∷ c.args.b.now ∷ [])
+    (c.utf8.name, (c.utf8.a, (c.utf8.b, tt))) c.requires.named
 
 pub parse_struct-requires-clause-counted : goal.parse_struct-requires-clause-counted
 parse_struct-requires-clause-counted g c = λ v. refl
 
 pub returns-clause-values : goal.returns-clause-values
-returns-clause-values g c = IfOk-weaker c.parse_struct.result _ _ (λ v are. (are.0, are.1.0)) c.parse_struct.ensures.values
+returns-clause-values g c = IfOk-weaker c.parse_struct.result _ _
+    (λ v are. (are.0, are.1.0))
+    c.parse_struct.ensures.values
 
 pub returns-clause-taken : goal.returns-clause-taken
 returns-clause-taken g c = c.parse_struct.ensures.taken
 
 pub returns-clause-only : goal.returns-clause-only
-returns-clause-only g c = IfOk-weaker c.parse_struct.result _ _ (λ _ only block_name a_name b_name a_value b_value same is_a is_b. struct_leaves _ _ _ _ (a_name ∷ b_name ∷ []) (c.args.a.now ∷ c.args.b.now ∷ []) (g.A.uDebug.document a_value ∷ g.B.uDebug.document b_value ∷ []) same _ (only (a_value, b_value) (is_a, (is_b, tt)))) c.parse_struct.ensures.only
+returns-clause-only g c = IfOk-weaker c.parse_struct.result _ _
+    (λ _ only _ _ _ a_value b_value same is_a is_b.
+    struct_leaves _ _ _ _ _ _ _
+    (only (a_value, b_value)
+    (is_a, (is_b, tt))) same refl)
+    c.parse_struct.ensures.only
 
 pub returns-clause-none : goal.returns-clause-none
-returns-clause-none g c = IfErr-weaker c.parse_struct.result _ _ (λ _ none is_not block_name a_name b_name a_value b_value same is_a is_b. no_struct _ _ _ _ (a_name ∷ b_name ∷ []) (c.args.a.now ∷ c.args.b.now ∷ []) (g.A.uDebug.document a_value ∷ g.B.uDebug.document b_value ∷ []) same (none is_not (a_value, b_value) (is_a, (is_b, tt)))) c.parse_struct.ensures.none
+returns-clause-none g c = IfErr-weaker c.parse_struct.result _ _
+    (λ _ none is_not _ _ _ a_value b_value same is_a is_b.
+    no_struct _ _ _ _ _ _
+    (none is_not (a_value, b_value)
+    (is_a, (is_b, tt))) same refl)
+    c.parse_struct.ensures.none
 
 pub returns-clause-alike : goal.returns-clause-alike
-returns-clause-alike g c = IfErr-weaker c.parse_struct.result _ _ (λ _ none is_not other others a_value b_value named same is_a is_b. no_struct_alike _ _ _ _ (none is_not (a_value, b_value) (is_a, (is_b, tt))) other others named same) c.parse_struct.ensures.none
+returns-clause-alike g c = IfErr-weaker c.parse_struct.result _ _
+    (λ _ none is_not other others a_value b_value named same is_a is_b.
+    no_struct_alike _ _ _ _
+    (none is_not (a_value, b_value)
+    (is_a, (is_b, tt))) other others named same)
+    c.parse_struct.ensures.none
 
 pub returns-clause-memory : goal.returns-clause-memory
 returns-clause-memory g c = λ none. c.parse_struct.ensures.memory (none.0, (none.1, tt))

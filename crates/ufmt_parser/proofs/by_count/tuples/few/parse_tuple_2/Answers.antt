@@ -5,19 +5,36 @@ use Rattle.ufmt_parser.proofs.Naming.{no_tuple, tuple_leaves}
 use Rattle.ufmt_parser.proofs.by_count.tuples.few.parse_tuple_2.Goals as goal
 
 pub returns-clause-values : goal.returns-clause-values
-returns-clause-values g c = IfOk-weaker c.parse_tuple.result _ _ (λ v are. (are.0, are.1.0)) c.parse_tuple.ensures.values
+returns-clause-values g c = IfOk-weaker c.parse_tuple.result _ _
+    (λ v are. (are.0, are.1.0))
+    c.parse_tuple.ensures.values
 
 pub returns-clause-taken : goal.returns-clause-taken
 returns-clause-taken g c = c.parse_tuple.ensures.taken
 
 pub returns-clause-only : goal.returns-clause-only
-returns-clause-only g c = IfOk-weaker c.parse_tuple.result _ _ (λ _ only block_name a_value b_value same is_a is_b. tuple_leaves _ _ _ _ _ same _ (only (a_value, b_value) (is_a, (is_b, tt)))) c.parse_tuple.ensures.only
+returns-clause-only g c = IfOk-weaker c.parse_tuple.result _ _
+    (λ _ only _ a_value b_value same is_a is_b.
+    tuple_leaves _ _ _ _ _ _
+    (only (a_value, b_value)
+    (is_a, (is_b, tt))) same)
+    c.parse_tuple.ensures.only
 
 pub returns-clause-none : goal.returns-clause-none
-returns-clause-none g c = IfErr-weaker c.parse_tuple.result _ _ (λ _ none is_not block_name a_value b_value same is_a is_b. no_tuple _ _ _ _ _ same (none is_not (a_value, b_value) (is_a, (is_b, tt)))) c.parse_tuple.ensures.none
+returns-clause-none g c = IfErr-weaker c.parse_tuple.result _ _
+    (λ _ none is_not _ a_value b_value same is_a is_b.
+    no_tuple _ _ _ _ _
+    (none is_not (a_value, b_value)
+    (is_a, (is_b, tt))) same)
+    c.parse_tuple.ensures.none
 
 pub returns-clause-alike : goal.returns-clause-alike
-returns-clause-alike g c = IfErr-weaker c.parse_tuple.result _ _ (λ _ none is_not other others a_value b_value named same is_a is_b. no_tuple_alike _ _ _ _ (none is_not (a_value, b_value) (is_a, (is_b, tt))) other others named same) c.parse_tuple.ensures.none
+returns-clause-alike g c = IfErr-weaker c.parse_tuple.result _ _
+    (λ _ none is_not other others a_value b_value named same is_a is_b.
+    no_tuple_alike _ _ _ _
+    (none is_not (a_value, b_value)
+    (is_a, (is_b, tt))) other others named same)
+    c.parse_tuple.ensures.none
 
 pub returns-clause-memory : goal.returns-clause-memory
 returns-clause-memory g c = λ none. c.parse_tuple.ensures.memory (none.0, (none.1, tt))

@@ -1,0 +1,86 @@
+"""docs/API.md: what a user can call, as the sources have it.
+
+A call has its signature, its clauses and the first sentence of its comment. Laws, which only say that something holds, are in
+docs/PROMISES.md, and so are left out here.
+"""
+import re
+
+from lib.api.items import items_of, macros_of
+from lib.contracts.functions import Exports
+from lib.contracts.source import sources
+from lib.findings import ended
+from lib.top import TOP
+
+PAGE = TOP / "docs" / "API.md"
+# The crates that a user names, with those whose items they hand on.
+CRATES = ("ufmt", "ufmt_parse", "ufmt_doc", "ufmt_values", "ufmt_snapshot")
+# What these modules have, and this call of `cursor`, are for other crates of this repository.
+FOR_SIBLINGS = {"ascii", "layout", "quoted", "unsigned", "put"}
+HEAD = """# API
+
+What you can call, by the crate that you name. `./x generate` writes this page from the sources: a call has its signature, its clauses and the first sentence of its comment. Where there is a call for each number of fields, such as `struct_0` to `struct_12`, the one with two fields stands for all. [PROMISES.md](PROMISES.md) has the laws of each crate, and the CALLING page of a crate says how to use it.
+"""
+# Other macros are called by these.
+MACROS = {"fields", "variants", "uwrite", "uwriteln", "pieces", "parse_fields", "parse_variants", "assert_snapshot"}
+# A call for each number of fields: the page has the one with two.
+ONE_OF_MANY = re.compile(r"_(?!2$)\d+$")
+HANDED_ON = re.compile(r"(?ms)^\s*pub use (ufmt_\w+)::([^;]*);")
+
+
+def handed_on(text):
+    """The crates that a file hands items on from, each with the last names of their paths."""
+    for crate, path in HANDED_ON.findall(text):
+        names = path[path.index("{") + 1 :].strip("} \n").split(",") if "{" in path else [path]
+        yield crate, {name.strip().split("::")[-1] for name in names if name.strip()}
+
+
+def shown(crate, names=None):
+    """The items of a crate that are public, or those of these names."""
+    folder = TOP / "crates" / crate / "src"
+    exports = Exports(folder)
+    for path in sources(folder):
+        parts = path.relative_to(folder).with_suffix("").parts
+        if "laws" in parts or ".".join(parts) in FOR_SIBLINGS:
+            continue
+        for item in items_of(path, exports):
+            if (names is None or item.group in names or set(parts) & names) and not ONE_OF_MANY.search(item.name) and item.name not in FOR_SIBLINGS:
+                yield item
+
+
+def of_crate(crate):
+    folder = TOP / "crates" / crate / "src"
+    found = list(shown(crate))
+    for other, names in handed_on((folder / "lib.rt").read_text()):
+        found += shown(other, names)
+    return [*found, *macros_of(sources(folder), MACROS)]
+
+
+def section(crate):
+    """The part of a crate: the calls outside of types first, then each type with its calls, by name."""
+    groups = {}
+    for item in of_crate(crate):
+        groups.setdefault("" if item.is_free else item.group, []).append(item)
+    yield "\n## `%s`\n\n%s\n" % (crate, about(crate))
+    for group in sorted(groups, key=lambda name: (name != "", name.lower())):
+        yield "\n### %s\n\n<!-- form -->\n```rust\n%s\n```\n" % ("`%s`" % group if group else "Calls", "\n\n".join(dict.fromkeys(item.text for item in groups[group])))
+
+
+def about(crate):
+    """The first paragraph of a crate's own comment."""
+    lines = [line[3:].strip() for line in (TOP / "crates" / crate / "src" / "lib.rt").read_text().splitlines() if line.startswith("//!")]
+    return " ".join(lines[: lines.index("")] if "" in lines else lines)
+
+
+def text():
+    return HEAD + "".join(part for crate in CRATES for part in section(crate))
+
+
+def write():
+    PAGE.write_text(text(), encoding="utf-8")
+    print("docs/API.md, written")
+    return 0
+
+
+def main(_given):
+    stale = not PAGE.is_file() or PAGE.read_text(encoding="utf-8") != text()
+    return ended(["docs/API.md:1: not as `x generate` writes it"] * stale, "docs/API.md")
