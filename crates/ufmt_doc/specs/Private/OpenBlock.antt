@@ -30,13 +30,13 @@ module _ {N : Type 0} (shown : N → List ℕ × Bool) where
   abbrev pub blocks_view : List (OpenBlock N) → List Block
   blocks_view blocks = reverse (map block_view blocks)
 
--- a block of this kind without entries
+-- a block of this kind without entries; only a struct or a tuple with a name has one
 abbrev pub opened : Kind → List ℕ → Block
 opened Brackets name = open_list []
 opened Braces name = open_set []
 opened Struct name = open_struct name [] None
 opened Tuple name = open_tuple name []
-opened Unnamed name = open_tuple name []
+opened Unnamed name = open_tuple [] []
 
 -- a document comes after the entries: as one more, as a key, or as the value of what waits
 abbrev pub entered : Document → Block → Block

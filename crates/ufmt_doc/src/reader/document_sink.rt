@@ -79,8 +79,8 @@ impl<N: ReadName> DocumentSink<N> {
     fn open(&mut self, kind: Kind, name: &str) -> Result<(), AllocError>
         ensures { OnOk result (growing N.shown self.new ≡ ((growing N.shown self.old).0, pushed (opened kind name.now) (growing N.shown self.old).1)) }
     {
-        let name = String::from_str(self.alloc, name)?;
-        self.blocks.push(OpenBlock::new(self.alloc, kind, name))
+        let block = OpenBlock::new(self.alloc, kind, name)?;
+        self.blocks.push(block)
     }
 
     #[inline(always)]

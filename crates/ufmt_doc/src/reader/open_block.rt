@@ -1,5 +1,5 @@
 //! An open block of a text that is read.
-ghost use Rattle.std.specs.Prelude.{◌≡◌, ◌&&◌, ◌++◌, ◌∷◌, [], OnOk, string_bytes};
+ghost use Rattle.std.specs.Prelude.{◌≡◌, ◌&&◌, ◌++◌, ◌∷◌, [], IfOk, OnOk, string_bytes};
 ghost use Rattle.ufmt_doc.specs.Doc.{tree_document};
 ghost use Rattle.ufmt_doc.specs.Private.OpenBlock.{block_view, ended, entered, field_named, keyed, opened};
 
@@ -22,18 +22,24 @@ pub(super) enum OpenBlock<N> {
 
 #[tactic(auto, using(crate::proofs::Trees::trees))]
 impl<N: ReadName> OpenBlock<N> {
-    /// Opens a block of this kind. A list, a set, a map or a tuple without a name has none.
+    /// Opens a block of this kind. Only a struct or a tuple with a name keeps it: to make a text for the others costs
+    /// a reader two steps a byte.
     #[inline(always)]
-    pub(super) fn new(alloc: Global, kind: Kind, name: String) -> OpenBlock<N>
-        ensures { block_view N.shown result ≡ opened kind (string_bytes name) }
+    pub(super) fn new(alloc: Global, kind: Kind, name: &str) -> Result<OpenBlock<N>, AllocError>
+        ensures { IfOk result (λ block. block_view N.shown block ≡ opened kind name.now) }
     {
         match kind {
-            Kind::Brackets => OpenBlock::Listed(Vec::new(alloc)),
-            Kind::Braces => OpenBlock::SetOf(Vec::new(alloc)),
-            Kind::Struct => OpenBlock::StructOf(name, Vec::new(alloc), None),
-            Kind::Tuple => OpenBlock::TupleOf(name, Vec::new(alloc)),
-            // As one arm these need a proof file.
-            Kind::Unnamed => OpenBlock::TupleOf(name, Vec::new(alloc)),
+            Kind::Brackets => Ok(OpenBlock::Listed(Vec::new(alloc))),
+            Kind::Braces => Ok(OpenBlock::SetOf(Vec::new(alloc))),
+            Kind::Struct => {
+                let name = String::from_str(alloc, name)?;
+                Ok(OpenBlock::StructOf(name, Vec::new(alloc), None))
+            }
+            Kind::Tuple => {
+                let name = String::from_str(alloc, name)?;
+                Ok(OpenBlock::TupleOf(name, Vec::new(alloc)))
+            }
+            Kind::Unnamed => Ok(OpenBlock::TupleOf(String::new(alloc), Vec::new(alloc))),
         }
     }
 
