@@ -22,8 +22,8 @@ pub(super) enum OpenBlock<N> {
 
 #[tactic(auto, using(crate::proofs::Trees::trees))]
 impl<N: ReadName> OpenBlock<N> {
-    /// Opens a block of this kind. Only a struct or a tuple with a name keeps it: to make a text for the others costs
-    /// a reader two steps a byte.
+    /// Opens a block of this kind. Only a struct or a tuple with a name keeps it: a text for each other block would
+    /// cost a reader more than a step for each byte.
     #[inline(always)]
     pub(super) fn new(alloc: Global, kind: Kind, name: &str) -> Result<OpenBlock<N>, AllocError>
         ensures { IfOk result (λ block. block_view N.shown block ≡ opened kind name.now) }
