@@ -12,13 +12,15 @@ from lib.findings import ended
 from lib.top import TOP
 
 PAGE = TOP / "docs" / "API.md"
+# A file for each crate: what the words of its clauses mean.
+WORDS = TOP / "tools" / "data" / "words"
 # The crates that a user names, with those whose items they hand on.
 CRATES = ("ufmt", "ufmt_parse", "ufmt_doc", "ufmt_values", "ufmt_snapshot")
 # What these modules have, but `Mode`, and this call of `cursor`, are for other crates of this repository.
 FOR_SIBLINGS = {"ascii", "layout", "quoted", "unsigned", "put"}
 HEAD = """# API
 
-What you can call, by the crate that you name. `./x generate` writes this page from the sources: a call has its signature, its clauses and the first sentence of its comment. A heading has the path below the crate: `pieces::Each` of `ufmt` is `use ufmt::pieces::Each;`. `Builder` has none: name its aliases, such as `DebugList`. Where there is a call for each number of fields, such as `struct_0` to `struct_12`, the one with two fields stands for all. [PROMISES.md](PROMISES.md) has the laws of each crate, and the CALLING page of a crate says how to use it.
+What you can call, by the crate that you name. `./x generate` writes this page from the sources: a call has its signature, its clauses and the first sentence of its comment. A heading has the path below the crate: `pieces::Each` of `ufmt` is `use ufmt::pieces::Each;`. `Builder` has none: name its aliases, such as `DebugList`. Where there is a call for each number of fields, such as `struct_0` to `struct_12`, the one with two fields stands for all. [PROMISES.md](PROMISES.md) has the laws of each crate, and the CALLING page of a crate says how to use it. [GLOSSARY.md](GLOSSARY.md) explains the words that aren't of clauses.
 """
 # Other macros are called by these.
 MACROS = {"fields", "variants", "uwrite", "uwriteln", "pieces", "parse_fields", "parse_variants", "assert_snapshot"}
@@ -73,7 +75,7 @@ def section(crate):
     groups = {}
     for item in of_crate(crate):
         groups.setdefault(("" if item.is_free else item.group, item.module), []).append(item)
-    yield "\n## `%s`\n\n%s\n" % (crate, about(crate))
+    yield "\n## `%s`\n\n%s\n\n%s" % (crate, about(crate), (WORDS / (crate + ".md")).read_text(encoding="utf-8"))
     for (group, module), items in sorted(groups.items(), key=lambda found: (found[0][0] != "", found[0][0].lower(), found[0][1])):
         head = "`%s%s`" % (module, group) if group else "Calls of `%s`" % module[:-2] if module else "Calls"
         yield "\n### %s\n\n<!-- form -->\n```rust\n%s\n```\n" % (head, "\n\n".join(dict.fromkeys(item.text for item in items)))
