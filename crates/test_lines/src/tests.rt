@@ -11,6 +11,7 @@ mod hexadecimal;
 mod lines;
 mod long_lines;
 mod radix;
+mod ring;
 mod shadowed_names;
 mod uwrite;
 mod widths;

@@ -9,12 +9,13 @@ MACRO = re.compile(r"macro_rules! (\w+)")
 
 
 class Item(NamedTuple):
-    """An item, and the type or trait that it belongs to, or else its own name."""
+    """An item, the type or trait that it belongs to, or else its own name, and the path before that, as `pieces::`."""
 
     group: str
     is_free: bool
     name: str
     text: str
+    module: str = ""
 
 
 def items_of(path, exports):

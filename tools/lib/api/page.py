@@ -6,32 +6,36 @@ docs/PROMISES.md, and so are left out here.
 import re
 
 from lib.api.items import items_of, macros_of
-from lib.contracts.functions import Exports
+from lib.contracts.functions import Exports, re_exported
 from lib.contracts.source import sources
 from lib.findings import ended
 from lib.top import TOP
 
 PAGE = TOP / "docs" / "API.md"
+# A file for each crate: what the words of its clauses mean.
+WORDS = TOP / "tools" / "data" / "words"
 # The crates that a user names, with those whose items they hand on.
 CRATES = ("ufmt", "ufmt_parse", "ufmt_doc", "ufmt_values", "ufmt_snapshot")
-# What these modules have, and this call of `cursor`, are for other crates of this repository.
+# What these modules have, but `Mode`, and this call of `cursor`, are for other crates of this repository.
 FOR_SIBLINGS = {"ascii", "layout", "quoted", "unsigned", "put"}
 HEAD = """# API
 
-What you can call, by the crate that you name. `./x generate` writes this page from the sources: a call has its signature, its clauses and the first sentence of its comment. Where there is a call for each number of fields, such as `struct_0` to `struct_12`, the one with two fields stands for all. [PROMISES.md](PROMISES.md) has the laws of each crate, and the CALLING page of a crate says how to use it.
+What you can call, by the crate that you name. `./x generate` writes this page from the sources: a call has its signature, its clauses and the first sentence of its comment. A heading has the path below the crate: `pieces::Each` of `ufmt` is `use ufmt::pieces::Each;`. `Builder` has none: name its aliases, such as `DebugList`. Where there is a call for each number of fields, such as `struct_0` to `struct_12`, the one with two fields stands for all. [PROMISES.md](PROMISES.md) has the laws of each crate, and the CALLING page of a crate says how to use it. [GLOSSARY.md](GLOSSARY.md) explains the words that aren't of clauses.
 """
 # Other macros are called by these.
 MACROS = {"fields", "variants", "uwrite", "uwriteln", "pieces", "parse_fields", "parse_variants", "assert_snapshot"}
 # A call for each number of fields: the page has the one with two.
 ONE_OF_MANY = re.compile(r"_(?!2$)\d+$")
+ALIAS = re.compile(r"pub type (\w+).*= (\w+)")
 HANDED_ON = re.compile(r"(?ms)^\s*pub use (ufmt_\w+)::([^;]*);")
 
 
 def handed_on(text):
-    """The crates that a file hands items on from, each with the last names of their paths."""
+    """The crates that a file hands items on from, each with the last names of their paths, and the types of which these are aliases."""
     for crate, path in HANDED_ON.findall(text):
         names = path[path.index("{") + 1 :].strip("} \n").split(",") if "{" in path else [path]
-        yield crate, {name.strip().split("::")[-1] for name in names if name.strip()}
+        found = {name.strip().split("::")[-1] for name in names if name.strip()}
+        yield crate, found | {of for path in sources(TOP / "crates" / crate / "src") for name, of in ALIAS.findall(path.read_text()) if name in found}
 
 
 def shown(crate, names=None):
@@ -40,11 +44,22 @@ def shown(crate, names=None):
     exports = Exports(folder)
     for path in sources(folder):
         parts = path.relative_to(folder).with_suffix("").parts
-        if "laws" in parts or ".".join(parts) in FOR_SIBLINGS:
-            continue
-        for item in items_of(path, exports):
-            if (names is None or item.group in names or set(parts) & names) and not ONE_OF_MANY.search(item.name) and item.name not in FOR_SIBLINGS:
-                yield item
+        for item in () if "laws" in parts else items_of(path, exports):
+            if (names is None or item.group in names or set(parts) & names) and not is_left_out(parts, item):
+                yield item._replace(module=before(exports, parts, item.group, names or set(re_exported(exports.files[()]))))
+
+
+def is_left_out(parts, item):
+    return bool(FOR_SIBLINGS & {item.name, ".".join(parts)}) and item.name != "Mode" or ONE_OF_MANY.search(item.name)
+
+
+def before(exports, parts, name, names):
+    """What another crate writes before a name of a file: its public modules, or nothing if the crate itself exports it."""
+    if name in names and name not in parts:
+        return ""
+    end = max(end for end in range(len(parts) + 1) if parts[:end] in exports.modules)
+    first = next((at for at, part in enumerate(parts[:end]) if part in names), 0)
+    return "".join(part + "::" for part in parts[first:end])
 
 
 def of_crate(crate):
@@ -59,10 +74,11 @@ def section(crate):
     """The part of a crate: the calls outside of types first, then each type with its calls, by name."""
     groups = {}
     for item in of_crate(crate):
-        groups.setdefault("" if item.is_free else item.group, []).append(item)
-    yield "\n## `%s`\n\n%s\n" % (crate, about(crate))
-    for group in sorted(groups, key=lambda name: (name != "", name.lower())):
-        yield "\n### %s\n\n<!-- form -->\n```rust\n%s\n```\n" % ("`%s`" % group if group else "Calls", "\n\n".join(dict.fromkeys(item.text for item in groups[group])))
+        groups.setdefault(("" if item.is_free else item.group, item.module), []).append(item)
+    yield "\n## `%s`\n\n%s\n\n%s" % (crate, about(crate), (WORDS / (crate + ".md")).read_text(encoding="utf-8"))
+    for (group, module), items in sorted(groups.items(), key=lambda found: (found[0][0] != "", found[0][0].lower(), found[0][1])):
+        head = "`%s%s`" % (module, group) if group else "Calls of `%s`" % module[:-2] if module else "Calls"
+        yield "\n### %s\n\n<!-- form -->\n```rust\n%s\n```\n" % (head, "\n\n".join(dict.fromkeys(item.text for item in items)))
 
 
 def about(crate):
