@@ -1,6 +1,21 @@
 //! Tests of what no clause says of parsing: that it succeeds with ample memory, and where a text that isn't parsed stops
 //! fitting. They parse types of users, and types of std that probe_model doesn't parse. tools/data/rows has texts of the
 //! other types.
+// Asserts that each text of a value of the type comes back, and that each other stops to be one where its row says: at a place,
+// with what is expected there, such as `16 Punctuation`. A row of a value's text says nothing.
+macro_rules! all_stop {
+    ($rt:ident, $type:ty; $($text:expr => $stop:literal;)*) => {
+        same(&$rt, first_other::<$type>($rt.alloc(), &[$(($text, $stop)),*]), None, "by rows");
+    };
+}
+
+// Asserts that each text before the semicolon comes back as a value of the type, and that each one after it is refused.
+macro_rules! all_read {
+    ($rt:ident, $type:ty; $($taken:literal),+; $($other:literal),*) => {
+        same(&$rt, first_wrong::<$type>($rt.alloc(), &[$($taken),+], &[$($other),*]), None, "by texts");
+    };
+}
+
 mod allocators;
 mod by_parsers;
 mod decimals;

@@ -10,10 +10,7 @@ pub struct X;
 impl uDebug for X {
     ghost document = { λ _. named_struct "X" [] };
 
-    fn fmt<W>(&self, f: &mut Formatter<W>) -> Result<(), W::Error>
-    where
-        W: uWrite,
-    {
+    fn fmt<W: uWrite>(&self, f: &mut Formatter<W>) -> Result<(), W::Error> {
         f.debug_struct("X")?.finish()
     }
 }
@@ -24,10 +21,7 @@ pub struct Y;
 impl uDebug for Y {
     ghost document = { λ _. named_struct "X" [] };
 
-    fn fmt<W>(&self, f: &mut Formatter<W>) -> Result<(), W::Error>
-    where
-        W: uWrite,
-    {
+    fn fmt<W: uWrite>(&self, f: &mut Formatter<W>) -> Result<(), W::Error> {
         uwrite!(f, debug X)
     }
 }

@@ -1,4 +1,4 @@
-//! Rows of a value's pieces. The value is also printed to writers that fail at each piece.
+//! Rows of a value's pieces, or of its texts. The value is also printed to writers that fail at each piece.
 use crate::printed::{Displayed, Left, Printed, print_to};
 use crate::rows::{Table, joined_if_different};
 use crate::writers::{FailAt, Recorded};
@@ -102,24 +102,38 @@ impl Pieces {
     }
 }
 
-// The value's pieces in one mode, and the failure of a writer that leaves something wrong.
-fn pieces_in<T: Printed>(alloc: Global, is_pretty: bool, value: &T) -> Result<String, AllocError> {
+// What the value prints in one mode, with bars or without, and the failure of a writer that leaves something wrong.
+fn printed_in<T: Printed>(
+    alloc: Global,
+    has_bars: bool,
+    is_pretty: bool,
+    value: &T,
+) -> Result<String, AllocError> {
     let pieces = Pieces::of(alloc, is_pretty, value)?;
     let number = pieces.wrong_number(alloc, value)?;
     let size = pieces.wrong_size(alloc, value)?;
-    if pieces.is_as_before && number.is_none() && size.is_none() {
-        return Ok(pieces.barred);
+    let is_right = pieces.is_as_before && number.is_none() && size.is_none();
+    let printed = if has_bars { pieces.barred } else { pieces.text };
+    if is_right {
+        return Ok(printed);
     }
-    format!(in alloc;
-        "{} wrong at FailAt {number:?}, Cursor {size:?}",
-        pieces.barred
-    )
+    format!(in alloc; "{printed} wrong at FailAt {number:?}, Cursor {size:?}")
+}
+
+// The same in plain mode, and after a tilde in pretty mode if that differs.
+fn printed_of<T: Printed>(alloc: Global, has_bars: bool, value: &T) -> Result<String, AllocError> {
+    let pretty = printed_in(alloc, has_bars, true, value)?;
+    joined_if_different(printed_in(alloc, has_bars, false, value)?, pretty.as_str())
 }
 
 /// Returns the value's pieces in plain mode, and after a tilde those in pretty mode if they differ.
 pub fn pieces_of<T: Printed>(alloc: Global, value: &T) -> Result<String, AllocError> {
-    let pretty = pieces_in(alloc, true, value)?;
-    joined_if_different(pieces_in(alloc, false, value)?, pretty.as_str())
+    printed_of(alloc, true, value)
+}
+
+/// Returns the value's plain text, and after a tilde its pretty text if it differs.
+pub fn texts_of<T: Printed>(alloc: Global, value: &T) -> Result<String, AllocError> {
+    printed_of(alloc, false, value)
 }
 
 // The number's pieces by both traits.
@@ -145,13 +159,50 @@ impl Table {
         }
     }
 
-    /// Adds a row of two values' pieces, which is the row of the first if they have the same pieces.
-    pub fn same_pieces<T: Printed, U: Printed>(&mut self, value: &T, other: &U) {
-        let (first, second) = (
-            pieces_of(self.alloc(), value),
-            pieces_of(self.alloc(), other),
-        );
+    /// Adds a row of the value's plain text. The row is wrong as one of pieces is.
+    pub fn plain<T: Printed>(&mut self, value: &T) {
+        let row = printed_in(self.alloc(), false, false, value);
+        self.put_made(row);
+    }
+
+    /// Adds the same row, if there was memory for the value.
+    pub fn plain_of_made<T: Printed + Drop, E: Drop>(&mut self, value: Result<T, E>) {
+        match value {
+            Ok(value) => self.plain(&value),
+            Err(_) => self.put_nothing(),
+        }
+    }
+
+    /// Adds a row of the value's texts. The row is wrong as one of pieces is.
+    pub fn texts<T: Printed>(&mut self, value: &T) {
+        let row = texts_of(self.alloc(), value);
+        self.put_made(row);
+    }
+
+    /// Adds the same row, if there was memory for the value.
+    pub fn texts_of_made<T: Printed + Drop, E: Drop>(&mut self, value: Result<T, E>) {
+        match value {
+            Ok(value) => self.texts(&value),
+            Err(_) => self.put_nothing(),
+        }
+    }
+
+    /// Adds a row of two values' texts, which is the row of the first if they have the same texts.
+    pub fn same_texts<T: Printed, U: Printed>(&mut self, value: &T, other: &U) {
+        let (first, second) = (texts_of(self.alloc(), value), texts_of(self.alloc(), other));
         self.put_both(first, second);
+    }
+
+    /// Adds the same row, if there was memory for the values.
+    pub fn same_texts_of_made<T: Printed + Drop, U: Printed + Drop, E: Drop>(
+        &mut self,
+        value: Result<T, E>,
+        other: Result<U, E>,
+    ) {
+        match (value, other) {
+            (Ok(value), Ok(other)) => self.same_texts(&value, &other),
+            _ => self.put_nothing(),
+        }
     }
 
     /// Adds a row of the number's pieces by `uDebug`, and after a tilde by `uDisplay`, if they

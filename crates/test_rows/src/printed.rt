@@ -2,8 +2,8 @@
 ghost use Rattle.std.specs.Prelude.{◌<◌};
 
 use ufmt::{
-    Formatter, HexOptions, Radix, uDebug, uDisplay, uDisplayHex, uDisplayRadix, uDisplayZeros,
-    uWrite,
+    Align, Column, Decimal, Formatter, HexOptions, Radix, uDebug, uDisplay, uDisplayHex,
+    uDisplayRadix, uDisplayZeros, uWrite,
 };
 
 /// Hexadecimal options that lines and columns print with.
@@ -13,6 +13,22 @@ pub const PREFIXED: HexOptions = HexOptions {
     pad_length: 6,
     ox_prefix: true,
 };
+
+/// Options for digits in two and in eight. They have no letters.
+pub const BITS: HexOptions = HexOptions {
+    upper_case: true,
+    pad_char: b'0',
+    pad_length: 10,
+    ox_prefix: true,
+};
+
+pub fn column(align: Align, fill: char, width: usize) -> Column {
+    Column { width, align, fill }
+}
+
+pub fn decimal(value: i64, places: u8) -> Decimal {
+    Decimal { value, places }
+}
 
 /// A value that prints to any writer. `print` has no contract: the rows say what it writes.
 pub trait Printed {

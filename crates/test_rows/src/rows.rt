@@ -3,18 +3,6 @@ use std::alloc::{AllocError, Global};
 use std::collections::{BTreeMap, BTreeSet};
 use ufmt::Full;
 
-/// Adds a row of each of these nonzero numbers by a method of the table, and after an arrow what is wanted of it.
-#[macro_export]
-macro_rules! put_nonzero {
-    ($table:ident.$put:ident: $($number:ident $value:expr => $wanted:expr),*) => {
-        $(match $number::new($value) {
-            Some(number) => $table.$put(number),
-            None => $table.put_nothing(),
-        }
-        $table.wants($wanted);)*
-    };
-}
-
 /// An array of rows: cells, and after an arrow what is wanted of them.
 #[macro_export]
 macro_rules! rows_of {
@@ -29,6 +17,21 @@ macro_rules! put_rows {
     ($table:ident; $($put:ident($($value:expr),+) => $wanted:expr;)*) => {
         $($table.$put($($value),+);
         $table.wants($wanted);)*
+    };
+}
+
+/// Adds a row for each length of a buffer: what a call that prints into it returns, and so many bytes, of which those that it
+/// leaves are tildes.
+#[macro_export]
+macro_rules! put_filled {
+    ($table:ident; $buffer:ident[$size:literal] $call:expr; $($length:expr => $wanted:expr;)*) => {
+        for (length, wanted) in [$(($length, $wanted)),*] {
+            let mut bytes = [b'~'; $size];
+            let $buffer = &mut bytes[..length];
+            let outcome = $call;
+            $table.put_outcome(outcome, &bytes);
+            $table.wants(wanted);
+        }
     };
 }
 
@@ -113,6 +116,11 @@ impl Table {
         let text = str::from_utf8(left).unwrap_or("bytes that are no UTF-8");
         self.put_made(format!(in self.alloc; "{outcome:?} {text}"));
     }
+
+    /// Adds a row of a call's result, with this count if it is `Ok`, and of what is written.
+    pub fn put_written(&mut self, outcome: Result<(), Full>, count: usize, written: &[u8]) {
+        self.put_outcome(outcome.map(|()| count), written);
+    }
 }
 
 /// Returns the first text, and after a tilde the second if it differs.
@@ -126,10 +134,6 @@ pub fn joined_if_different(mut first: String, second: &str) -> Result<String, Al
 
 pub fn are_ok(outcomes: &[Result<(), AllocError>]) -> bool {
     outcomes.iter().all(|outcome| outcome.is_ok())
-}
-
-pub fn list<N: Copy>(alloc: Global, items: &[N]) -> Result<Vec<N>, AllocError> {
-    Vec::from_slice(alloc, items)
 }
 
 pub fn set<N: Copy + Ord>(alloc: Global, items: &[N]) -> Result<BTreeSet<N>, AllocError> {

@@ -5,22 +5,32 @@ ghost use Rattle.ufmt.specs.Cursor.{buffer_length, buffer_name, written_bytes};
 use std::alloc::{AllocError, Global};
 use ufmt::{Cursor, Full, uWrite};
 
-/// Passes pieces to a cursor. It refuses the piece with this number and all later ones, without a
-/// change. It counts only pieces that aren't empty, from 1 on. An empty piece is always `Ok`.
+/// Passes pieces to a cursor. It refuses the pieces from this number on, up to the last of them, without a change. It
+/// counts only pieces that aren't empty, from 1 on. An empty piece is always `Ok`.
 #[derive(Drop)]
 pub struct FailAt<'a> {
     cursor: Cursor<'a>,
     count: usize,
     refused: usize,
+    last: usize,
 }
 
 impl<'a> FailAt<'a> {
+    /// Refuses the piece with this number and all later ones.
     pub fn new(buffer: &'a mut [u8], refused: usize) -> Self {
         FailAt {
             cursor: Cursor::new(buffer),
             count: 0,
             refused,
+            last: usize::MAX,
         }
+    }
+
+    /// Refuses only the piece with this number.
+    pub fn once(buffer: &'a mut [u8], refused: usize) -> Self {
+        let mut writer = FailAt::new(buffer, refused);
+        writer.last = refused;
+        writer
     }
 
     pub fn written(&self) -> &[u8] {
@@ -45,7 +55,7 @@ impl uWrite for FailAt<'_> {
             return Ok(());
         }
         self.count = self.count.saturating_add(1);
-        if self.count >= self.refused {
+        if self.count >= self.refused && self.count <= self.last {
             return Err(Full);
         }
         self.cursor.write_str(s)

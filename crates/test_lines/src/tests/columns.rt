@@ -9,18 +9,14 @@ use example_print::{Counter, write_row};
 use std::alloc::{AllocError, Global};
 use std::cell::Cell;
 use std::test::Fail;
-use test_rows::printed::{PREFIXED, Printed};
+use test_rows::printed::{PREFIXED, Printed, column, decimal};
 use test_rows::rows::Table;
-use test_rows::rows_of;
+use test_rows::{put_filled, rows_of};
 use ufmt::pieces::{Debug, Display, InColumn};
 use ufmt::{
-    Align, Column, Decimal, Formatter, HexOptions, Line, laws, line_into, pieces, uDebug,
-    uDisplayHex, uWrite, uwrite, write_line,
+    Align, Column, Formatter, HexOptions, Line, laws, line_into, pieces, uDebug, uDisplayHex,
+    uWrite, uwrite, write_line,
 };
-
-fn column(align: Align, fill: char, width: usize) -> Column {
-    Column { width, align, fill }
-}
 
 fn left(width: usize) -> Column {
     column(Align::Left, ' ', width)
@@ -32,6 +28,10 @@ fn center(width: usize) -> Column {
 
 fn right(width: usize) -> Column {
     column(Align::Right, ' ', width)
+}
+
+fn in_column<M>(mark: M, column: Column) -> InColumn<M> {
+    InColumn { mark, column }
 }
 
 // A line, which prints in either mode.
@@ -106,11 +106,8 @@ fn a_column_that_no_buffer_holds_fails_with_full(rt: HostRuntime) {
         Align::Right, ' ' => "Err(Full)                                                                 ~~~~~~~~~~~~~~~~";
         Align::Right, '*' => "Err(Full) ********************************************************************************";
     ] {
-        let mut bytes = [b'~'; 80];
         let widest = column(align, fill, usize::MAX);
-        let outcome = line_into(&mut bytes, &pieces!(display 'x' in widest));
-        table.put_outcome(outcome, &bytes);
-        table.wants(wanted);
+        put_filled!(table; buffer[80] line_into(buffer, &pieces!(display 'x' in widest)); 80 => wanted;);
     }
     has_wanted_rows(&rt, &table);
 }
@@ -140,39 +137,21 @@ fn values_are_padded_as_their_texts_and_as_the_laws_say(rt: HostRuntime) {
         (display "" in right(70)) => "                                                                |      ||"
         (display 'x' in center(129)) => "                                                                |x|                                                                |"
     );
-    let starred = InColumn {
-        mark: Display,
-        column: column(Align::Center, '*', 5),
-    };
-    let within = InColumn {
-        mark: starred,
-        column: right(9),
-    };
+    let within = in_column(in_column(Display, column(Align::Center, '*', 5)), right(9));
     put_lines!(table;
         (each [8u8] by within between "") => "    |*|*|8|*|*|"
     );
-    for (columns, wanted) in [
-        (
-            Columns::InAList,
-            "\
+    for (columns, wanted) in rows_of![
+        Columns::InAList => "\
 [|                ||(|1|, |\"|é|\"|)|                |]|~
 [|
 |    |    ||(|
 |    |    |1|,
 |    |    |\"|é|\"|,
 |    |)|     |,
-|]|",
-        ),
-        (
-            Columns::ByUwrite,
-            "\
-n=|   |5|, |0x|0|0|ff|!
-|",
-        ),
-        (
-            Columns::ByLaws,
-            "7|    |\"|a|\"|  |()|   |0x|0|0|ff|7|    |\"|a|\"|  |()|   |0x|0|0|ff|\"|b|\"|  |0x|0|0|10|-|0x|0|0|11|",
-        ),
+|]|";
+        Columns::ByUwrite => "n=|   |5|, |0x|0|0|ff|!\n|";
+        Columns::ByLaws => "7|    |\"|a|\"|  |()|   |0x|0|0|ff|7|    |\"|a|\"|  |()|   |0x|0|0|ff|\"|b|\"|  |0x|0|0|10|-|0x|0|0|11|";
     ] {
         table.pieces(&columns);
         table.wants(wanted);
@@ -200,60 +179,45 @@ impl uDisplayHex for Ff {
 // Numbers padded to each length from 4 to 8, with zeros and with spaces, in a column of six characters.
 fn of_each_length(alloc: Global, align: Align) -> Result<String, AllocError> {
     let (six, mut row) = (column(align, '*', 6), String::new(alloc));
+    let (mut zeros, mut spaces) = (PREFIXED, PREFIXED);
+    spaces.pad_char = b' ';
+    let price = decimal(-125, 1);
     for pad_length in 4..9usize {
-        let zeros = HexOptions {
-            pad_length,
-            ..PREFIXED
-        };
-        let spaces = HexOptions {
-            pad_char: b' ',
-            ..zeros
-        };
-        let price = Decimal {
-            value: -125,
-            places: 1,
-        };
-        write_line(
-            &mut row,
-            &pieces!(
-                hex 255u32 with zeros in six, text "|", hex Ff with zeros in six, text "|",
-                bin 5u8 with spaces in six, text "|", zeros (-7i8) to pad_length in six, text "|",
-                zeros price to pad_length in six, text ";\n"
-            ),
-        )?;
+        zeros.pad_length = pad_length;
+        spaces.pad_length = pad_length;
+        let line = pieces!(
+            hex 255u32 with zeros in six, text "|", hex Ff with zeros in six, text "|",
+            bin 5u8 with spaces in six, text "|", zeros (-7i8) to pad_length in six, text "|",
+            zeros price to pad_length in six, text ";\n"
+        );
+        write_line(&mut row, &line)?;
     }
     Ok(row)
 }
 
 // `tools/expected/show --as '{:*<6}' 'format!("{:#04x}", 255)'` prints such a one again.
-const OF_EACH_LENGTH: [(Align, &str); 3] = [
-    (
-        Align::Left,
-        "0xff**|0xff**|0b101*|-007**|-12.5*;
+const OF_EACH_LENGTH: [(Align, &str); 3] = rows_of![
+    Align::Left => "\
+0xff**|0xff**|0b101*|-007**|-12.5*;
 0x0ff*|0x0ff*|0b101*|-0007*|-12.5*;
 0x00ff|0x00ff| 0b101|-00007|-012.5;
 0x000ff|0x000ff|  0b101|-000007|-0012.5;
 0x0000ff|0x0000ff|   0b101|-0000007|-00012.5;
-",
-    ),
-    (
-        Align::Center,
-        "*0xff*|*0xff*|0b101*|*-007*|-12.5*;
+";
+    Align::Center => "\
+*0xff*|*0xff*|0b101*|*-007*|-12.5*;
 0x0ff*|0x0ff*|0b101*|-0007*|-12.5*;
 0x00ff|0x00ff| 0b101|-00007|-012.5;
 0x000ff|0x000ff|  0b101|-000007|-0012.5;
 0x0000ff|0x0000ff|   0b101|-0000007|-00012.5;
-",
-    ),
-    (
-        Align::Right,
-        "**0xff|**0xff|*0b101|**-007|*-12.5;
+";
+    Align::Right => "\
+**0xff|**0xff|*0b101|**-007|*-12.5;
 *0x0ff|*0x0ff|*0b101|*-0007|*-12.5;
 0x00ff|0x00ff| 0b101|-00007|-012.5;
 0x000ff|0x000ff|  0b101|-000007|-0012.5;
 0x0000ff|0x0000ff|   0b101|-0000007|-00012.5;
-",
-    ),
+";
 ];
 
 #[test]
@@ -292,28 +256,23 @@ fn calls_in(within: Column, text: &'static str) -> (u8, bool) {
     (calls.get(), outcome.is_ok())
 }
 
+// At the left a value that is refused was printed once.
 #[test]
 fn a_value_is_printed_twice_and_once_where_no_width_is_asked_for(rt: HostRuntime) {
-    same(
-        &rt,
-        [
-            calls_in(left(0), ""),
-            calls_in(left(1), ""),
-            calls_in(center(9), "a"),
-            calls_in(right(9), "a"),
-            calls_in(left(2), "abc"),
-            calls_in(right(2), "abc"),
-        ],
-        [
-            (1, true),
-            (2, true),
-            (2, true),
-            (2, true),
-            (2, true),
-            (2, true),
-        ],
-        "calls of `fmt`",
-    );
+    let longer = "seventeen letters";
+    for (within, text, wanted) in rows_of![
+        left(0), "" => (1, true);
+        left(1), "" => (2, true);
+        center(9), "a" => (2, true);
+        right(9), "a" => (2, true);
+        left(2), "abc" => (2, true);
+        right(2), "abc" => (2, true);
+        left(20), longer => (1, false);
+        center(17), longer => (2, false);
+        right(5), longer => (2, false);
+    ] {
+        same(&rt, calls_in(within, text), wanted, text);
+    }
 }
 
 #[test]
@@ -323,74 +282,30 @@ fn a_value_in_a_column_in_a_column_is_printed_three_times(rt: HostRuntime) {
         text: "a",
         calls: &calls,
     };
-    let inner = InColumn {
-        mark: Debug,
-        column: right(3),
-    };
-    let outer = InColumn {
-        mark: inner,
-        column: right(9),
-    };
+    let outer = in_column(in_column(Debug, right(3)), right(9));
     let fits = line_into(&mut [0; 16], &pieces!(each [counting] by outer between "")).is_ok();
-    same(&rt, [(calls.get(), fits)], [(3, true)], "calls of `fmt`");
-}
-
-#[test]
-fn a_value_at_the_left_that_is_refused_is_printed_once(rt: HostRuntime) {
-    let longer = "seventeen letters";
-    same(
-        &rt,
-        [
-            calls_in(left(20), longer),
-            calls_in(center(17), longer),
-            calls_in(right(5), longer),
-        ],
-        [(1, false), (2, false), (2, false)],
-        "calls of `fmt`",
-    );
-}
-
-// A counter's row in a buffer of this length.
-fn put_row(table: &mut Table, name: &str, count: u32, length: usize) {
-    let mut bytes = [b'~'; 48];
-    match String::from_str(table.alloc(), name) {
-        Ok(name) => {
-            let counter = Counter {
-                name,
-                count,
-                register: 255,
-            };
-            let outcome = write_row(&mut bytes[..length.min(48)], &counter);
-            table.put_outcome(outcome, &bytes);
-        }
-        Err(_) => table.put_nothing(),
-    }
+    same(&rt, (calls.get(), fits), (3, true), "calls of `fmt`");
 }
 
 #[test]
 fn write_row_prints_columns(rt: HostRuntime) {
-    let mut table = Table::new(rt.alloc());
-    put_row(&mut table, "pump", 1203, 48);
-    table.wants(
-        "\
-Ok(31) pump      ....1203|  0x00ff  |
-~~~~~~~~~~~~~~~~~",
-    );
-    put_row(&mut table, "überdruck", 0, 48);
-    table.wants(
-        "\
-Ok(32) überdruck .......0|  0x00ff  |
-~~~~~~~~~~~~~~~~",
-    );
-    put_row(&mut table, "a very long name", u32::MAX, 48);
-    table.wants(
-        "\
-Ok(39) a very long name4294967295|  0x00ff  |
-~~~~~~~~~",
-    );
-    put_row(&mut table, "pump", 1203, 12);
-    table.wants("Err(Full) pump      ..~~~~~~~~~~~~~~~~~~~~~~~~~~~~~~~~~~~~");
-    put_row(&mut table, "pump", 1203, 0);
-    table.wants("Err(Full) ~~~~~~~~~~~~~~~~~~~~~~~~~~~~~~~~~~~~~~~~~~~~~~~~");
+    let (mut table, register) = (Table::new(rt.alloc()), 255);
+    for (name, count, length, wanted) in rows_of![
+        "pump", 1203, 48 => "Ok(31) pump      ....1203|  0x00ff  |\n~~~~~~~~~~~~~~~~~";
+        "überdruck", 0, 48 => "Ok(32) überdruck .......0|  0x00ff  |\n~~~~~~~~~~~~~~~~";
+        "a very long name", u32::MAX, 48 => "Ok(39) a very long name4294967295|  0x00ff  |\n~~~~~~~~~";
+        "pump", 1203, 12 => "Err(Full) pump      ..~~~~~~~~~~~~~~~~~~~~~~~~~~~~~~~~~~~~";
+    ] {
+        if let Ok(name) = String::from_str(rt.alloc(), name) {
+            let counter = Counter {
+                name,
+                count,
+                register,
+            };
+            put_filled!(table; buffer[48] write_row(buffer, &counter); length => wanted;);
+        } else {
+            table.put_nothing();
+        }
+    }
     has_wanted_rows(&rt, &table);
 }

@@ -1,83 +1,39 @@
 //! Tests of `Cursor`, of `write_to_buffer`, and of a formatter that continues after a failed entry.
 use super::asserts::{has_wanted_rows, same};
 use test_rows::rows::Table;
-use ufmt::{Cursor, Formatter, Full, laws, uWrite, write_debug};
-
-trait CursorRows {
-    // Adds a row of what a call on the cursor returned, and of what then remains and is written.
-    fn put_cursor(&mut self, outcome: Result<(), Full>, cursor: &Cursor<'_>);
-}
-
-impl CursorRows for Table {
-    fn put_cursor(&mut self, outcome: Result<(), Full>, cursor: &Cursor<'_>) {
-        let outcome = outcome.map(|()| cursor.remaining());
-        self.put_outcome(outcome, cursor.written());
-    }
-}
+use test_rows::rows_of;
+use ufmt::{Cursor, Formatter, Full, laws, uWrite};
 
 #[test]
 fn a_cursor_takes_pieces_that_fit(rt: HostRuntime) {
     let mut table = Table::new(rt.alloc());
     let mut buffer = *b"......";
     let mut cursor = Cursor::new(&mut buffer);
-    for (piece, wanted) in [
-        ("", "Ok(6) "),
-        ("ab", "Ok(4) ab"),
-        ("cdefg", "Err(Full) ab"),
-    ] {
+    for (
+        piece,
+        wanted,
+    ) in rows_of!["" => "Ok(6) "; "ab" => "Ok(4) ab"; "cdefg" => "Err(Full) ab";] {
         let outcome = cursor.write_str(piece);
-        table.put_cursor(outcome, &cursor);
+        table.put_written(outcome, cursor.remaining(), cursor.written());
         table.wants(wanted);
     }
     for (character, wanted) in [('é', "Ok(2) abé"), ('€', "Err(Full) abé")] {
         let outcome = cursor.write_char(character);
-        table.put_cursor(outcome, &cursor);
+        table.put_written(outcome, cursor.remaining(), cursor.written());
         table.wants(wanted);
     }
     let outcome = cursor.write_str("");
-    table.put_cursor(outcome, &cursor);
+    table.put_written(outcome, cursor.remaining(), cursor.written());
     table.wants("Ok(2) abé");
     same(&rt, cursor.remaining(), 2, "what remains");
-    same(
-        &rt,
-        buffer.as_slice(),
-        "abé..".as_bytes(),
-        "the whole buffer",
-    );
+    same(&rt, buffer.as_slice(), "abé..".as_bytes(), "the buffer");
     let mut cursor = Cursor::new(&mut []);
     for (piece, wanted) in [("", "Ok(0) "), ("a", "Err(Full) ")] {
         let outcome = cursor.write_str(piece);
-        table.put_cursor(outcome, &cursor);
+        table.put_written(outcome, cursor.remaining(), cursor.written());
         table.wants(wanted);
     }
     same(&rt, cursor.remaining(), 0, "what remains");
-    has_wanted_rows(&rt, &table);
-}
-
-#[test]
-fn a_value_is_written_up_to_the_first_piece_that_does_not_fit(rt: HostRuntime) {
-    let mut table = Table::new(rt.alloc());
-    let in_each_room = [
-        "Err(Full) ",
-        "Err(Full) (",
-        "Err(Full) (",
-        "Err(Full) (12",
-        "Err(Full) (12",
-        "Err(Full) (12, ",
-        "Err(Full) (12, ",
-        "Err(Full) (12, ",
-        "Err(Full) (12, ",
-        "Err(Full) (12, -345",
-        "Ok(0) (12, -345)",
-        "Ok(1) (12, -345)",
-    ];
-    for (room, wanted) in in_each_room.iter().enumerate() {
-        let mut buffer = [0u8; 12];
-        let mut cursor = Cursor::new(&mut buffer[..room.min(12)]);
-        let outcome = write_debug(&mut cursor, &(12u8, -345i64));
-        table.put_cursor(outcome, &cursor);
-        table.wants(wanted);
-    }
     has_wanted_rows(&rt, &table);
 }
 
@@ -118,16 +74,16 @@ fn entry_then_text_to<W: uWrite<Error = Full>>(
 #[test]
 fn a_formatter_continues_after_a_failed_entry(rt: HostRuntime) {
     let mut table = Table::new(rt.alloc());
-    for ((size, is_pretty), wanted) in [
-        ((1, false), "Err(Full) ["),
-        ((1, true), "Err(Full) ["),
-        ((3, true), "Ok(0) [\nx"),
-    ] {
+    for (
+        size,
+        is_pretty,
+        wanted,
+    ) in rows_of![1, false => "Err(Full) ["; 1, true => "Err(Full) ["; 3, true => "Ok(0) [\nx";] {
         let mut buffer = [0; 3];
         let writer = Cursor::new(&mut buffer[..size]);
         let (outcome, left, cursor) = entry_then_text_to(is_pretty, writer);
         same(&rt, left, (false, 0), "what is left");
-        table.put_cursor(outcome, &cursor);
+        table.put_written(outcome, cursor.remaining(), cursor.written());
         table.wants(wanted);
     }
     has_wanted_rows(&rt, &table);

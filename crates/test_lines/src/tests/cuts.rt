@@ -7,19 +7,17 @@ ghost use Rattle.ufmt.specs.Document.{leaf};
 use super::asserts::{has_wanted_rows, same};
 use example_print::{Pair, log_cut};
 use std::cell::Cell;
+use test_rows::printed::PREFIXED;
 use test_rows::rows::{Table, repeated};
 use test_rows::rows_of;
 use ufmt::{
-    Cut, Formatter, Full, HexOptions, Truncating, debug_cut_into, display_cut_into, line_cut_into,
-    pieces, pretty_cut_into, uDebug, uDisplay, uWrite, write_debug,
+    Cut, Formatter, Full, Truncating, debug_cut_into, display_cut_into, line_cut_into, pieces,
+    pretty_cut_into, uDebug, uDisplay, uWrite, write_debug,
 };
 
 trait CutRows {
     // Adds a row of a cut, and of the buffer after it.
     fn put_cut(&mut self, cut: Cut, left: &[u8]);
-
-    // Adds a row of what a call returned, and of what then remains and is written.
-    fn put_truncating(&mut self, outcome: Result<(), Full>, writer: &Truncating<'_>);
 }
 
 impl CutRows for Table {
@@ -28,19 +26,7 @@ impl CutRows for Table {
         let row = format!(in self.alloc(); "{} {} {text}", cut.length, cut.is_whole);
         self.put_made(row);
     }
-
-    fn put_truncating(&mut self, outcome: Result<(), Full>, writer: &Truncating<'_>) {
-        let outcome = outcome.map(|()| writer.remaining());
-        self.put_outcome(outcome, writer.written());
-    }
 }
-
-const BYTE: HexOptions = HexOptions {
-    upper_case: false,
-    pad_char: b'0',
-    pad_length: 4,
-    ox_prefix: true,
-};
 
 // Each call by which a text is cut: with characters of one to four bytes, an escape, a nested value, a pretty
 // value, a line of pieces, and twice an empty text.
@@ -52,7 +38,7 @@ fn cut_by(call: usize, buffer: &mut [u8]) -> Cut {
         3 => pretty_cut_into(buffer, &[7u8]),
         4 => line_cut_into(
             buffer,
-            &pieces!(text "n=", debug 7u8, text " ", display "é", text " ", hex 10u8 with BYTE, text " €"),
+            &pieces!(text "n=", debug 7u8, text " ", display "é", text " ", hex 10u8 with PREFIXED, text " €"),
         ),
         5 => display_cut_into(buffer, &""),
         _ => line_cut_into(buffer, &()),
@@ -66,7 +52,7 @@ const CUTS: [(&str, &[usize]); 7] = rows_of![
     "Pair { x: 1, y: Some(\"é\") }"
         => &[0, 1, 2, 3, 4, 5, 6, 7, 8, 9, 10, 11, 12, 13, 14, 15, 16, 17, 18, 19, 20, 21, 22, 22, 24, 25, 26, 27, 28, 28];
     "[\n    7,\n]" => &[0, 1, 2, 3, 4, 5, 6, 7, 8, 9, 10, 10];
-    "n=7 é 0x0a €" => &[0, 1, 2, 3, 4, 4, 6, 7, 8, 9, 10, 11, 12, 12, 12, 15, 15];
+    "n=7 é 0x000a €" => &[0, 1, 2, 3, 4, 4, 6, 7, 8, 9, 10, 11, 12, 13, 14, 14, 14, 17, 17];
     "" => &[0, 0];
     "" => &[0, 0];
 ];
@@ -85,12 +71,10 @@ fn a_text_is_cut_between_characters_where_the_buffer_ends(rt: HostRuntime) {
         for (size, length) in lengths.iter().enumerate() {
             let mut buffer = [b'.'; 32];
             let cut = cut_by(call, &mut buffer[..size.min(32)]);
-            let wanted = Cut {
-                length: *length,
-                is_whole: *length == text.len(),
-            };
-            let given = (size, cut, is_cut_at(&buffer, text, *length));
-            same(&rt, given, (size, wanted, true), text);
+            let is_whole = *length == text.len();
+            let given = (size, cut.length, cut.is_whole);
+            same(&rt, given, (size, *length, is_whole), text);
+            same(&rt, is_cut_at(&buffer, text, *length), true, text);
         }
     }
 }
@@ -104,12 +88,12 @@ fn a_log_line_is_cut_at_64_bytes(rt: HostRuntime) {
         (56, "") => "64 true node 7: xxxxxxxxxxxxxxxxxxxxxxxxxxxxxxxxxxxxxxxxxxxxxxxxxxxxxxxx";
         (0, "short") => "13 true node 7: short...................................................";
     ] {
-        if let Ok(message) = repeated(rt.alloc(), "", "x", count, end) {
-            let mut buffer = [b'.'; 64];
-            let cut = log_cut(&mut buffer, 7, message.as_str());
-            table.put_cut(cut, &buffer);
-            table.wants(wanted);
+        let mut buffer = [b'.'; 64];
+        match repeated(rt.alloc(), "", "x", count, end) {
+            Ok(message) => table.put_cut(log_cut(&mut buffer, 7, &message), &buffer),
+            Err(_) => table.put_nothing(),
         }
+        table.wants(wanted);
     }
     has_wanted_rows(&rt, &table);
 }
@@ -121,43 +105,32 @@ fn after_a_cut_nothing_more_is_taken_and_characters_are_taken_whole(rt: HostRunt
     let mut buffer = *b".....";
     let mut writer = Truncating::new(&mut buffer);
     same(&rt, writer.is_cut(), false, "before the cut");
-    for (piece, wanted) in [
-        ("", "Ok(5) "),
-        ("ab", "Ok(3) ab"),
-        ("é€c", "Err(Full) abé"),
-        ("d", "Err(Full) abé"),
-        ("€", "Err(Full) abé"),
-        ("", "Ok(0) abé"),
+    for (piece, wanted) in rows_of![
+        "" => "Ok(5) ";
+        "ab" => "Ok(3) ab";
+        "é€c" => "Err(Full) abé";
+        "d" => "Err(Full) abé";
+        "" => "Ok(0) abé";
     ] {
         let outcome = writer.write_str(piece);
-        table.put_truncating(outcome, &writer);
+        table.put_written(outcome, writer.remaining(), writer.written());
         table.wants(wanted);
     }
     let outcome = writer.write_char('e');
-    table.put_truncating(outcome, &writer);
+    table.put_written(outcome, writer.remaining(), writer.written());
     table.wants("Err(Full) abé");
-    same(
-        &rt,
-        (writer.is_cut(), writer.remaining()),
-        (true, 0),
-        "after the cut",
-    );
-    same(
-        &rt,
-        buffer.as_slice(),
-        "abé.".as_bytes(),
-        "the whole buffer",
-    );
+    let left = (writer.is_cut(), writer.remaining());
+    same(&rt, left, (true, 0), "after the cut");
+    same(&rt, buffer.as_slice(), "abé.".as_bytes(), "the buffer");
     let mut buffer = *b"....";
     let mut writer = Truncating::new(&mut buffer);
-    for (character, wanted) in [
-        ('a', "Ok(3) a"),
-        ('é', "Ok(1) aé"),
-        ('é', "Err(Full) aé"),
-        ('b', "Err(Full) aé"),
-    ] {
+    for (
+        character,
+        wanted,
+    ) in rows_of!['a' => "Ok(3) a"; 'é' => "Ok(1) aé"; 'é' => "Err(Full) aé"; 'b' => "Err(Full) aé";]
+    {
         let outcome = writer.write_char(character);
-        table.put_truncating(outcome, &writer);
+        table.put_written(outcome, writer.remaining(), writer.written());
         table.wants(wanted);
     }
     same(&rt, buffer.as_slice(), "aé.".as_bytes(), "the whole buffer");
@@ -172,13 +145,8 @@ fn a_full_buffer_is_not_yet_cut(rt: HostRuntime) {
     let whole = write_debug(&mut writer, &12u8);
     let was_cut = writer.is_cut();
     let more = write_debug(&mut writer, &3u8);
-    let given = (whole, was_cut, more, writer.is_cut());
-    same(
-        &rt,
-        given,
-        (Ok(()), false, Err(Full), true),
-        "full, and then cut",
-    );
+    same(&rt, (whole, was_cut), (Ok(()), false), "full");
+    same(&rt, (more, writer.is_cut()), (Err(Full), true), "cut");
     same(&rt, buffer, *b"12", "the whole buffer");
 }
 
@@ -217,14 +185,12 @@ fn a_value_is_printed_once(rt: HostRuntime) {
     let prints = Cell::new(0);
     let value = Counting { prints: &prints };
     let mut buffer = [b'.'; 2];
-    let mut counts = [0; 4];
     let _cut = debug_cut_into(&mut buffer, &value);
-    counts[0] = prints.get();
+    same(&rt, prints.get(), 1, "debug_cut_into");
     let _cut = pretty_cut_into(&mut buffer, &value);
-    counts[1] = prints.get();
+    same(&rt, prints.get(), 2, "pretty_cut_into");
     let _cut = display_cut_into(&mut buffer, &value);
-    counts[2] = prints.get();
+    same(&rt, prints.get(), 3, "display_cut_into");
     let _cut = line_cut_into(&mut buffer, &pieces!(debug value));
-    counts[3] = prints.get();
-    same(&rt, counts, [1, 2, 3, 4], "prints after each call");
+    same(&rt, prints.get(), 4, "line_cut_into");
 }

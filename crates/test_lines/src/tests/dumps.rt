@@ -5,7 +5,7 @@ use super::asserts::has_wanted_rows;
 use example_print::show_packet;
 use test_rows::printed::Printed;
 use test_rows::rows::Table;
-use test_rows::rows_of;
+use test_rows::{put_filled, put_rows, rows_of};
 use ufmt::{Formatter, HexDump, hex_dump_into, laws, uWrite, write_hex_dump};
 
 /// Bytes with a dump of them. Its pieces don't depend on the mode.
@@ -59,47 +59,30 @@ fn in_rows(per_row: usize, group: usize) -> HexDump {
 #[test]
 fn rows_of_dumps_come_in_pieces(rt: HostRuntime) {
     let mut table = Table::new(rt.alloc());
-    for (offset, ascii, wanted) in [
-        (Some(0), true, "00000000: 0b30 55    .0U\n|"),
-        (Some(16), false, "00000010: 0b30 55\n|"),
-        (None, true, "0b30 55    .0U\n|"),
-        (None, false, "0b30 55\n|"),
+    for (offset, ascii, wanted) in rows_of![
+        Some(0), true => "00000000: 0b30 55    .0U\n|";
+        Some(16), false => "00000010: 0b30 55\n|";
+        None, true => "0b30 55    .0U\n|";
+        None, false => "0b30 55\n|";
     ] {
         let dump = HexDump {
             offset,
             ascii,
             ..in_rows(4, 2)
         };
-        table.pieces(&Dumped {
-            bytes: &BYTES[..3],
-            dump,
-        });
-        table.wants(wanted);
+        put_rows!(table; pieces(&Dumped { bytes: &BYTES[..3], dump }) => wanted;);
     }
     laws::dump_rows_have_each_byte();
-    table.pieces(&Dumped {
-        bytes: &BYTES[..3],
-        dump: in_rows(33, 1),
-    });
-    table.wants(
-        "\
-0000000|0|: |0b| 30| 55|                              |                              |                              |  |.0U|
-|",
-    );
     let one_row = HexDump {
-        per_row: usize::MAX,
-        group: 0,
         offset: Some(0xffff_fffe),
         ascii: false,
+        ..in_rows(usize::MAX, 0)
     };
-    table.pieces(&Dumped {
-        bytes: &BYTES[..2],
-        dump: one_row,
-    });
-    table.wants(
-        "\
-fffffffe|: |0b|30|
-|",
+    put_rows!(table;
+        pieces(&Dumped { bytes: &BYTES[..3], dump: in_rows(33, 1) }) => "\
+0000000|0|: |0b| 30| 55|                              |                              |                              |  |.0U|
+|";
+        pieces(&Dumped { bytes: &BYTES[..2], dump: one_row }) => "fffffffe|: |0b|30|\n|";
     );
     has_wanted_rows(&rt, &table);
 }
@@ -121,14 +104,9 @@ fn dumps_into_a_buffer_keep_what_fits(rt: HostRuntime) {
         table.wants(wanted);
     }
     // A row of as many bytes as a `usize` counts has more spaces than any buffer holds.
-    for (group, wanted) in [
-        (0, "Err(Full) 00000000: 0b~~~~"),
-        (1, "Err(Full) 00000000: 0b~~~~"),
-    ] {
-        let mut bytes = [b'~'; 16];
-        let outcome = hex_dump_into(&mut bytes, &BYTES[..1], &in_rows(usize::MAX, group));
-        table.put_outcome(outcome, &bytes);
-        table.wants(wanted);
+    for group in [0, 1] {
+        let dump = in_rows(usize::MAX, group);
+        put_filled!(table; buffer[16] hex_dump_into(buffer, &BYTES[..1], &dump); 16 => "Err(Full) 00000000: 0b~~~~";);
     }
     has_wanted_rows(&rt, &table);
 }

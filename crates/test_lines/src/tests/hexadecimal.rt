@@ -1,13 +1,10 @@
 //! Tests of `fmt_hex` and `with_stuff`. Their pieces are the prefix, each byte of padding, and the
 //! digits or the payload.
 use super::asserts::{has_wanted_rows, same};
-use std::num::{
-    NonZeroI8, NonZeroI16, NonZeroI32, NonZeroI64, NonZeroI128, NonZeroIsize, NonZeroU8,
-    NonZeroU16, NonZeroU32, NonZeroU64, NonZeroU128, NonZeroUsize, Saturating, Wrapping,
-};
+use std::num::{NonZeroI16, NonZeroU8, Saturating, Wrapping};
 use test_rows::printed::{Hexadecimal, Payload, print_to};
+use test_rows::put_rows;
 use test_rows::rows::Table;
-use test_rows::{put_nonzero, put_rows};
 use ufmt::{Cursor, HexOptions, uDisplayHex};
 
 fn lower_case(ox_prefix: bool, pad_char: u8, pad_length: usize) -> HexOptions {
@@ -22,9 +19,7 @@ fn lower_case(ox_prefix: bool, pad_char: u8, pad_length: usize) -> HexOptions {
 fn upper_case(ox_prefix: bool, pad_char: u8, pad_length: usize) -> HexOptions {
     HexOptions {
         upper_case: true,
-        pad_char,
-        pad_length,
-        ox_prefix,
+        ..lower_case(ox_prefix, pad_char, pad_length)
     }
 }
 
@@ -35,6 +30,9 @@ trait HexadecimalRows {
     fn hexadecimal<N: uDisplayHex + Drop>(&mut self, number: N);
 
     fn payload(&mut self, payload: &str, options: HexOptions);
+
+    // Adds a row of what a padded 33 leaves in a buffer of eight bytes.
+    fn past_a_buffer(&mut self, options: HexOptions);
 }
 
 impl HexadecimalRows for Table {
@@ -57,6 +55,16 @@ impl HexadecimalRows for Table {
             self.put_nothing();
         }
     }
+
+    fn past_a_buffer(&mut self, options: HexOptions) {
+        if !options.has_ascii_pad() {
+            return self.put_nothing();
+        }
+        let (mut buffer, number) = ([0; 8], 33i32);
+        let number = Hexadecimal { number, options };
+        let ((outcome, ..), cursor) = print_to(false, &number, Cursor::new(&mut buffer));
+        self.put_written(outcome, cursor.remaining(), cursor.written());
+    }
 }
 
 #[test]
@@ -75,11 +83,6 @@ fn fmt_hex_prints_numbers_of_each_width(rt: HostRuntime) {
         hexadecimal(isize::MAX) => "7fffffffffffffff|";
         hexadecimal(i128::MIN) => "80000000000000000000000000000000|";
         hexadecimal(i128::MAX) => "7fffffffffffffffffffffffffffffff|";
-        hexadecimal(u8::MAX) => "ff|";
-        hexadecimal(u16::MAX) => "ffff|";
-        hexadecimal(u32::MAX) => "ffffffff|";
-        hexadecimal(u64::MAX) => "ffffffffffffffff|";
-        hexadecimal(usize::MAX) => "ffffffffffffffff|";
         hexadecimal(u128::MAX) => "ffffffffffffffffffffffffffffffff|";
     );
     has_wanted_rows(&rt, &table);
@@ -93,67 +96,28 @@ fn numbers_that_are_held_print_in_hexadecimal(rt: HostRuntime) {
         hexadecimal(&mut number) => "ff|";
         hexadecimal(Wrapping(-1i8)) => "ff|";
         hexadecimal(Saturating(16u64)) => "10|";
-    );
-    put_nonzero!(table.hexadecimal:
-        NonZeroU8 u8::MAX => "ff|",
-        NonZeroU16 u16::MAX => "ffff|",
-        NonZeroU32 u32::MAX => "ffffffff|",
-        NonZeroU64 u64::MAX => "ffffffffffffffff|",
-        NonZeroUsize usize::MAX => "ffffffffffffffff|",
-        NonZeroU128 u128::MAX => "ffffffffffffffffffffffffffffffff|",
-        NonZeroI8 -1 => "ff|",
-        NonZeroI16 -2 => "fffe|",
-        NonZeroI32 -3 => "fffffffd|",
-        NonZeroI64 -4 => "fffffffffffffffc|",
-        NonZeroIsize -5 => "fffffffffffffffb|",
-        NonZeroI128 -6 => "fffffffffffffffffffffffffffffffa|"
+        hexadecimal(NonZeroU8::MIN) => "1|";
+        hexadecimal(NonZeroI16::MIN) => "8000|";
     );
     has_wanted_rows(&rt, &table);
-}
-
-trait RowsPastABuffer {
-    // Adds a row of what a padded 33 leaves in a buffer of eight bytes.
-    fn past_a_buffer(&mut self, options: HexOptions);
-}
-
-impl RowsPastABuffer for Table {
-    fn past_a_buffer(&mut self, options: HexOptions) {
-        if !options.has_ascii_pad() {
-            return self.put_nothing();
-        }
-        let mut buffer = [0; 8];
-        let number = Hexadecimal {
-            number: 33i32,
-            options,
-        };
-        let ((outcome, ..), cursor) = print_to(false, &number, Cursor::new(&mut buffer));
-        self.put_outcome(outcome.map(|()| cursor.remaining()), cursor.written());
-    }
 }
 
 #[test]
 fn numbers_and_payloads_are_padded(rt: HostRuntime) {
     let mut table = Table::new(rt.alloc());
-    for ((n, options), wanted) in [
-        ((771i32, lower_case(false, b' ', 0)), "303|"),
-        ((0, lower_case(false, b' ', 0)), "0|"),
-        ((-10000, lower_case(false, b' ', 0)), "ffffd8f0|"),
-        ((33, lower_case(false, b' ', 4)), " | |21|"),
-        ((89001, lower_case(false, b' ', 4)), "15ba9|"),
-        ((33, lower_case(false, b'0', 4)), "0|0|21|"),
-        ((33, lower_case(true, b'0', 3)), "0x|21|"),
-        ((33, lower_case(true, b'0', 4)), "0x|21|"),
-        ((33, lower_case(true, b'0', 9)), "0x|0|0|0|0|0|21|"),
-        ((33, lower_case(true, b' ', 6)), " | |0x|21|"),
-        ((71, lower_case(true, b' ', 0)), "0x|47|"),
-        ((66, lower_case(true, b'0', 6)), "0x|0|0|42|"),
-        ((33, upper_case(true, b'0', 0)), "0X|21|"),
-        ((171, upper_case(false, b'0', 4)), "0|0|AB|"),
-    ] {
-        table.padded(n, options);
-        table.wants(wanted);
-    }
     put_rows!(table;
+        padded(771i32, lower_case(false, b' ', 0)) => "303|";
+        padded(0i32, lower_case(false, b' ', 0)) => "0|";
+        padded(-10000i32, lower_case(false, b' ', 0)) => "ffffd8f0|";
+        padded(33i32, lower_case(false, b' ', 4)) => " | |21|";
+        padded(89001i32, lower_case(false, b' ', 4)) => "15ba9|";
+        padded(33i32, lower_case(false, b'0', 4)) => "0|0|21|";
+        padded(33i32, lower_case(true, b'0', 3)) => "0x|21|";
+        padded(33i32, lower_case(true, b'0', 9)) => "0x|0|0|0|0|0|21|";
+        padded(33i32, lower_case(true, b' ', 6)) => " | |0x|21|";
+        padded(71i32, lower_case(true, b' ', 0)) => "0x|47|";
+        padded(66i32, lower_case(true, b'0', 6)) => "0x|0|0|42|";
+        padded(33i32, upper_case(true, b'0', 0)) => "0X|21|";
         padded(171u8, upper_case(false, b'0', 4)) => "0|0|AB|";
         padded(&171u8, upper_case(false, b'0', 4)) => "0|0|AB|";
         padded(33u8, lower_case(false, b'0', 40)) => "0|0|0|0|0|0|0|0|0|0|0|0|0|0|0|0|0|0|0|0|0|0|0|0|0|0|0|0|0|0|0|0|0|0|0|0|0|0|21|";
@@ -168,13 +132,11 @@ fn numbers_and_payloads_are_padded(rt: HostRuntime) {
         let has_ascii_pad = lower_case(false, pad, 0).has_ascii_pad();
         same(&rt, (pad, has_ascii_pad), (pad, is_ascii), "a pad byte");
     }
+    // No slice is so long.
     put_rows!(table;
         past_a_buffer(lower_case(false, b'0', usize::MAX)) => "Err(Full) 00000000";
         past_a_buffer(lower_case(true, b'0', usize::MAX)) => "Err(Full) 0x000000";
         past_a_buffer(lower_case(true, b' ', usize::MAX)) => "Err(Full)         ";
-    );
-    // No slice is so long.
-    put_rows!(table;
         past_a_buffer(lower_case(false, b'0', 9_223_372_036_854_775_808)) => "Err(Full) 00000000";
     );
     has_wanted_rows(&rt, &table);

@@ -12,6 +12,7 @@ ghost use Rattle.example_print.specs.Logger.{measurement_document};
 
 use super::asserts::has_wanted_rows;
 use example_print::Measurement;
+use test_rows::put_filled;
 use test_rows::rows::Table;
 use ufmt::{Align, Column, Full, HexOptions, line_into, pieces};
 
@@ -23,43 +24,19 @@ const HEX: HexOptions = HexOptions {
 };
 
 fn line_of_8(buffer: &mut [u8], name: &str, x: u32, y: i64) -> Result<usize, Full> {
-    line_into(
-        buffer,
-        &pieces!(
-            debug name, text " ", debug x, display y, debug name, hex x with HEX, text ";", debug name
-        ),
-    )
-}
-
-fn line_of_12(buffer: &mut [u8], name: &str, x: u32, y: i64) -> Result<usize, Full> {
-    line_into(
-        buffer,
-        &pieces!(
-            debug name, text " ", debug x, display y, hex x with HEX, text ";", debug name, debug y, text ",",
-            pretty x, display name, debug name
-        ),
-    )
-}
-
-fn line_of_16(buffer: &mut [u8], name: &str, x: u32, y: i64) -> Result<usize, Full> {
-    line_into(
-        buffer,
-        &pieces!(
-            debug name, text " ", debug x, display y, hex x with HEX, text ";", debug x, debug y, debug name,
-            text ",", pretty x, display name, text "!", hex y with HEX, debug x, debug name
-        ),
-    )
+    let line = pieces!(
+        debug name, text " ", debug x, display y, debug name, hex x with HEX, text ";", debug name
+    );
+    line_into(buffer, &line)
 }
 
 fn line_of_24(buffer: &mut [u8], name: &str, x: u32, y: i64) -> Result<usize, Full> {
-    line_into(
-        buffer,
-        &pieces!(
-            debug name, text " ", debug x, display y, hex x with HEX, text ";", debug x, debug y, text ",",
-            pretty x, display name, text "!", debug name, hex y with HEX, debug x, text "?", display y, text ".",
-            debug x, pretty y, text " ", hex x with HEX, display x, debug name
-        ),
-    )
+    let line = pieces!(
+        debug name, text " ", debug x, display y, hex x with HEX, text ";", debug x, debug y, text ",",
+        pretty x, display name, text "!", debug name, hex y with HEX, debug x, text "?", display y, text ".",
+        debug x, pretty y, text " ", hex x with HEX, display x, debug name
+    );
+    line_into(buffer, &line)
 }
 
 const COLUMN: Column = Column {
@@ -97,56 +74,24 @@ fn line_of_each_kind(
     )
 }
 
-trait LineRows {
-    // Adds a row of what the call returned, and of the text that it printed.
-    fn put_line(&mut self, outcome: Result<usize, Full>, buffer: &[u8]);
-}
-
-impl LineRows for Table {
-    fn put_line(&mut self, outcome: Result<usize, Full>, buffer: &[u8]) {
-        let length = outcome.unwrap_or(0);
-        self.put_outcome(outcome, buffer.get(..length).unwrap_or(&[]));
-    }
-}
-
 #[test]
 fn lines_of_many_pieces_print_in_order(rt: HostRuntime) {
     let mut table = Table::new(rt.alloc());
-    let mut buffer = [0u8; 260];
-    let outcome = line_of_8(&mut buffer, "a", 7, -3);
-    table.put_line(outcome, &buffer);
-    table.wants("Ok(20) \"a\" 7-3\"a\"0x0007;\"a\"");
-    let outcome = line_of_12(&mut buffer, "a", 7, -3);
-    table.put_line(outcome, &buffer);
-    table.wants("Ok(25) \"a\" 7-30x0007;\"a\"-3,7a\"a\"");
-    let outcome = line_of_16(&mut buffer, "a", 7, -3);
-    table.put_line(outcome, &buffer);
-    table.wants("Ok(46) \"a\" 7-30x0007;7-3\"a\",7a!0xfffffffffffffffd7\"a\"");
-    let outcome = line_of_24(&mut buffer, "a", 7, -3);
-    table.put_line(outcome, &buffer);
-    table.wants("Ok(61) \"a\" 7-30x0007;7-3,7a!\"a\"0xfffffffffffffffd7?-3.7-3 0x00077\"a\"");
-    let last = Measurement {
-        channel: 3,
-        celsius: -4,
-    };
-    let all = [
-        Measurement {
-            channel: 1,
-            celsius: 0,
-        },
-        Measurement {
-            channel: 2,
-            celsius: -7,
-        },
-    ];
-    let outcome = line_of_each_kind(&mut buffer, &last, "a", 7, -3, &all);
-    table.put_line(outcome, &buffer);
-    table.wants(
-        "\
+    put_filled!(table; buffer[20] line_of_8(buffer, "a", 7, -3); 20 => "Ok(20) \"a\" 7-3\"a\"0x0007;\"a\"";);
+    put_filled!(table; buffer[61] line_of_24(buffer, "a", 7, -3);
+        61 => "Ok(61) \"a\" 7-30x0007;7-3,7a!\"a\"0xfffffffffffffffd7?-3.7-3 0x00077\"a\"";
+    );
+    let [last, first, second] = [(3, -4), (1, 0), (2, -7)].map(|(channel, celsius)| Measurement {
+        channel,
+        celsius,
+    });
+    let all = [first, second];
+    put_filled!(table; buffer[258] line_of_each_kind(buffer, &last, "a", 7, -3, &all);
+        258 => "\
 Ok(258) Measurement { channel: 3, celsius: -4 } at -3, 0x0007, -003, Measurement {
     channel: 3,
     celsius: -4,
-}, 0b0111, ..-3, \"a\", Measurement { channel: 1, celsius: 0 }; Measurement { channel: 2, celsius: -7 }, a-3-37Measurement { channel: 3, celsius: -4 }-3",
+}, 0b0111, ..-3, \"a\", Measurement { channel: 1, celsius: 0 }; Measurement { channel: 2, celsius: -7 }, a-3-37Measurement { channel: 3, celsius: -4 }-3";
     );
     has_wanted_rows(&rt, &table);
 }

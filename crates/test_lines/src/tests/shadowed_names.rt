@@ -46,10 +46,6 @@ Pair { x: 1, y: 2 }Pair { x: 1, y: 2 }\nHello, world!The answer is 42\n";
 
     let mut text = String::new(rt.alloc());
     let outcome = uwriteln!(&mut Formatter::new(&mut text), debug forwarded::Y);
-    same(
-        &rt,
-        (outcome.is_ok(), text.as_str()),
-        (true, "X\n"),
-        "by a piece",
-    );
+    same(&rt, outcome.is_ok(), true, "by a piece");
+    same(&rt, text.as_str(), "X\n", "by a piece");
 }

@@ -1,9 +1,10 @@
-//! Tests of what `uwrite!` and `uwriteln!` pass to the writer, and of what they evaluate.
+//! Tests of what `uwrite!` and `uwriteln!` pass to the writer. What they evaluate is tested in `test_print`.
 use super::asserts::{has_wanted_rows, same};
 use example_print::log_valve;
 use std::test::Fail;
 use test_rows::printed::{PREFIXED, Printed};
 use test_rows::rows::Table;
+use test_rows::{put_filled, put_rows, rows_of};
 use ufmt::{Cursor, Formatter, Full, laws, uWrite, uwrite, uwriteln};
 
 /// Pieces by each macro, and by the laws of both.
@@ -57,64 +58,34 @@ impl Printed for Written {
 #[test]
 fn pieces_are_passed_to_the_writer(rt: HostRuntime) {
     let mut table = Table::new(rt.alloc());
-    for (written, wanted) in [
-        (
-            Written::AllPieces,
-            "\
+    put_rows!(table;
+        pieces(&Written::AllPieces) => "\
 n=|7||(|1|,|)|Some|(|\n|    |2|,\n|)|0x|0|0|ff|~
-n=|7||(|\n|    |1|,\n|)|Some|(|\n|    |2|,\n|)|0x|0|0|ff|",
-        ),
-        (
-            Written::LineOfAllPieces,
-            "\
+n=|7||(|\n|    |1|,\n|)|Some|(|\n|    |2|,\n|)|0x|0|0|ff|";
+        pieces(&Written::LineOfAllPieces) => "\
 n=|7||(|1|,|)|Some|(|\n|    |2|,\n|)|0x|0|0|ff||(|3|,|)|0x|0|0|10|n=|0x|0|0|11|~
-n=|7||(|\n|    |1|,\n|)|Some|(|\n|    |2|,\n|)|0x|0|0|ff||(|\n|    |3|,\n|)|0x|0|0|10|n=|0x|0|0|11|",
-        ),
-        (
-            Written::LineFeedLast,
-            "\
-n=|7||(|1|,|)|\n|~
-n=|7||(|\n|    |1|,\n|)|\n|",
-        ),
-        (
-            Written::HexadecimalFirst,
-            "0x|0|0|0|1|ab|0x|0|0|0|2|3|0x|0|0|0|4|5|0x|0|0|0|6|7|0x|0|0|0|8|0x|0|0|0|9|",
-        ),
-        (Written::HexadecimalInALine, "a|0x|0|0|0|1|b|\n|"),
-        (
-            Written::AllForms,
-            "\
-a b|7|[|1|]|[|\n|    |2|,\n|]|\n|~
-a b|7|[|\n|    |1|,\n|]|[|\n|    |2|,\n|]|\n|",
-        ),
-        (Written::EmptyTexts, "||1||||\n|"),
-    ] {
-        table.pieces(&written);
-        table.wants(wanted);
-    }
+n=|7||(|\n|    |1|,\n|)|Some|(|\n|    |2|,\n|)|0x|0|0|ff||(|\n|    |3|,\n|)|0x|0|0|10|n=|0x|0|0|11|";
+        pieces(&Written::LineFeedLast) => "n=|7||(|1|,|)|\n|~\nn=|7||(|\n|    |1|,\n|)|\n|";
+        pieces(&Written::HexadecimalFirst) => "0x|0|0|0|1|ab|0x|0|0|0|2|3|0x|0|0|0|4|5|0x|0|0|0|6|7|0x|0|0|0|8|0x|0|0|0|9|";
+        pieces(&Written::HexadecimalInALine) => "a|0x|0|0|0|1|b|\n|";
+        pieces(&Written::AllForms) => "a b|7|[|1|]|[|\n|    |2|,\n|]|\n|~\na b|7|[|\n|    |1|,\n|]|[|\n|    |2|,\n|]|\n|";
+        pieces(&Written::EmptyTexts) => "||1||||\n|";
+    );
     has_wanted_rows(&rt, &table);
 }
 
 // The results of calls, and what is wanted of each.
 fn write_in_order<W: uWrite>(f: &mut Formatter<W>) -> [(Result<(), W::Error>, &'static str); 8] {
-    [
-        (uwrite!(f, text "a",), "a"),
-        (
-            uwrite!(f, text "b", display 42i32, debug &[1u8, 2].as_slice(), pretty &[3u8].as_slice(), hex 255u8 with PREFIXED),
-            "b42[1, 2][\n    3,\n]0x00ff",
-        ),
-        (
-            uwriteln!(f, text "The answer is ", display 42i32),
-            "The answer is 42\n",
-        ),
-        (uwriteln!(f, hex (33u8 + 1) with PREFIXED,), "0x0022\n"),
-        (uwrite!(f, text "Hello, world!"), "Hello, world!"),
-        (
-            uwrite!(f, text "The answer is ", display 42i32),
-            "The answer is 42",
-        ),
-        (uwriteln!(f, text "Hello"), "Hello\n"),
-        (uwriteln!(f, text "World"), "World\n"),
+    rows_of![
+        uwrite!(f, text "a",) => "a";
+        uwrite!(f, text "b", display 42i32, debug &[1u8, 2].as_slice(), pretty &[3u8].as_slice(), hex 255u8 with PREFIXED)
+            => "b42[1, 2][\n    3,\n]0x00ff";
+        uwriteln!(f, text "The answer is ", display 42i32) => "The answer is 42\n";
+        uwriteln!(f, hex (33u8 + 1) with PREFIXED,) => "0x0022\n";
+        uwrite!(f, text "Hello, world!") => "Hello, world!";
+        uwrite!(f, text "The answer is ", display 42i32) => "The answer is 42";
+        uwriteln!(f, text "Hello") => "Hello\n";
+        uwriteln!(f, text "World") => "World\n";
     ]
 }
 
@@ -137,52 +108,6 @@ fn pieces_are_written_in_order(rt: HostRuntime) -> Result<(), Fail> {
 fn noted(calls: &mut u32) -> u32 {
     *calls = calls.saturating_add(1);
     *calls
-}
-
-// The result, and how often the formatter, texts, values and options were evaluated.
-fn write_counted<W: uWrite>(f: &mut Formatter<W>) -> (Result<(), W::Error>, [u32; 4]) {
-    let (mut formatters, mut texts, mut values, mut options) = (0, 0, 0, 0);
-    let outcome = uwrite!(
-        {
-            noted(&mut formatters);
-            &mut *f
-        },
-        text {
-            noted(&mut texts);
-            "n="
-        },
-        display noted(&mut values),
-        debug noted(&mut values),
-        pretty noted(&mut values),
-        hex (noted(&mut values)) with {
-            noted(&mut options);
-            PREFIXED
-        },
-    );
-    (outcome, [formatters, texts, values, options])
-}
-
-// The same for `uwriteln!`, with the formatter and one value. Values are counted from 4 on.
-fn write_counted_line<W: uWrite>(f: &mut Formatter<W>) -> (Result<(), W::Error>, [u32; 2]) {
-    let (mut formatters, mut values) = (0, 4);
-    let outcome = uwriteln!(
-        {
-            noted(&mut formatters);
-            &mut *f
-        },
-        display noted(&mut values)
-    );
-    (outcome, [formatters, values])
-}
-
-#[test]
-fn each_argument_is_evaluated_once(rt: HostRuntime) {
-    let mut f = Formatter::new(String::new(rt.alloc()));
-    let (outcome, calls) = write_counted(&mut f);
-    same(&rt, (outcome, calls), (Ok(()), [1, 1, 4, 1]), "uwrite");
-    let (outcome, calls) = write_counted_line(&mut f);
-    same(&rt, (outcome, calls), (Ok(()), [1, 5]), "uwriteln");
-    same(&rt, f.into_inner().as_str(), "n=1230x00045\n", "both");
 }
 
 // The result, and how often the value after the text was evaluated.
@@ -212,12 +137,8 @@ fn write_outcome(f: &mut Formatter<Cursor<'_>>) -> (Result<(), Full>, bool, u8) 
 fn uwrite_leaves_the_rest_of_a_long_buffer(rt: HostRuntime) {
     let mut buffer = [0; 256];
     let mut f = Formatter::new(Cursor::new(&mut buffer));
-    same(
-        &rt,
-        write_outcome(&mut f),
-        (Ok(()), false, 0),
-        "what is left",
-    );
+    let left = write_outcome(&mut f);
+    same(&rt, left, (Ok(()), false, 0), "what is left");
     let cursor = f.into_inner();
     same(&rt, cursor.remaining(), 240, "what remains");
     let text = "The answer is 42".as_bytes();
@@ -227,16 +148,11 @@ fn uwrite_leaves_the_rest_of_a_long_buffer(rt: HostRuntime) {
 #[test]
 fn log_valve_writes_a_line(rt: HostRuntime) {
     let mut table = Table::new(rt.alloc());
-    for ((is_open, length), wanted) in [
-        ((true, 24), "Ok(18) valve 7 open=true\n~~~~~~"),
-        ((false, 19), "Ok(19) valve 7 open=false\n~~~~~"),
-        ((true, 17), "Err(Full) valve 7 open=true~~~~~~~"),
-        ((true, 14), "Err(Full) valve 7 open=~~~~~~~~~~~"),
-    ] {
-        let mut bytes = [b'~'; 24];
-        let outcome = log_valve(&mut bytes[..length], 7, is_open);
-        table.put_outcome(outcome, &bytes);
-        table.wants(wanted);
-    }
+    put_filled!(table; buffer[24] log_valve(buffer, 7, true);
+        24 => "Ok(18) valve 7 open=true\n~~~~~~";
+        17 => "Err(Full) valve 7 open=true~~~~~~~";
+        14 => "Err(Full) valve 7 open=~~~~~~~~~~~";
+    );
+    put_filled!(table; buffer[24] log_valve(buffer, 7, false); 19 => "Ok(19) valve 7 open=false\n~~~~~";);
     has_wanted_rows(&rt, &table);
 }

@@ -4,12 +4,13 @@ use std::num::{
     NonZeroI8, NonZeroI16, NonZeroI32, NonZeroI64, NonZeroI128, NonZeroIsize, NonZeroU8,
     NonZeroU16, NonZeroU32, NonZeroU64, NonZeroU128, NonZeroUsize, Saturating, Wrapping,
 };
-use test_rows::put_rows;
+use test_rows::printed::{column, decimal};
 use test_rows::rows::Table;
+use test_rows::{put_rows, rows_of};
 use ufmt::pieces::{Display, InColumn};
 use ufmt::{
-    Align, Column, Decimal, HexDump, HexOptions, Line, hex_dump_into, line_cut_into, line_into,
-    pieces, uDisplayHex, uDisplayRadix, uDisplayZeros,
+    Align, Column, HexDump, HexOptions, Line, hex_dump_into, line_cut_into, line_into, pieces,
+    uDisplayHex, uDisplayRadix, uDisplayZeros,
 };
 
 const ZEROS: HexOptions = HexOptions {
@@ -66,18 +67,10 @@ macro_rules! put_lines {
 
 // Lines with a text that is padded to this width.
 fn put_padded(table: &mut Table, width: usize) {
-    let zeros = HexOptions {
-        pad_length: width,
-        ..ZEROS
-    };
-    let spaces = HexOptions {
-        pad_length: width,
-        ..SPACES
-    };
-    let price = Decimal {
-        value: -125,
-        places: 1,
-    };
+    let (mut zeros, mut spaces) = (ZEROS, SPACES);
+    zeros.pad_length = width;
+    spaces.pad_length = width;
+    let (price, small) = (decimal(-125, 1), decimal(-125, 255));
     put_lines!(table;
         (hex 7u8 with zeros) => "Err(Full) 0x0000000000"
         (hex 7u8 with spaces) => "Err(Full)             "
@@ -85,7 +78,7 @@ fn put_padded(table: &mut Table, width: usize) {
         (oct 8u128 with spaces) => "Err(Full)             "
         (zeros (-7i8) to width) => "Err(Full) -00000000000"
         (zeros price to width) => "Err(Full) -00000000000"
-        (zeros (Decimal { places: 255, ..price }) to width) => "Err(Full) -00000000000"
+        (zeros small to width) => "Err(Full) -00000000000"
         (each zeros [1u8, 2] to width between ",") => "Err(Full) 000000000000"
     );
 }
@@ -111,14 +104,9 @@ fn put_in_a_column(
     wanted: [&str; 4],
     nested: &str,
 ) {
-    let zeros = HexOptions {
-        pad_length: width,
-        ..ZEROS
-    };
-    let spaces = HexOptions {
-        pad_length: width,
-        ..SPACES
-    };
+    let (mut zeros, mut spaces) = (ZEROS, SPACES);
+    zeros.pad_length = width;
+    spaces.pad_length = width;
     let wide = InColumn {
         mark: Display,
         column: Column { width, ..within },
@@ -143,34 +131,15 @@ fn a_width_that_no_buffer_holds_fails_with_full(rt: HostRuntime) {
     for width in WIDTHS {
         let mut table = Table::new(rt.alloc());
         put_padded(&mut table, width);
-        for (align, nested) in [
-            (Align::Left, TEXT_AND_FILLS),
-            (Align::Center, FILLS),
-            (Align::Right, FILLS),
-        ] {
-            put_in_a_column(
-                &mut table,
-                width,
-                Column {
-                    width: 3,
-                    align,
-                    fill: '*',
-                },
-                VALUES,
-                nested,
-            );
+        for (
+            align,
+            nested,
+        ) in rows_of![Align::Left => TEXT_AND_FILLS; Align::Center => FILLS; Align::Right => FILLS;]
+        {
+            put_in_a_column(&mut table, width, column(align, '*', 3), VALUES, nested);
         }
-        put_in_a_column(
-            &mut table,
-            width,
-            Column {
-                width: usize::MAX,
-                align: Align::Left,
-                fill: '*',
-            },
-            VALUES,
-            TEXT_AND_FILLS,
-        );
+        let widest = column(Align::Left, '*', usize::MAX);
+        put_in_a_column(&mut table, width, widest, VALUES, TEXT_AND_FILLS);
         has_wanted_rows(&rt, &table);
     }
 }
@@ -180,57 +149,29 @@ fn pads<N: uDisplayHex + uDisplayRadix + uDisplayZeros>(number: &N) -> [bool; 3]
     [number.pads_hex(), number.pads_radix(), number.pads_zeros()]
 }
 
-fn some_pads<N: uDisplayHex + uDisplayRadix + uDisplayZeros>(number: &Option<N>) -> [bool; 3] {
-    match number {
-        Some(number) => pads(number),
-        None => [false; 3],
-    }
+macro_rules! all_pad {
+    ($($number:expr),*) => { [$(pads(&$number)),*] };
+}
+
+macro_rules! all_nonzero_pad {
+    ($($nonzero:ident)*) => { [$(pads(&$nonzero::MIN)),*] };
 }
 
 #[test]
 fn every_number_is_counted_without_its_padding(rt: HostRuntime) {
-    let numbers = [
-        pads(&1u8),
-        pads(&1u16),
-        pads(&1u32),
-        pads(&1u64),
-        pads(&1u128),
-        pads(&1usize),
-        pads(&1i8),
-        pads(&1i16),
-        pads(&1i32),
-        pads(&1i64),
-        pads(&1i128),
-        pads(&1isize),
-        pads(&&1u8),
-        pads(&&mut 1u8),
-        pads(&Wrapping(1i16)),
-        pads(&Saturating(1u32)),
-    ];
-    let nonzero = [
-        some_pads(&NonZeroU8::new(1)),
-        some_pads(&NonZeroU16::new(1)),
-        some_pads(&NonZeroU32::new(1)),
-        some_pads(&NonZeroU64::new(1)),
-        some_pads(&NonZeroU128::new(1)),
-        some_pads(&NonZeroUsize::new(1)),
-        some_pads(&NonZeroI8::new(1)),
-        some_pads(&NonZeroI16::new(1)),
-        some_pads(&NonZeroI32::new(1)),
-        some_pads(&NonZeroI64::new(1)),
-        some_pads(&NonZeroI128::new(1)),
-        some_pads(&NonZeroIsize::new(1)),
-    ];
-    let price = Decimal {
-        value: -125,
-        places: 1,
-    };
-    same(
-        &rt,
-        (numbers, nonzero, price.pads_zeros()),
-        ([[true; 3]; 16], [[true; 3]; 12], true),
-        "numbers that pad",
-    );
+    let unsigned = all_pad!(1u8, 1u16, 1u32, 1u64, 1u128, 1usize);
+    same(&rt, unsigned, [[true; 3]; 6], "unsigned");
+    let signed = all_pad!(1i8, 1i16, 1i32, 1i64, 1i128, 1isize);
+    same(&rt, signed, [[true; 3]; 6], "signed");
+    let held = all_pad!(&1u8, &mut 1u8, Wrapping(1i16), Saturating(1u32));
+    same(&rt, held, [[true; 3]; 4], "integers that are held");
+    let unsigned =
+        all_nonzero_pad!(NonZeroU8 NonZeroU16 NonZeroU32 NonZeroU64 NonZeroU128 NonZeroUsize);
+    same(&rt, unsigned, [[true; 3]; 6], "nonzero, unsigned");
+    let signed =
+        all_nonzero_pad!(NonZeroI8 NonZeroI16 NonZeroI32 NonZeroI64 NonZeroI128 NonZeroIsize);
+    same(&rt, signed, [[true; 3]; 6], "nonzero, signed");
+    same(&rt, decimal(-125, 1).pads_zeros(), true, "a decimal");
 }
 
 // What is wanted of a number in a column of this width, and of a column in it. A column around a text that is as wide as it, or wider,
@@ -249,13 +190,14 @@ fn a_huge_column_around_a_huge_number_ends_with_its_buffer(rt: HostRuntime) {
         for padded in WIDTHS {
             let mut table = Table::new(rt.alloc());
             for align in [Align::Left, Align::Center, Align::Right] {
-                let within = Column {
-                    width,
-                    align,
-                    fill: '*',
-                };
                 let (wanted, nested) = wanted_within(width, align, padded);
-                put_in_a_column(&mut table, padded, within, wanted, nested);
+                put_in_a_column(
+                    &mut table,
+                    padded,
+                    column(align, '*', width),
+                    wanted,
+                    nested,
+                );
             }
             has_wanted_rows(&rt, &table);
         }

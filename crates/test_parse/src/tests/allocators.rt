@@ -55,9 +55,6 @@ fn boxes<'a>(alloc: Lent<'a>, text: &str) -> Result<Vec<Box<u8, Lent<'a>>, Lent<
 fn parsers_of_lists_and_boxes_take_a_lent_allocator(rt: HostRuntime) {
     let global = rt.alloc();
     let text = "[1, 2, 3]";
-    let has_text = match boxes(&global, text) {
-        Ok(values) => has_text(&values, text),
-        Err(_) => false,
-    };
+    let has_text = boxes(&global, text).is_ok_and(|values| has_text(&values, text));
     same(&rt, has_text, true, "a list of boxes");
 }

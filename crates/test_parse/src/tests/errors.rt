@@ -1,130 +1,58 @@
 //! Tests of how an error prints, and what is expected.
 use super::same;
-use std::alloc::Global;
-use ufmt::{plain_text, pretty_text, uDisplay, write_display};
+use test_rows::printed::Displayed;
+use test_rows::rows::Table;
+use test_rows::{put_rows, rows_of};
 use ufmt_parse::{Expected, ParseError, PlacedError};
 
-fn displayed<T: uDisplay + Drop>(alloc: Global, error: T) -> Option<String> {
-    let mut text = String::new(alloc);
-    write_display(&mut text, &error).ok()?;
-    Some(text)
+fn not_text(at: usize, expected: Expected) -> ParseError {
+    ParseError::NotText { at, expected }
 }
 
 #[test]
 fn an_error_prints_what_is_expected_and_its_place(rt: HostRuntime) {
-    let number = ParseError::NotText {
-        at: 15,
-        expected: Expected::Number,
-    };
-    let rows = [
-        (
-            number,
-            "expected a number of the type at byte 15",
-            "NotText { at: 15, expected: Number }",
-        ),
-        (ParseError::OutOfMemory, "out of memory", "OutOfMemory"),
-    ];
-    for (error, display, debug) in rows {
-        let text = displayed(rt.alloc(), error);
-        same(
-            &rt,
-            text.as_ref().map(String::as_str),
-            Some(display),
-            display,
-        );
-        let text = plain_text(rt.alloc(), &error).ok();
-        same(&rt, text.as_ref().map(String::as_str), Some(debug), debug);
-    }
-    let lines = pretty_text(rt.alloc(), &number).ok();
-    same(
-        &rt,
-        lines.as_ref().map(String::as_str),
-        Some("NotText {\n    at: 15,\n    expected: Number,\n}"),
-        "in lines",
+    let mut table = Table::new(rt.alloc());
+    let number = not_text(15, Expected::Number);
+    put_rows!(table;
+        texts(&Displayed(number)) => "expected a number of the type at byte 15";
+        texts(&number) => "NotText { at: 15, expected: Number }~\nNotText {\n    at: 15,\n    expected: Number,\n}";
+        texts(&Displayed(ParseError::OutOfMemory)) => "out of memory";
+        texts(&ParseError::OutOfMemory) => "OutOfMemory";
     );
+    same(&rt, table.text(), Some(table.wanted()), "errors");
 }
 
 #[test]
 fn an_error_in_its_text_prints_its_line_column_and_name(rt: HostRuntime) {
+    let mut table = Table::new(rt.alloc());
     let text = "Set {\n    channel: 256,\n    level: -4,\n}".as_bytes();
-    let number = ParseError::NotText {
-        at: 19,
-        expected: Expected::Number,
-    };
-    let name = ParseError::NotText {
-        at: 0,
-        expected: Expected::Name,
-    };
-    let rows = [
-        (
-            number.in_text(text),
-            "expected a number of the type at line 2 column 14, after `channel: `",
-            "NotText { line: 2, column: 14, expected: Number, after: Some(\"channel\") }",
-        ),
-        (
-            name.in_text(text),
-            "expected a name of the type at line 1 column 1",
-            "NotText { line: 1, column: 1, expected: Name, after: None }",
-        ),
-        (
-            ParseError::OutOfMemory.in_text(text),
-            "out of memory",
-            "OutOfMemory",
-        ),
-    ];
-    for (error, display, debug) in rows {
-        let text = displayed(rt.alloc(), error);
-        same(
-            &rt,
-            text.as_ref().map(String::as_str),
-            Some(display),
-            display,
-        );
-        let text = plain_text(rt.alloc(), &error).ok();
-        same(&rt, text.as_ref().map(String::as_str), Some(debug), debug);
-    }
-    same(
-        &rt,
-        number.in_text(text),
-        PlacedError::NotText {
-            line: 2,
-            column: 14,
-            expected: Expected::Number,
-            after: Some("channel"),
-        },
-        "the line, the column and the name",
+    let number = not_text(19, Expected::Number).in_text(text);
+    let name = not_text(0, Expected::Name).in_text(text);
+    put_rows!(table;
+        texts(&Displayed(number)) => "expected a number of the type at line 2 column 14, after `channel: `";
+        plain(&number) => "NotText { line: 2, column: 14, expected: Number, after: Some(\"channel\") }";
+        texts(&Displayed(name)) => "expected a name of the type at line 1 column 1";
+        plain(&name) => "NotText { line: 1, column: 1, expected: Name, after: None }";
+        texts(&Displayed(PlacedError::OutOfMemory)) => "out of memory";
+        texts(&PlacedError::OutOfMemory) => "OutOfMemory";
     );
+    same(&rt, table.text(), Some(table.wanted()), "errors");
 }
 
 #[test]
 fn each_kind_has_its_words(rt: HostRuntime) {
-    let rows = [
-        (Expected::Name, "a name of the type", "Name"),
-        (Expected::Number, "a number of the type", "Number"),
-        (
-            Expected::Character,
-            "a character in apostrophes",
-            "Character",
-        ),
-        (Expected::Text, "a text in quotation marks", "Text"),
-        (Expected::Punctuation, "punctuation", "Punctuation"),
-        (Expected::Order, "keys in ascending order", "Order"),
-        (
-            Expected::Count,
-            "another number of values or blocks",
-            "Count",
-        ),
-        (Expected::End, "the end of the text", "End"),
-    ];
-    for (expected, display, debug) in rows {
-        let text = displayed(rt.alloc(), expected);
-        same(
-            &rt,
-            text.as_ref().map(String::as_str),
-            Some(display),
-            display,
-        );
-        let text = plain_text(rt.alloc(), &expected).ok();
-        same(&rt, text.as_ref().map(String::as_str), Some(debug), debug);
+    let mut table = Table::new(rt.alloc());
+    for (expected, debug, display) in rows_of![
+        Expected::Name, "Name" => "a name of the type";
+        Expected::Number, "Number" => "a number of the type";
+        Expected::Character, "Character" => "a character in apostrophes";
+        Expected::Text, "Text" => "a text in quotation marks";
+        Expected::Punctuation, "Punctuation" => "punctuation";
+        Expected::Order, "Order" => "keys in ascending order";
+        Expected::Count, "Count" => "another number of values or blocks";
+        Expected::End, "End" => "the end of the text";
+    ] {
+        put_rows!(table; texts(&expected) => debug; texts(&Displayed(expected)) => display;);
     }
+    same(&rt, table.text(), Some(table.wanted()), "kinds");
 }

@@ -3,12 +3,14 @@ ghost use Rattle.std.specs.Prelude.{[], ◌∷◌, ⊤};
 ghost use Rattle.ufmt.specs.Document.{documents, fields_of, leaf, struct_of, tuple_of};
 ghost use Rattle.ufmt.specs.ValueDocuments.{number, string};
 ghost use Rattle.test_parse.specs.declared.tests.names.Shape.TheVariants.{Sized, Empty, Paired, Raised};
-ghost use Rattle.test_parse.specs.declared.tests.names.TheConstants.{EMPTY, HEIGHT, PAIR, PATH, SIZE, TITLE};
+ghost use Rattle.test_parse.specs.declared.tests.names.TheConstants.{EMPTY, HEIGHT, PATH, SIZE, TITLE};
 ghost use Rattle.ufmt_parse.specs.Values.{is_u8};
 
 use super::{first_wrong, same};
 use std::alloc::Global;
-use ufmt::{Formatter, plain_text, pretty_text, uDebug, uWrite};
+use test_rows::put_rows;
+use test_rows::rows::Table;
+use ufmt::{Formatter, uDebug, uWrite};
 use ufmt_parse::{
     ByType, Fault, ParseMode, Parser, parse_struct_1, parse_struct_2, parse_tuple_2, parse_unit,
     uParse,
@@ -20,9 +22,7 @@ const HEIGHT: &str = "höhe";
 
 const TITLE: &str = "名";
 
-const PAIR: &str = "a.b/c+ü";
-
-const PATH: &str = "größen::Paar";
+const PATH: &str = "größen::a.b/c+ü";
 
 const EMPTY: &str = "Empty";
 
@@ -52,34 +52,6 @@ impl uParse<Global> for Size {
     fn parse_from<M: ParseMode>(alloc: Global, parser: &mut Parser<'_, M>) -> Result<Size, Fault> {
         match parse_struct_2(alloc, parser, SIZE, HEIGHT, &ByType, TITLE, &ByType) {
             Ok((height, title)) => Ok(Size { height, title }),
-            Err(fault) => Err(fault),
-        }
-    }
-}
-
-/// A tuple whose name has signs.
-#[derive(Clone, Copy, PartialEq, Eq, Debug, Drop)]
-pub struct Pair(u8, bool);
-
-impl uDebug for Pair {
-    ghost document = { λ p. tuple_of PAIR.now (documents
-        (number p.0 ∷ ⟦<bool as uDebug>⟧.document p.1 ∷ [])) };
-
-    fn fmt<W: uWrite>(&self, f: &mut Formatter<W>) -> Result<(), W::Error> {
-        f.tuple_2(PAIR, &self.0, &self.1)
-    }
-}
-
-impl<A: Copy> uParse<A> for Pair {
-    ghost is_value = { λ p. is_u8 p.0 };
-
-    fn prove_value(&self) {
-        let _first = self.0;
-    }
-
-    fn parse_from<M: ParseMode>(alloc: A, parser: &mut Parser<'_, M>) -> Result<Pair, Fault> {
-        match parse_tuple_2(alloc, parser, PAIR, &ByType, &ByType) {
-            Ok((first, second)) => Ok(Pair(first, second)),
             Err(fault) => Err(fault),
         }
     }
@@ -169,75 +141,26 @@ fn names_past_ascii_print_as_by_rustc(rt: HostRuntime) {
         title: String::from_str(alloc, "é").expect(&rt, "memory"),
     };
     let shapes = [Shape::Sized, Shape::Empty];
-    let rows = [
-        (plain_text(alloc, &size), "Größe { höhe: 1, 名: \"é\" }"),
-        (
-            pretty_text(alloc, &size),
-            "Größe {\n    höhe: 1,\n    名: \"é\",\n}",
-        ),
-        (plain_text(alloc, &shapes), "[Größe, Empty]"),
-        (pretty_text(alloc, &shapes), "[\n    Größe,\n    Empty,\n]"),
-    ];
-    for (printed, wanted) in rows {
-        let text = printed.expect(&rt, "memory");
-        same(&rt, text.as_str(), wanted, wanted);
-    }
+    let mut table = Table::new(alloc);
+    put_rows!(table;
+        texts(&size) => "Größe { höhe: 1, 名: \"é\" }~\nGröße {\n    höhe: 1,\n    名: \"é\",\n}";
+        texts(&shapes) => "[Größe, Empty]~\n[\n    Größe,\n    Empty,\n]";
+    );
+    same(&rt, table.text(), Some(table.wanted()), "names");
 }
 
 // Each text of the first row comes back from both modes, and each of the second is refused.
 #[test]
 fn names_past_ascii_are_parsed(rt: HostRuntime) {
-    let alloc = rt.alloc();
-    let wrong = [
-        first_wrong::<Size>(
-            alloc,
-            &[
-                "Größe { höhe: 1, 名: \"é\" }",
-                "Größe { höhe: 255, 名: \"\" }",
-            ],
-            &[
-                "Größe { hohe: 1, 名: \"é\" }",
-                "Größ { höhe: 1, 名: \"é\" }",
-                "Größe: { höhe: 1, 名: \"é\" }",
-                "Größe { höhe: 256, 名: \"é\" }",
-                "Größe { höhe: 1, 名 : \"é\" }",
-                "Größe",
-            ],
-        ),
-        first_wrong::<Pair>(
-            alloc,
-            &["a.b/c+ü(1, true)", "a.b/c+ü(0, false)"],
-            &[
-                "a.b/c+u(1, true)",
-                "a.b(1, true)",
-                "a.b/c+ü (1, true)",
-                "a.b/c+ü",
-            ],
-        ),
-        first_wrong::<Vec<Shape>>(
-            alloc,
-            &[
-                "[Größe, Empty]",
-                "[größen::Paar(3, true)]",
-                "[名 { höhe: 4 }, Größe]",
-                "[]",
-            ],
-            &[
-                "[Größer]",
-                "[Größe::Paar]",
-                "[Größ]",
-                "[Größe:]",
-                "[Emptyé]",
-                "[größen:Paar(3, true)]",
-                "[größen::Paar]",
-                "[größen(3, true)]",
-                "[名]",
-                "[名(4)]",
-            ],
-        ),
-        first_wrong::<Option<Shape>>(alloc, &["Some(Größe)", "None"], &["Some(Größe: )", "Größe"]),
-    ];
-    for found in wrong {
-        same(&rt, found, None, "names");
-    }
+    all_read!(rt, Size;
+        "Größe { höhe: 1, 名: \"é\" }", "Größe { höhe: 255, 名: \"\" }";
+        "Größe { hohe: 1, 名: \"é\" }", "Größ { höhe: 1, 名: \"é\" }", "Größe: { höhe: 1, 名: \"é\" }",
+        "Größe { höhe: 256, 名: \"é\" }", "Größe { höhe: 1, 名 : \"é\" }", "Größe"
+    );
+    all_read!(rt, Vec<Shape>;
+        "[Größe, Empty]", "[größen::a.b/c+ü(3, true)]", "[名 { höhe: 4 }, Größe]", "[]";
+        "[Größer]", "[Größe::a]", "[Größ]", "[Größe:]", "[Emptyé]", "[größen:a.b/c+ü(3, true)]", "[größen::a.b/c+u(3, true)]",
+        "[größen::a.b(3, true)]", "[größen::a.b/c+ü (3, true)]", "[größen::a.b/c+ü]", "[größen(3, true)]", "[名]", "[名(4)]"
+    );
+    all_read!(rt, Option<Shape>; "Some(Größe)", "None"; "Some(Größe: )", "Größe");
 }

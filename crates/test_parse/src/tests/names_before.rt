@@ -48,22 +48,14 @@ fn a_name_ends_in_a_colon_and_a_space(rt: HostRuntime) {
 fn a_name_is_utf8(rt: HostRuntime) {
     same(&rt, name_of(b"\xff\xfe: x", 4), None, "no character");
     same(&rt, name_of(b"gr\xc3: x", 5), None, "half a character");
-    same(
-        &rt,
-        name_of(b"\xb6gr\xc3\xb6\xc3\x9fe: x", 10),
-        None,
-        "half a character before it",
-    );
+    let text = b"\xb6gr\xc3\xb6\xc3\x9fe: x";
+    same(&rt, name_of(text, 10), None, "half a character before it");
     // What comes before the name needn't be.
     same(&rt, name_of(b"\xff level: x", 9), Some("level"), "before");
 }
 
 #[test]
 fn an_error_of_memory_has_no_name(rt: HostRuntime) {
-    same(
-        &rt,
-        ParseError::OutOfMemory.in_text(b"level: "),
-        PlacedError::OutOfMemory,
-        "out of memory",
-    );
+    let given = ParseError::OutOfMemory.in_text(b"level: ");
+    same(&rt, given, PlacedError::OutOfMemory, "out of memory");
 }

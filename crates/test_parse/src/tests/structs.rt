@@ -119,98 +119,42 @@ impl<T: uParse<Global>> uParse<Global> for Entry<T> {
     }
 }
 
-/// A tuple struct.
-#[derive(Drop)]
-struct Pair(u8, u64);
-
-impl uDebug for Pair {
-    ghost document = { λ b. named_tuple "Pair" (number b.0 ∷ number b.1 ∷ []) };
-
-    fn fmt<W: uWrite>(&self, f: &mut Formatter<W>) -> Result<(), W::Error> {
-        fields!(f, self, Pair(first, second))
-    }
-}
-
-impl<A: Copy> uParse<A> for Pair {
-    ghost is_value = { λ b. is_u8 b.0 × is_u64 b.1 };
-
-    fn prove_value(&self) {
-        let _first = self.0;
-        let _second = self.1;
-    }
-
-    fn parse_from<M: ParseMode>(alloc: A, parser: &mut Parser<'_, M>) -> Result<Pair, Fault> {
-        parse_fields!(alloc, parser, Pair(first, second))
-    }
-}
-
 #[test]
 fn structs_are_parsed(rt: HostRuntime) {
-    let alloc = rt.alloc();
-    let given = [
-        first_wrong::<Entry<bool>>(
-            alloc,
-            &["Entry { id: 3, time: 0, value: true, text: \"a\" }"],
-            &[
-                "Entry",
-                "Entry {}",
-                "Entry { id: 3, time: 0, value: true }",
-                "Entry { id: 3, time: 0, text: \"a\", value: true }",
-                "Entry { id: 3, time: 0, value: true, texts: \"a\" }",
-                "Entry { id: 3, time: 0, value: true, text: \"a\", id: 3 }",
-                "Entry { id: 256, time: 0, value: true, text: \"a\" }",
-                "Entry { id: 3, time: 0, value: 1, text: \"a\" }",
-                "Other { id: 3, time: 0, value: true, text: \"a\" }",
-                "Entry(3, 0, true, \"a\")",
-                "entry",
-            ],
-        ),
-        first_wrong::<Pair>(
-            alloc,
-            &["Pair(1, 2)"],
-            &[
-                "Pair",
-                "Pair(1)",
-                "Pair(1, 2, 3)",
-                "Pair(256, 2)",
-                "(1, 2)",
-                "Pair { x: 1, y: 2 }",
-            ],
-        ),
-        first_wrong::<Switch>(
-            alloc,
-            &[
-                "Switch { is_on: true, next: None, is_lit: false }",
-                "Switch { is_on: false, next: Some(2), is_lit: true }",
-            ],
-            &[
-                "Switch { is_on: true, next: none, is_lit: false }",
-                "Switch { is_on: 1, next: None, is_lit: false }",
-            ],
-        ),
-    ];
-    same(&rt, given, [None; 3], "by type");
+    all_read!(rt, Entry<bool>;
+        "Entry { id: 3, time: 0, value: true, text: \"a\" }";
+        "Entry", "Entry {}", "Entry { id: 3, time: 0, value: true }",
+        "Entry { id: 3, time: 0, text: \"a\", value: true }", "Entry { id: 3, time: 0, value: true, texts: \"a\" }",
+        "Entry { id: 3, time: 0, value: true, text: \"a\", id: 3 }",
+        "Entry { id: 256, time: 0, value: true, text: \"a\" }", "Entry { id: 3, time: 0, value: 1, text: \"a\" }",
+        "Other { id: 3, time: 0, value: true, text: \"a\" }", "Entry(3, 0, true, \"a\")", "entry"
+    );
+    all_stop!(rt, Both;
+        "Both(Flags { on: true, off: false }, Some(true))" => "";
+        "Both" => "4 Punctuation";
+        "Both(Flags { on: true, off: false })" => "35 Punctuation";
+        "Both(Flags { on: true, off: false }, None, None)" => "41 Punctuation";
+        "Both { x: 1, y: 2 }" => "4 Punctuation";
+    );
+    all_read!(rt, Switch;
+        "Switch { is_on: true, next: None, is_lit: false }", "Switch { is_on: false, next: Some(2), is_lit: true }";
+        "Switch { is_on: true, next: none, is_lit: false }", "Switch { is_on: 1, next: None, is_lit: false }"
+    );
 }
 
 #[test]
 fn structs_are_parsed_up_to_what_does_not_fit(rt: HostRuntime) {
-    let rows = [
-        ("Flags { on: true, off: false }", ""),
-        ("Flag { on: true, off: false }", "0 Name"),
-        ("Flags{ on: true, off: false }", "5 Punctuation"),
-        ("Flags { off: true, on: false }", "8 Name"),
-        ("Flags { on: true }", "16 Punctuation"),
-        ("Flags { on: true,off: false }", "16 Punctuation"),
-        ("Flags { on: true, off: 0 }", "23 Name"),
-        ("Flags { on: true, off: false", "28 Punctuation"),
-        ("Flags { on: true, off: false, }", "28 Punctuation"),
-        ("Flags { on: true, off: false }x", "30 End"),
-    ];
-    same(
-        &rt,
-        first_other::<Flags>(rt.alloc(), &rows),
-        None,
-        "by rows",
+    all_stop!(rt, Flags;
+        "Flags { on: true, off: false }" => "";
+        "Flag { on: true, off: false }" => "0 Name";
+        "Flags{ on: true, off: false }" => "5 Punctuation";
+        "Flags { off: true, on: false }" => "8 Name";
+        "Flags { on: true }" => "16 Punctuation";
+        "Flags { on: true,off: false }" => "16 Punctuation";
+        "Flags { on: true, off: 0 }" => "23 Name";
+        "Flags { on: true, off: false" => "28 Punctuation";
+        "Flags { on: true, off: false, }" => "28 Punctuation";
+        "Flags { on: true, off: false }x" => "30 End";
     );
 }
 
@@ -255,25 +199,10 @@ fn lines_are_parsed_by_the_calls_of_the_examples(rt: HostRuntime) {
     };
     let given = parse_measurement(b"Measurement { channel: 255, celsius: -2147483648 }");
     same(&rt, given, Ok(measurement), "a measurement");
-    let rows = [
-        ("Measurement { channel: 255, celsius: -2147483648 }", ""),
-        (
-            "Measuremant { channel: 255, celsius: -2147483648 }",
-            "0 Name",
-        ),
-        (
-            "Measurement { channel: 255, celsium: -2147483648 }",
-            "28 Name",
-        ),
-        (
-            "Measurement { channel: 255, celsius: -2147483649 }",
-            "37 Number",
-        ),
-    ];
-    same(
-        &rt,
-        first_other::<Measurement>(rt.alloc(), &rows),
-        None,
-        "by rows",
+    all_stop!(rt, Measurement;
+        "Measurement { channel: 255, celsius: -2147483648 }" => "";
+        "Measuremant { channel: 255, celsius: -2147483648 }" => "0 Name";
+        "Measurement { channel: 255, celsium: -2147483648 }" => "28 Name";
+        "Measurement { channel: 255, celsius: -2147483649 }" => "37 Number";
     );
 }

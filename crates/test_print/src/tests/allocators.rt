@@ -41,18 +41,10 @@ fn strings_over_a_lent_allocator_are_writers(rt: HostRuntime) {
         write_display(&mut text, &"x"),
         Formatter::new(&mut text).write_char('é'),
     ];
-    same(
-        &rt,
-        (are_ok(&outcomes), text.as_str()),
-        (true, "7xé"),
-        "a writer",
-    );
+    same(&rt, are_ok(&outcomes), true, "the outcomes");
+    same(&rt, text.as_str(), "7xé", "a writer");
     let mut copy = String::new(&global);
     let outcome = write_display(&mut copy, &text);
-    same(
-        &rt,
-        (outcome.is_ok(), copy.as_str()),
-        (true, "7xé"),
-        "displayed",
-    );
+    let given = (outcome.is_ok(), copy.as_str());
+    same(&rt, given, (true, "7xé"), "displayed");
 }

@@ -9,17 +9,12 @@ pub fn same<T: PartialEq + Debug + Drop>(rt: &impl Abort, given: T, wanted: T, c
     assert_eq!(rt; given, wanted, "{case}");
 }
 
-/// Asserts that the table has these rows.
-pub fn has_rows(rt: &impl Abort, table: &Table, wanted: &str) {
+/// Asserts that each row of the table is what is wanted of it.
+pub fn has_wanted_rows(rt: &impl Abort, table: &Table) {
     let given = table.text().unwrap_or("no memory for a row");
-    let rows = given.split(";\n").zip(wanted.split(";\n"));
+    let rows = given.split(";\n").zip(table.wanted().split(";\n"));
     for (number, (given, wanted)) in rows.enumerate() {
         assert_eq!(rt; (number, given), (number, wanted));
     }
-    assert_eq!(rt; given, wanted);
-}
-
-/// Asserts that each row of the table is what is wanted of it.
-pub fn has_wanted_rows(rt: &impl Abort, table: &Table) {
-    has_rows(rt, table, table.wanted());
+    assert_eq!(rt; given, table.wanted());
 }

@@ -1,27 +1,16 @@
-//! Tests of the pieces of blocks in both modes, with a bar after each piece.
+//! Tests of the pieces of blocks in both modes, with a bar after each piece, and of longer tuples.
 use super::asserts::has_wanted_rows;
-use example_print::{Braces, InPrettyMode, Pair, Parens, Session, Tuple, X};
-use std::alloc::{AllocError, Global};
-use std::collections::{BTreeMap, BTreeSet};
-use test_rows::rows::{Table, list, map, set};
+use example_print::{InPrettyMode, Pair, Session, Tuple, X};
+use test_rows::rows::{Table, map, set};
 use test_rows::{by_builders, put_rows};
-
-fn list_of_a_set(alloc: Global) -> Result<Vec<BTreeSet<u64>>, AllocError> {
-    let mut list = Vec::new(alloc);
-    list.push(set(alloc, &[2u64, 1])?)?;
-    Ok(list)
-}
 
 #[test]
 fn blocks_print_in_pieces(rt: HostRuntime) {
     let mut table = Table::new(rt.alloc());
     put_rows!(table;
-        same_pieces(&Pair { x: 1u64, y: 2u64 }, &by_builders::Pair { x: 1i32, y: 2i32 })
-            => "Pair| {| |x|: |1|, |y|: |2| |}|~\nPair| {|\n|    |x|: |1|,\n|    |y|: |2|,\n|}|";
-        same_pieces(&Braces {}, &by_builders::Braces {}) => "Braces|";
-        same_pieces(&Tuple(1u8, 2u8), &by_builders::Tuple(1u8, 2u8)) => "Tuple|(|1|, |2|)|~\nTuple|(|\n|    |1|,\n|    |2|,\n|)|";
-        same_pieces(&X(1u8), &by_builders::X(1u8)) => "X|(|1|)|~\nX|(|\n|    |1|,\n|)|";
-        same_pieces(&Parens(), &by_builders::Parens()) => "Parens|";
+        pieces(&Pair { x: 1u64, y: 2u64 }) => "Pair| {| |x|: |1|, |y|: |2| |}|~\nPair| {|\n|    |x|: |1|,\n|    |y|: |2|,\n|}|";
+        pieces(&Tuple(1u8, 2u8)) => "Tuple|(|1|, |2|)|~\nTuple|(|\n|    |1|,\n|    |2|,\n|)|";
+        pieces(&X(1u8)) => "X|(|1|)|~\nX|(|\n|    |1|,\n|)|";
         pieces(&(1i32, 2i32)) => "|(|1|, |2|)|~\n|(|\n|    |1|,\n|    |2|,\n|)|";
         pieces(&(1u8,)) => "|(|1|,|)|~\n|(|\n|    |1|,\n|)|";
         pieces(&[1u64, 2]) => "[|1|, |2|]|~\n[|\n|    |1|,\n|    |2|,\n|]|";
@@ -29,7 +18,6 @@ fn blocks_print_in_pieces(rt: HostRuntime) {
         pieces(&[0u8; 0]) => "[|]|";
         pieces_of_made(set::<i32>(rt.alloc(), &[])) => "{|}|";
         pieces_of_made(set(rt.alloc(), &[2u64, 1])) => "{|1|, |2|}|~\n{|\n|    |1|,\n|    |2|,\n|}|";
-        pieces_of_made(list_of_a_set(rt.alloc())) => "[|{|1|, |2|}|]|~\n[|\n|    |{|\n|    |    |1|,\n|    |    |2|,\n|    |}|,\n|]|";
         pieces_of_made(map::<u8, u8>(rt.alloc(), &[])) => "{|}|";
         pieces_of_made(map(rt.alloc(), &[(3i32, 4i32), (1, 2)])) => "{|1|: |2|, |3|: |4|}|~\n{|\n|    |1|: |2|,\n|    |3|: |4|,\n|}|";
         pieces(&Some(1u8)) => "Some|(|1|)|~\nSome|(|\n|    |1|,\n|)|";
@@ -47,8 +35,7 @@ fn blocks_print_in_pieces(rt: HostRuntime) {
     // In pretty mode each value is a pretty part inside a pretty part.
     put_rows!(table;
         pieces(&InPrettyMode(Some(1u8))) => "Some|(|\n|    |1|,\n|)|";
-        same_pieces(&[InPrettyMode(Some(1u8))], &[by_builders::InPrettyMode(Some(1u8))])
-            => "[|Some|(|\n|    |1|,\n|)|]|~\n[|\n|    |Some|(|\n|    |    |1|,\n|    |)|,\n|]|";
+        pieces(&[by_builders::InPrettyMode(Some(1u8))]) => "[|Some|(|\n|    |1|,\n|)|]|~\n[|\n|    |Some|(|\n|    |    |1|,\n|    |)|,\n|]|";
     );
     // Each four spaces of an indentation are one piece.
     put_rows!(table;
@@ -87,6 +74,7 @@ Pair| {|
 |    |}|,
 |    |y|: |2|,
 |}|";
+        pieces(&Tuple(1u8, &session)) => "Tuple|(|1|, |Session| {| |user|: |7|, ..| |}|)|~\nTuple|(|\n|    |1|,\n|    |Session| {|\n|    |    |user|: |7|,\n|    |    |..\n|    |}|,\n|)|";
         pieces(&[Some(&session)]) => "\
 [|Some|(|Session| {| |user|: |7|, ..| |}|)|]|~
 [|
@@ -97,6 +85,29 @@ Pair| {|
 |    |    |}|,
 |    |)|,
 |]|";
+    );
+    has_wanted_rows(&rt, &table);
+}
+
+// As by core::fmt. `tools/expected/show VALUE` prints them again.
+#[test]
+fn tuples_print(rt: HostRuntime) {
+    let mut table = Table::new(rt.alloc());
+    let (a, b, c, d, e, f) = (1u64, 2i32, 3u8, 4u64, 5i32, 6u8);
+    put_rows!(table;
+        plain(&(a, b, c)) => "(1, 2, 3)";
+        plain(&(a, b, c, d)) => "(1, 2, 3, 4)";
+        plain(&(a, b, c, d, e)) => "(1, 2, 3, 4, 5)";
+        plain(&(a, b, c, d, e, f)) => "(1, 2, 3, 4, 5, 6)";
+        plain(&(a, b, c, d, e, f, 7u8)) => "(1, 2, 3, 4, 5, 6, 7)";
+        plain(&(a, b, c, d, e, f, 7u8, 8u8)) => "(1, 2, 3, 4, 5, 6, 7, 8)";
+    );
+    let (a, b, c, d, e, f, g, h, i) = (1u64, 2i32, 3u8, 4u64, 5i32, 6u8, 7u64, 8i32, 9u8);
+    put_rows!(table;
+        plain(&(a, b, c, d, e, f, g, h, i)) => "(1, 2, 3, 4, 5, 6, 7, 8, 9)";
+        plain(&(a, b, c, d, e, f, g, h, i, 10u8)) => "(1, 2, 3, 4, 5, 6, 7, 8, 9, 10)";
+        plain(&(a, b, c, d, e, f, g, h, i, 10u8, 11u8)) => "(1, 2, 3, 4, 5, 6, 7, 8, 9, 10, 11)";
+        plain(&(a, b, c, d, e, f, g, h, i, 10u8, 11u8, 12u8)) => "(1, 2, 3, 4, 5, 6, 7, 8, 9, 10, 11, 12)";
     );
     has_wanted_rows(&rt, &table);
 }

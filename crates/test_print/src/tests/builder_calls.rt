@@ -4,41 +4,23 @@ use ufmt::{DebugList, DebugMap, DebugSet, DebugStruct, DebugTuple, Formatter, uD
 
 /// The call that came last, and whether the builder was open before it and after it.
 #[derive(Clone, Copy, PartialEq, Debug)]
-pub struct LastCall<'a> {
-    name: &'a str,
+pub struct LastCall {
+    name: &'static str,
     was_open: bool,
     is_open: bool,
 }
 
-impl<'a> LastCall<'a> {
-    /// The call that makes the builder. No builder is open before it, nor after it if it fails.
-    pub fn opening() -> Self {
-        LastCall {
-            name: "opening",
-            was_open: false,
-            is_open: false,
-        }
-    }
-
-    /// A call that closes an open builder.
-    pub fn closing(name: &'a str) -> Self {
+impl LastCall {
+    /// A call that closes an open builder, or one that fails. No builder is open before the call that makes it.
+    pub fn closing(name: &'static str) -> Self {
         LastCall {
             name,
-            was_open: true,
+            was_open: name != "opening",
             is_open: false,
         }
     }
 
-    /// A call that failed.
-    pub fn failed(name: &'a str) -> Self {
-        if name == "opening" {
-            LastCall::opening()
-        } else {
-            LastCall::closing(name)
-        }
-    }
-
-    fn note(&mut self, name: &'a str, is_open: bool) {
+    fn note(&mut self, name: &'static str, is_open: bool) {
         self.name = name;
         self.was_open = self.is_open;
         self.is_open = is_open;
@@ -191,7 +173,7 @@ impl<W: uWrite> Calls<W::Error> for DebugTuple<'_, W> {
 fn make_each<E, B: Calls<E> + Drop>(
     builder: Result<B, E>,
     calls: &[Call],
-    last: &mut LastCall<'_>,
+    last: &mut LastCall,
 ) -> Result<(), E> {
     let mut builder = builder?;
     last.note("opening", builder.may_continue());
@@ -222,7 +204,7 @@ impl Block {
     pub fn call_in_turn<W: uWrite>(
         self,
         f: &mut Formatter<W>,
-        last: &mut LastCall<'_>,
+        last: &mut LastCall,
     ) -> Result<(), W::Error> {
         match self {
             Block::List => make_each(f.debug_list(), &OF_ENTRIES, last),

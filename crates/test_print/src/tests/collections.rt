@@ -4,7 +4,7 @@ use super::asserts::{has_wanted_rows, same};
 use std::alloc::{AllocError, Global};
 use std::collections::{BTreeMap, BTreeSet};
 use test_rows::put_rows;
-use test_rows::rows::{Table, list, map, repeated, set};
+use test_rows::rows::{Table, map, repeated, set};
 
 // ufmt 0.2.0 has arrays of at most 32.
 #[test]
@@ -19,12 +19,6 @@ fn an_array_of_40_prints_as_by_core_fmt(rt: HostRuntime) {
     same(&rt, table.text(), expected.text(), "sevens");
 }
 
-fn ports(alloc: Global) -> Result<BTreeMap<u64, Vec<u64>>, AllocError> {
-    let mut ports = BTreeMap::new(alloc);
-    ports.insert(80u64, list(alloc, &[7u64, 9])?)?;
-    Ok(ports)
-}
-
 #[test]
 fn collections_options_and_results_print_as_by_core_fmt(rt: HostRuntime) {
     let mut table = Table::new(rt.alloc());
@@ -33,14 +27,13 @@ fn collections_options_and_results_print_as_by_core_fmt(rt: HostRuntime) {
         same_texts(&[0u64].as_slice(), &[0i32].as_slice()) => "[0]~\n[\n    0,\n]";
         same_texts(&[0u64, 1].as_slice(), &[0i32, 1].as_slice()) => "[0, 1]~\n[\n    0,\n    1,\n]";
         texts(&Vec::<u64>::new(rt.alloc())) => "[]";
-        texts_of_made(list(rt.alloc(), &[0i32, 1])) => "[0, 1]~\n[\n    0,\n    1,\n]";
+        texts_of_made(Vec::from_slice(rt.alloc(), &[0i32, 1])) => "[0, 1]~\n[\n    0,\n    1,\n]";
         texts(&[[1u64; 2]; 1]) => "[[1, 1]]~\n[\n    [\n        1,\n        1,\n    ],\n]";
         same_texts_of_made(set::<u64>(rt.alloc(), &[]), set::<i32>(rt.alloc(), &[])) => "{}";
         same_texts_of_made(set(rt.alloc(), &[3u64, 1]), set(rt.alloc(), &[3i32, 1])) => "{1, 3}~\n{\n    1,\n    3,\n}";
         same_texts_of_made(map::<u64, u64>(rt.alloc(), &[]), map::<i32, i32>(rt.alloc(), &[])) => "{}";
         same_texts_of_made(map(rt.alloc(), &[(3u64, 4u64), (1, 2)]), map(rt.alloc(), &[(3i32, 4i32), (1, 2)]))
             => "{1: 2, 3: 4}~\n{\n    1: 2,\n    3: 4,\n}";
-        texts_of_made(ports(rt.alloc())) => "{80: [7, 9]}~\n{\n    80: [\n        7,\n        9,\n    ],\n}";
         texts(&Some(0u64)) => "Some(0)~\nSome(\n    0,\n)";
         texts(&Ok::<u64, i32>(1)) => "Ok(1)~\nOk(\n    1,\n)";
         texts(&Err::<u64, i32>(2)) => "Err(2)~\nErr(\n    2,\n)";
@@ -48,15 +41,10 @@ fn collections_options_and_results_print_as_by_core_fmt(rt: HostRuntime) {
     has_wanted_rows(&rt, &table);
 }
 
-fn array_of_lists(alloc: Global) -> Result<[Vec<i32>; 2], AllocError> {
-    let both = list(alloc, &[0i32, 1])?;
-    Ok([Vec::new(alloc), both])
-}
-
 fn list_of_lists(alloc: Global) -> Result<Vec<Vec<u64>>, AllocError> {
     let mut lists = Vec::new(alloc);
     lists.push(Vec::new(alloc))?;
-    lists.push(list(alloc, &[1u64])?)?;
+    lists.push(Vec::from_slice(alloc, &[1u64])?)?;
     Ok(lists)
 }
 
@@ -68,13 +56,6 @@ fn list_of_sets<N: Copy + Ord>(
     sets.push(BTreeSet::new(alloc))?;
     sets.push(set(alloc, numbers)?)?;
     Ok(sets)
-}
-
-fn list_of_maps(alloc: Global) -> Result<Vec<BTreeMap<u64, u64>>, AllocError> {
-    let mut maps = Vec::new(alloc);
-    maps.push(map(alloc, &[(1u64, 2u64)])?)?;
-    maps.push(BTreeMap::new(alloc))?;
-    Ok(maps)
 }
 
 // A map from this key to the map of these pairs.
@@ -93,11 +74,9 @@ fn map_of_a_map<N: Copy + Ord>(
 fn nested_values_print_as_by_core_fmt(rt: HostRuntime) {
     let mut table = Table::new(rt.alloc());
     put_rows!(table;
-        texts_of_made(array_of_lists(rt.alloc())) => "[[], [0, 1]]~\n[\n    [],\n    [\n        0,\n        1,\n    ],\n]";
         texts_of_made(list_of_lists(rt.alloc())) => "[[], [1]]~\n[\n    [],\n    [\n        1,\n    ],\n]";
         same_texts_of_made(list_of_sets(rt.alloc(), &[1u64]), list_of_sets(rt.alloc(), &[1i32]))
             => "[{}, {1}]~\n[\n    {},\n    {\n        1,\n    },\n]";
-        texts_of_made(list_of_maps(rt.alloc())) => "[{1: 2}, {}]~\n[\n    {\n        1: 2,\n    },\n    {},\n]";
         same_texts_of_made(map_of_a_map(rt.alloc(), 1u64, &[(2u64, 3u64)]), map_of_a_map(rt.alloc(), 1i32, &[(2i32, 3i32)]))
             => "{1: {2: 3}}~\n{\n    1: {\n        2: 3,\n    },\n}";
         texts(&Err::<(), [i32; 0]>([])) => "Err([])~\nErr(\n    [],\n)";

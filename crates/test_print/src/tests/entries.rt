@@ -3,7 +3,7 @@ ghost use Rattle.std.specs.Prelude.{◌-◌};
 ghost use Rattle.std.specs.Iterator.{at_most};
 
 use super::asserts::same;
-use super::writers::FailOnce;
+use test_rows::writers::FailAt;
 use ufmt::{Cursor, Formatter, Full, uWrite};
 
 /// The numbers 1 to 9, with how many of them were taken.
@@ -43,6 +43,14 @@ impl Iterator for Pairs<'_> {
     }
 }
 
+macro_rules! write_entries {
+    ($builder:expr, $entries:expr) => {{
+        let mut builder = $builder?;
+        builder.entries($entries)?;
+        builder.finish()
+    }};
+}
+
 /// A block that is written by `entries`.
 #[derive(Clone, Copy)]
 enum Block {
@@ -54,21 +62,9 @@ enum Block {
 impl Block {
     fn write<W: uWrite>(self, f: &mut Formatter<W>, numbers: &mut Numbers) -> Result<(), W::Error> {
         match self {
-            Block::List => {
-                let mut list = f.debug_list()?;
-                list.entries(numbers)?;
-                list.finish()
-            }
-            Block::Set => {
-                let mut set = f.debug_set()?;
-                set.entries(numbers)?;
-                set.finish()
-            }
-            Block::Map => {
-                let mut map = f.debug_map()?;
-                map.entries(Pairs { numbers })?;
-                map.finish()
-            }
+            Block::List => write_entries!(f.debug_list(), numbers),
+            Block::Set => write_entries!(f.debug_set(), numbers),
+            Block::Map => write_entries!(f.debug_map(), Pairs { numbers }),
         }
     }
 
@@ -93,7 +89,7 @@ impl Block {
 fn wrong_number(block: Block, is_pretty: bool, rows: &[(usize, u8)]) -> Option<usize> {
     for (number, taken) in rows {
         let mut buffer = [0; 200];
-        let mut f = Formatter::new(FailOnce::new(&mut buffer, *number));
+        let mut f = Formatter::new(FailAt::once(&mut buffer, *number));
         if block.write_in(is_pretty, &mut f) != (Err(Full), *taken) {
             return Some(*number);
         }

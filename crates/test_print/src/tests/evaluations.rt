@@ -2,11 +2,19 @@
 //! shows all evaluations in order.
 ghost use Rattle.std.specs.Prelude.{◌<◌};
 
+// One of these calls, by its number, with what is wanted of it.
+macro_rules! of_number {
+    ($number:ident; $($case:pat => $call:expr, $wanted:expr;)*) => {
+        match $number { $($case => ($call, $wanted)),* }
+    };
+}
+
 mod fields;
 mod pieces;
 mod uwrite;
 
 use std::alloc::Global;
+use test_rows::printed::column;
 use ufmt::pieces::Debug;
 use ufmt::{Align, Column, Formatter, HexOptions, uWrite};
 
@@ -69,11 +77,7 @@ impl Turns {
     // A column without a width.
     fn column(&mut self) -> Column {
         self.note('C');
-        Column {
-            width: 0,
-            align: Align::Left,
-            fill: ' ',
-        }
+        column(Align::Left, ' ', 0)
     }
 
     fn items(&mut self, number: u8) -> [u8; 2] {

@@ -17,21 +17,7 @@ struct Names {
 struct Three(u8, u8, u8);
 
 #[derive(Drop)]
-struct Thirteen {
-    a: u8,
-    b: u8,
-    c: u8,
-    d: u8,
-    e: u8,
-    f: u8,
-    g: u8,
-    h: u8,
-    i: u8,
-    j: u8,
-    k: u8,
-    l: u8,
-    m: u8,
-}
+struct Thirteen(u8, u8, u8, u8, u8, u8, u8, u8, u8, u8, u8, u8, u8);
 
 fn put_small(table: &mut Table) {
     let names = Names { f: 1, formatter: 2 };
@@ -54,10 +40,10 @@ fn put_with_dots(table: &mut Table) {
     );
 }
 
-fn put_thirteen(table: &mut Table, thirteen: &Thirteen) {
+fn put_thirteen(table: &mut Table) {
+    let thirteen = Thirteen(1, 2, 3, 4, 5, 6, 7, 8, 9, 10, 11, 12, 13);
     put_printed!(table, f;
-        fields!(f, thirteen, Thirteen { a, b, c, d, e, f, g, h, i, j, k, l, m })
-            => "Thirteen { a: 1, b: 2, c: 3, d: 4, e: 5, f: 6, g: 7, h: 8, i: 9, j: 10, k: 11, l: 12, m: 13 }"
+        fields!(f, thirteen, Thirteen(a, b, c, d, e, f, g, h, i, j, k, l, m)) => "Thirteen(1, 2, 3, 4, 5, 6, 7, 8, 9, 10, 11, 12, 13)"
     );
 }
 
@@ -66,21 +52,6 @@ fn fields_takes_values_apart(rt: HostRuntime) {
     let mut table = Table::new(rt.alloc());
     put_small(&mut table);
     put_with_dots(&mut table);
-    let thirteen = Thirteen {
-        a: 1,
-        b: 2,
-        c: 3,
-        d: 4,
-        e: 5,
-        f: 6,
-        g: 7,
-        h: 8,
-        i: 9,
-        j: 10,
-        k: 11,
-        l: 12,
-        m: 13,
-    };
-    put_thirteen(&mut table, &thirteen);
+    put_thirteen(&mut table);
     has_wanted_rows(&rt, &table);
 }

@@ -4,6 +4,8 @@ use std::hash::{BuildHasherDefault, FoldHasher};
 use ufmt::laws;
 use ufmt::unsigned::decimal_is_one_text;
 
+type Hashing = BuildHasherDefault<FoldHasher>;
+
 #[test]
 fn laws_of_numbers_and_types_can_be_called() {
     decimal_is_one_text();
@@ -38,13 +40,7 @@ fn laws_of_numbers_and_types_can_be_called() {
     laws::documents_of_sorted_collections::<u8, u16, Global>();
     laws::documents_of_texts::<Global>();
     laws::documents_of_shared_values::<u8, Global>();
-    laws::documents_of_unsorted_collections::<
-        u8,
-        u16,
-        i8,
-        BuildHasherDefault<FoldHasher>,
-        Global,
-    >();
+    laws::documents_of_unsorted_collections::<u8, u16, i8, Hashing, Global>();
     laws::documents_of_ranges::<u8>();
     laws::documents_of_cell_values::<u8>();
     laws::documents_of_wrappers::<u8, u16>();

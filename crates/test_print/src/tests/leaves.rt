@@ -17,22 +17,14 @@ fn each_escape_of_a_quoted_leaf_is_a_piece(rt: HostRuntime) {
         pieces(&"a\u{1b}\u{7f}é\u{1}") => "\"|a|\\u{1b}|\\u{7f}|é|\\u{1}|\"|";
         pieces_of_made(String::from_str(rt.alloc(), "\0\t\n\r\\'")) => "\"|\\0|\\t|\\n|\\r|\\\\|'|\"|";
     );
-    for (character, wanted) in [
-        ('é', "'|é|'|"),
-        ('🦀', "'|🦀|'|"),
-        ('\'', r#"'|\'|'|"#),
-        ('"', r#"'|"|'|"#),
-        ('\0', r#"'|\0|'|"#),
-        ('\t', r#"'|\t|'|"#),
-        ('\n', r#"'|\n|'|"#),
-        ('\r', r#"'|\r|'|"#),
-        ('\\', r#"'|\\|'|"#),
-        ('\u{1b}', r#"'|\u{1b}|'|"#),
-        ('\u{7f}', r#"'|\u{7f}|'|"#),
-    ] {
-        table.pieces(&character);
-        table.wants(wanted);
-    }
+    put_rows!(table;
+        pieces(&'é') => "'|é|'|";
+        pieces(&'🦀') => "'|🦀|'|";
+        pieces(&'\'') => r#"'|\'|'|"#;
+        pieces(&'"') => r#"'|"|'|"#;
+        pieces(&'\n') => r#"'|\n|'|"#;
+        pieces(&'\u{1b}') => r#"'|\u{1b}|'|"#;
+    );
     has_wanted_rows(&rt, &table);
 }
 
@@ -77,10 +69,8 @@ fn leaves_and_references_to_them_print_as_one_piece(rt: HostRuntime) {
         pieces(&Displayed("")) => "|";
         pieces(&Displayed(String::new(rt.alloc()))) => "|";
         pieces_of_made(String::from_str(rt.alloc(), "a text").map(Displayed)) => "a text|";
+        pieces(&Displayed('é')) => "é|";
+        pieces(&Displayed('🦀')) => "🦀|";
     );
-    for (character, wanted) in [('a', "a|"), ('é', "é|"), ('€', "€|"), ('🦀', "🦀|")] {
-        table.pieces(&Displayed(character));
-        table.wants(wanted);
-    }
     has_wanted_rows(&rt, &table);
 }

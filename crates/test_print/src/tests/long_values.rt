@@ -1,61 +1,54 @@
 //! Tests of tuples and lists with hundreds of entries.
 use super::asserts::same;
 use std::alloc::{AllocError, Global};
+use std::collections::BTreeMap;
+use test_rows::printed::{Printed, print_to};
 use test_rows::rows::{map, repeated};
 use test_rows::rows_of;
-use ufmt::{Formatter, uDebug, uWrite};
+use ufmt::{Formatter, uWrite};
 
-// Writes an unnamed tuple of `count` zeros. Returns whether it was open before each call.
-fn write_zeros<W: uWrite>(f: &mut Formatter<W>, count: u16) -> Result<bool, W::Error> {
-    let mut tuple = f.debug_tuple("")?;
-    for _ in 0..count {
-        if !tuple.is_open() {
-            return Ok(false);
+/// An unnamed tuple of so many zeros. It ends where the builder isn't open.
+#[derive(Drop)]
+struct Zeros(u16);
+
+impl Printed for Zeros {
+    fn print<W: uWrite>(&self, f: &mut Formatter<W>) -> Result<(), W::Error> {
+        let mut tuple = f.debug_tuple("")?;
+        for _ in 0..self.0 {
+            if !tuple.is_open() {
+                return Ok(());
+            }
+            tuple.field(&0u8)?;
         }
-        tuple.field(&0u8)?;
+        if tuple.is_open() {
+            tuple.finish()
+        } else {
+            Ok(())
+        }
     }
-    if !tuple.is_open() {
-        return Ok(false);
-    }
-    tuple.finish()?;
-    Ok(true)
 }
 
-fn plain_zeros(alloc: Global, count: u16) -> Result<String, AllocError> {
-    let mut text = String::new(alloc);
-    if !write_zeros(&mut Formatter::new(&mut text), count)? {
-        text.push_str("a tuple that isn't open")?;
-    }
-    Ok(text)
-}
-
-fn pretty_zeros(alloc: Global, count: u16) -> Result<String, AllocError> {
-    let mut text = String::new(alloc);
-    let mut is_open = false;
-    Formatter::new(&mut text).pretty(|f| {
-        is_open = write_zeros(f, count)?;
-        Ok(())
-    })?;
-    if !is_open {
-        text.push_str("a tuple that isn't open")?;
-    }
-    Ok(text)
-}
-
-// The pretty text of a list of `count` maps.
-fn pretty_maps(alloc: Global, count: u16) -> Result<String, AllocError> {
+fn maps(alloc: Global, count: u16) -> Result<Vec<BTreeMap<u8, u8>>, AllocError> {
     let mut maps = Vec::new(alloc);
     for _ in 0..count {
         maps.push(map(alloc, &[(1u8, 2u8)])?)?;
     }
-    let mut text = String::new(alloc);
-    let mut f = Formatter::new(&mut text);
-    f.pretty(|f| maps.fmt(f))?;
-    let is_as_before = !f.is_pretty() && f.depth() == 0;
-    if !is_as_before {
-        text.push_str(" in another mode or depth")?;
+    Ok(maps)
+}
+
+// The value's text in this mode, if the mode and the depth after it are as before.
+fn text_in<T: Printed>(alloc: Global, is_pretty: bool, value: &T) -> Result<String, AllocError> {
+    let ((outcome, inside, outside), text) = print_to(is_pretty, value, String::new(alloc));
+    outcome?;
+    if (inside, outside) == ((is_pretty, 0), (false, 0)) {
+        Ok(text)
+    } else {
+        String::from_str(alloc, "another mode or depth")
     }
-    Ok(text)
+}
+
+fn pretty_maps(alloc: Global, count: u16) -> Result<String, AllocError> {
+    text_in(alloc, true, &maps(alloc, count)?)
 }
 
 // A byte can't count these fields.
@@ -64,18 +57,14 @@ fn wide_tuples_and_lists_print(rt: HostRuntime) {
     let alloc = rt.alloc();
     let map = "    {\n        1: 2,\n    },\n";
     for (given, wanted, length) in rows_of![
-        plain_zeros(alloc, 256), repeated(alloc, "(0", ", 0", 255, ")") => 768;
-        plain_zeros(alloc, 257), repeated(alloc, "(0", ", 0", 256, ")") => 771;
-        plain_zeros(alloc, 300), repeated(alloc, "(0", ", 0", 299, ")") => 900;
-        pretty_zeros(alloc, 300), repeated(alloc, "(\n", "    0,\n", 300, ")") => 2103;
-        pretty_maps(alloc, 300), repeated(alloc, "[\n", map, 300, "]") => 8103;
+        text_in(alloc, false, &Zeros(256)), repeated(alloc, "(0", ", 0", 255, ")") => Ok(768);
+        text_in(alloc, false, &Zeros(257)), repeated(alloc, "(0", ", 0", 256, ")") => Ok(771);
+        text_in(alloc, false, &Zeros(300)), repeated(alloc, "(0", ", 0", 299, ")") => Ok(900);
+        text_in(alloc, true, &Zeros(300)), repeated(alloc, "(\n", "    0,\n", 300, ")") => Ok(2103);
+        pretty_maps(alloc, 300), repeated(alloc, "[\n", map, 300, "]") => Ok(8103);
     ] {
-        same(
-            &rt,
-            wanted.as_ref().map(|text| text.len()),
-            Ok(length),
-            "its length",
-        );
+        let count = wanted.as_ref().map(|text| text.len());
+        same(&rt, count, length, "its length");
         same(&rt, given, wanted, "a wide value");
     }
 }

@@ -1,7 +1,7 @@
 //! Tests of calls that print a whole value: on a formatter, to a writer, and into a buffer.
 use super::asserts::{has_wanted_rows, same};
+use test_rows::put_filled;
 use test_rows::rows::{Table, are_ok};
-use test_rows::rows_of;
 use ufmt::{
     Formatter, debug_into, display_into, pretty_into, write_debug, write_display, write_pretty,
 };
@@ -25,40 +25,28 @@ fn whole_values_print_in_one_call(rt: HostRuntime) {
     same(&rt, (are_ok, text.as_str()), (true, expected), "one call");
 }
 
-// In turn a number by `debug_into`, and a text by `display_into`.
 #[test]
 fn calls_that_print_into_a_buffer_fill_it(rt: HostRuntime) {
     let mut table = Table::new(rt.alloc());
-    for (length, wanted, second) in [
-        (4, "Ok(3) 123.", "Ok(3) 123."),
-        (3, "Ok(3) 123.", "Ok(3) 123."),
-        (2, "Err(Full) ....", "Err(Full) ...."),
-    ] {
-        let mut buffer = [b'.'; 4];
-        let outcome = debug_into(&mut buffer[..length], &123u8);
-        table.put_outcome(outcome, &buffer);
-        table.wants(wanted);
-        let mut buffer = [b'.'; 4];
-        let outcome = display_into(&mut buffer[..length], &"123");
-        table.put_outcome(outcome, &buffer);
-        table.wants(second);
-    }
-    for (length, wanted) in [(3, "Err(Full) \"a...."), (6, "Ok(6) \"a\\\"b\"")] {
-        let mut buffer = [b'.'; 6];
-        let outcome = debug_into(&mut buffer[..length], &"a\"b");
-        table.put_outcome(outcome, &buffer);
-        table.wants(wanted);
-    }
-    for (length, wanted) in rows_of![
-        11 => "Ok(10) [\n    7,\n].";
-        10 => "Ok(10) [\n    7,\n].";
-        9 => "Err(Full) [\n    7,\n..";
-        0 => "Err(Full) ...........";
-    ] {
-        let mut buffer = [b'.'; 11];
-        let outcome = pretty_into(&mut buffer[..length], &[7u8]);
-        table.put_outcome(outcome, &buffer);
-        table.wants(wanted);
-    }
+    put_filled!(table; buffer[4] debug_into(buffer, &123u8);
+        4 => "Ok(3) 123~";
+        3 => "Ok(3) 123~";
+        2 => "Err(Full) ~~~~";
+    );
+    put_filled!(table; buffer[4] display_into(buffer, &"123");
+        4 => "Ok(3) 123~";
+        3 => "Ok(3) 123~";
+        2 => "Err(Full) ~~~~";
+    );
+    put_filled!(table; buffer[6] debug_into(buffer, &"a\"b");
+        3 => "Err(Full) \"a~~~~";
+        6 => "Ok(6) \"a\\\"b\"";
+    );
+    put_filled!(table; buffer[11] pretty_into(buffer, &[7u8]);
+        11 => "Ok(10) [\n    7,\n]~";
+        10 => "Ok(10) [\n    7,\n]~";
+        9 => "Err(Full) [\n    7,\n~~";
+        0 => "Err(Full) ~~~~~~~~~~~";
+    );
     has_wanted_rows(&rt, &table);
 }

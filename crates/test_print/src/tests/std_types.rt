@@ -1,19 +1,20 @@
-//! Tests of the texts of std's shared values, queues, hashed collections, ranges and small types. core::fmt
-//! prints the same texts, but for the order of a hashed collection of several items. `tools/expected/show VALUE` prints them
-//! again.
+//! Tests of std's shared values, queues, hashed collections, ranges, small types and floats. core::fmt prints the same texts,
+//! but for the order of a hashed collection of several items. `tools/expected/show VALUE` prints them again. Pieces of most of
+//! these types are what probe_model prints for rows of tools/data/rows.
 use super::asserts::{has_wanted_rows, same};
 use std::alloc::{AllocError, Global};
 use std::borrow::{Cow, CowSlice, CowStr};
 use std::boxed::{BoxedSlice, BoxedStr};
 use std::cell::{Cell, RefCell};
-use std::cmp::Ordering;
+use std::cmp::{Ordering, Reverse};
 use std::collections::{BinaryHeap, HashMap, HashSet, LinkedList, VecDeque};
-use std::num::Saturating;
+use std::num::{Saturating, Wrapping};
 use std::ops::{Bound, ControlFlow};
 use std::rc::{Rc, RcSlice, RcStr, Weak};
 use std::sync::{Arc, ArcSlice, ArcStr};
+use test_rows::printed::Displayed;
 use test_rows::put_rows;
-use test_rows::rows::{Table, list};
+use test_rows::rows::Table;
 use ufmt::cells::{CellValue, RefCellValue};
 use ufmt::plain_text;
 
@@ -39,7 +40,7 @@ fn what_is_shared_lent_or_borrowed_prints_as_by_core_fmt(rt: HostRuntime) {
         texts_of_made(ArcStr::from_str(rt.alloc(), "\\")) => "\"\\\\\"";
         texts_of_made(BoxedStr::from_str(rt.alloc(), "\0")) => "\"\\0\"";
         texts(&CowSlice::<u8, Global>::Borrowed(&[1, 2])) => "[1, 2]~\n[\n    1,\n    2,\n]";
-        texts_of_made(list(rt.alloc(), &[3u8]).map(|items| CowSlice::Owned(items))) => "[3]~\n[\n    3,\n]";
+        texts_of_made(Vec::from_slice(rt.alloc(), &[3u8]).map(|items| CowSlice::Owned(items))) => "[3]~\n[\n    3,\n]";
         texts_of_made(RcSlice::from_slice(rt.alloc(), &[4u8])) => "[4]~\n[\n    4,\n]";
         texts_of_made(ArcSlice::from_slice(rt.alloc(), &[5u8, 6])) => "[5, 6]~\n[\n    5,\n    6,\n]";
         texts_of_made(BoxedSlice::from_slice(rt.alloc(), &[7u8])) => "[7]~\n[\n    7,\n]";
@@ -52,6 +53,32 @@ fn what_is_shared_lent_or_borrowed_prints_as_by_core_fmt(rt: HostRuntime) {
     put_rows!(table;
         texts_of_made(cell.try_borrow()) => "Some(1)~\nSome(\n    1,\n)";
         texts_of_made(cell.try_borrow_mut()) => "Some(1)~\nSome(\n    1,\n)";
+    );
+    has_wanted_rows(&rt, &table);
+}
+
+#[test]
+fn what_is_held_is_displayed_as_by_core_fmt(rt: HostRuntime) {
+    let mut table = Table::new(rt.alloc());
+    put_rows!(table;
+        pieces_of_made(Rc::new(rt.alloc(), 1u8).map(Displayed)) => "1|";
+        pieces_of_made(Arc::new(rt.alloc(), 'c').map(Displayed)) => "c|";
+        pieces(&Displayed(Cow::Borrowed(&true))) => "true|";
+        pieces(&Displayed(Cow::Owned(2u8))) => "2|";
+        pieces(&Displayed(CowStr::<Global>::Borrowed("a\""))) => "a\"|";
+        pieces_of_made(String::from_str(rt.alloc(), "b\n").map(|text| Displayed(CowStr::Owned(text)))) => "b\n|";
+        pieces_of_made(RcStr::from_str(rt.alloc(), "c").map(Displayed)) => "c|";
+        pieces_of_made(ArcStr::from_str(rt.alloc(), "d").map(Displayed)) => "d|";
+        pieces_of_made(BoxedStr::from_str(rt.alloc(), "é").map(Displayed)) => "é|";
+        pieces(&Displayed(Wrapping(-4i8))) => "-4|";
+        pieces(&Displayed(Saturating(5u8))) => "5|";
+        pieces(&Displayed(-4.5f64)) => "-4.5|";
+        pieces(&Displayed(1e-7f32)) => "0.0000001|";
+    );
+    let cell = RefCell::new(3u8);
+    put_rows!(table;
+        pieces_of_made(cell.try_borrow().map(Displayed)) => "3|";
+        pieces_of_made(cell.try_borrow_mut().map(Displayed)) => "3|";
     );
     has_wanted_rows(&rt, &table);
 }
@@ -111,15 +138,7 @@ fn wrapped(alloc: Global) -> Result<VecDeque<u8>, AllocError> {
     Ok(queue)
 }
 
-fn nested_queue(alloc: Global) -> Result<Option<VecDeque<VecDeque<u8>>>, AllocError> {
-    let mut inner = VecDeque::new(alloc);
-    inner.push_back(1u8)?;
-    let mut queue = VecDeque::new(alloc);
-    queue.push_back(inner)?;
-    Ok(Some(queue))
-}
-
-pub fn linked_list(alloc: Global) -> Result<LinkedList<u8>, AllocError> {
+fn linked_list(alloc: Global) -> Result<LinkedList<u8>, AllocError> {
     let mut list = LinkedList::new(alloc);
     list.push_back(2u8)?;
     list.push_front(1)?;
@@ -136,7 +155,7 @@ fn the_wrapped_queue_is_in_two_slices(rt: HostRuntime) {
     same(&rt, lengths, Ok((2, 2)), "slices");
 }
 
-pub fn hashed_set(alloc: Global, items: &[u8]) -> Result<HashSet<u8>, AllocError> {
+fn hashed_set(alloc: Global, items: &[u8]) -> Result<HashSet<u8>, AllocError> {
     let mut set = HashSet::new(alloc);
     for item in items {
         set.insert(*item)?;
@@ -157,10 +176,10 @@ fn queues_and_hashed_collections_print_as_by_core_fmt(rt: HostRuntime) {
     let mut table = Table::new(rt.alloc());
     put_rows!(table;
         texts_of_made(wrapped(rt.alloc())) => "[3, 4, 5, 6]~\n[\n    3,\n    4,\n    5,\n    6,\n]";
-        texts_of_made(nested_queue(rt.alloc())) => "Some([[1]])~\nSome(\n    [\n        [\n            1,\n        ],\n    ],\n)";
-        texts(&LinkedList::<u8>::new(rt.alloc())) => "[]";
+        texts_of_made(linked_list(rt.alloc())) => "[1, 2]~\n[\n    1,\n    2,\n]";
         texts_of_made(BinaryHeap::from_array(rt.alloc(), [2u8, 3, 1])) => "[3, 2, 1]~\n[\n    3,\n    2,\n    1,\n]";
         texts_of_made(hashed_set(rt.alloc(), &[])) => "{}";
+        texts_of_made(hashed_set(rt.alloc(), &[1])) => "{1}~\n{\n    1,\n}";
         texts_of_made(hashed_map(rt.alloc(), &[])) => "{}";
         texts_of_made(hashed_map(rt.alloc(), &[1])) => "{1: Some(true)}~\n{\n    1: Some(\n        true,\n    ),\n}";
     );
@@ -197,57 +216,54 @@ fn a_hashed_map_prints_in_the_order_of_iteration(rt: HostRuntime) {
 fn ranges_print_as_by_core_fmt(rt: HostRuntime) {
     let mut table = Table::new(rt.alloc());
     put_rows!(table;
-        texts(&(-1i8..=5)) => "-1..=5";
+        pieces(&(-1i8..=5)) => "-1|..=|5|";
         texts(&('a'..'z')) => "'a'..'z'";
         texts(&("a"..="z")) => "\"a\"..=\"z\"";
-        texts(&Some(1u8..5)) => "Some(1..5)~\nSome(\n    1..5,\n)";
+        pieces(&Some(1u8..5)) => "Some|(|1|..|5|)|~\nSome|(|\n|    |1|..|5|,\n|)|";
         texts(&[0usize..2, 2..4]) => "[0..2, 2..4]~\n[\n    0..2,\n    2..4,\n]";
-        texts(&(Some(1u8)..=Some(2))) => "Some(1)..=Some(2)~\nSome(\n    1,\n)..=Some(\n    2,\n)";
-        texts(&(..Some(1u8))) => "..Some(1)~\n..Some(\n    1,\n)";
-        texts(&(..=(1u8, 2u8))) => "..=(1, 2)~\n..=(\n    1,\n    2,\n)";
-        texts(&((1u8,)..)) => "(1,)..~\n(\n    1,\n)..";
+        pieces(&(Some(1u8)..=Some(2))) => "Some|(|1|)|..=|Some|(|2|)|~\nSome|(|\n|    |1|,\n|)|..=|Some|(|\n|    |2|,\n|)|";
+        pieces(&(..Some(1u8))) => "..|Some|(|1|)|~\n..|Some|(|\n|    |1|,\n|)|";
+        pieces(&(..=(1u8, 2u8))) => "..=||(|1|, |2|)|~\n..=||(|\n|    |1|,\n|    |2|,\n|)|";
+        pieces(&((1u8,)..)) => "|(|1|,|)|..|~\n|(|\n|    |1|,\n|)|..|";
+        pieces(&(..)) => "..|";
     );
-    let mut range = 1u8..=2;
+    let (mut range, mut from_back) = (1u8..=2, -1i8..=0);
+    let (mut last, mut backward) = (u8::MAX..=u8::MAX, 5u8..=1);
     range.next();
-    put_rows!(table;
-        texts(&range) => "2..=2";
-    );
+    table.texts(&range);
+    table.wants("2..=2");
     range.next();
-    put_rows!(table;
-        texts(&range) => "2..=2 (exhausted)";
-    );
+    table.pieces(&range);
+    table.wants("2|..=|2| (exhausted)|");
     range.next();
-    put_rows!(table;
-        texts(&range) => "2..=2 (exhausted)";
-    );
-    let mut from_back = -1i8..=0;
     from_back.next_back();
     from_back.next_back();
-    put_rows!(table;
-        texts(&from_back) => "-1..=-1 (exhausted)";
-    );
-    let mut last = u8::MAX..=u8::MAX;
     last.next();
-    put_rows!(table;
-        texts(&Some(last)) => "Some(255..=255 (exhausted))~\nSome(\n    255..=255 (exhausted),\n)";
-    );
-    let mut backward = 5u8..=1;
     backward.next();
     put_rows!(table;
+        texts(&range) => "2..=2 (exhausted)";
+        texts(&from_back) => "-1..=-1 (exhausted)";
+        texts(&Some(last)) => "Some(255..=255 (exhausted))~\nSome(\n    255..=255 (exhausted),\n)";
         texts(&backward) => "5..=1";
     );
     has_wanted_rows(&rt, &table);
 }
 
 #[test]
-fn small_types_print_as_by_core_fmt(rt: HostRuntime) {
+fn small_types_and_floats_print_as_by_core_fmt(rt: HostRuntime) {
     let mut table = Table::new(rt.alloc());
     put_rows!(table;
+        texts(&Reverse(6u8)) => "Reverse(6)~\nReverse(\n    6,\n)";
+        texts(&Wrapping(Some(2u8))) => "Some(2)~\nSome(\n    2,\n)";
         texts(&Saturating(Some(2u8))) => "Some(2)~\nSome(\n    2,\n)";
         texts(&Ordering::Equal) => "Equal";
         texts(&Some(Ordering::Greater)) => "Some(Greater)~\nSome(\n    Greater,\n)";
         texts(&Bound::Excluded(2u8)) => "Excluded(2)~\nExcluded(\n    2,\n)";
         texts(&(Bound::Unbounded::<u8>,)) => "(Unbounded,)~\n(\n    Unbounded,\n)";
+        texts(&Bound::Included(7u8)) => "Included(7)~\nIncluded(\n    7,\n)";
+        texts(&ControlFlow::<u8, u8>::Break(8)) => "Break(8)~\nBreak(\n    8,\n)";
+        texts(&[1e-7, -4.5, f64::NAN]) => "[1e-7, -4.5, NaN]~\n[\n    1e-7,\n    -4.5,\n    NaN,\n]";
+        texts(&Some(f32::INFINITY)) => "Some(inf)~\nSome(\n    inf,\n)";
         texts(&ControlFlow::<u8, bool>::Continue(true)) => "Continue(true)~\nContinue(\n    true,\n)";
     );
     has_wanted_rows(&rt, &table);

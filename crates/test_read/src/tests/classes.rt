@@ -2,14 +2,14 @@
 use super::nested_lists::lists_around;
 use super::same;
 use super::shape::Shape::{self, Leaf, Listed, MapOf, NonExhaustiveOf, StructOf, TupleOf};
-use super::shape::{debug_made, made};
+use super::shape::made;
 use std::alloc::{AllocError, Global};
 use test_rows::rows_of;
-use ufmt_doc::DebugDoc;
+use ufmt_doc::{DebugDoc, Doc};
 
 // Whether it is a token document, and whether it is a debug document.
 fn classes(alloc: Global, shape: &Shape<'_>) -> Result<(bool, bool), AllocError> {
-    let doc = debug_made(alloc, shape)?;
+    let doc: DebugDoc = made(alloc, shape)?;
     Ok((doc.is_token(), doc.is_debug()))
 }
 
@@ -53,7 +53,7 @@ fn names_are_of_a_class(rt: HostRuntime) {
 #[test]
 fn a_document_without_dots_is_of_a_class(rt: HostRuntime) {
     for (leaf, wanted) in [("a", true), ("a b", false), ("\"a\"", true), ("", false)] {
-        let given = made(rt.alloc(), &Leaf(leaf)).map(|doc| doc.is_token());
+        let given = made(rt.alloc(), &Leaf(leaf)).map(|doc: Doc| doc.is_token());
         same(&rt, given, Ok(wanted), leaf);
     }
 }

@@ -9,7 +9,7 @@ use ufmt_doc::doc::{DebugDoc, Doc};
 use ufmt_doc::laws::*;
 use ufmt_doc::{ReadError, StructName, Tree, read_debug, read_plain};
 
-// Texts that come back, each with the class of its document.
+// Texts that come back, each with the class of its document. Those of debug documents don't come back as tokens.
 const TEXTS: [(Class, Mode, &str); 6] = rows_of![
     Class::Token, Mode::Plain => "S { a: [x], b: {} }";
     Class::Token, Mode::Pretty => "S {\n    a: [\n        x,\n    ],\n    b: {},\n}";
@@ -34,13 +34,6 @@ fn texts_come_back(rt: HostRuntime) {
         holds(&rt, is_text(again, text), text);
         let again = text_by_way_of_the_other(alloc, class, mode, text.as_bytes());
         holds(&rt, is_text(again, text), text);
-    }
-}
-
-#[test]
-fn debug_texts_do_not_come_back_as_tokens(rt: HostRuntime) {
-    let alloc = rt.alloc();
-    for (class, mode, text) in TEXTS {
         if matches!(class, Class::Debug) {
             let refused = text_again(alloc, Class::Token, mode, text.as_bytes());
             holds(&rt, matches!(refused, Err(ReadError::NotText)), text);
@@ -62,9 +55,8 @@ fn is_document<N: StructName>(
     }
 }
 
-// Whether a document comes back by its text in this mode.
-fn comes_back(alloc: Global, mode: Mode) -> Result<bool, ReadError> {
-    let plain = "S { a: [x], b: {} }";
+// Whether a token document comes back by its text in this mode.
+fn comes_back(alloc: Global, mode: Mode, plain: &str) -> Result<bool, ReadError> {
     let doc = read_plain(alloc, plain.as_bytes())?;
     let normal = normal_by_way_of_text(alloc, Class::Token, mode, &doc);
     Ok(is_document(alloc, normal, plain))
@@ -81,7 +73,8 @@ fn debug_document_comes_back(alloc: Global, mode: Mode, plain: &str) -> Result<b
 #[test]
 fn documents_come_back(rt: HostRuntime) {
     for mode in [Mode::Plain, Mode::Pretty] {
-        same(&rt, comes_back(rt.alloc(), mode), Ok(true), "a document");
+        let plain = "S { a: [x], b: {} }";
+        same(&rt, comes_back(rt.alloc(), mode, plain), Ok(true), plain);
         for plain in ["(1.5, S)", "S { a: T { .. }, .. }"] {
             let given = debug_document_comes_back(rt.alloc(), mode, plain);
             same(&rt, given, Ok(true), plain);

@@ -41,10 +41,7 @@ const SPELLINGS: [(&str, Option<(u8, usize)>); 12] = [
 #[test]
 fn split_escaped_decodes_a_byte_in_its_one_spelling(rt: HostRuntime) {
     for (inside, wanted) in SPELLINGS {
-        let given = match split_escaped(b'"', inside.as_bytes()) {
-            Some((byte, rest)) => Some((byte, rest.len())),
-            None => None,
-        };
+        let given = split_escaped(b'"', inside.as_bytes()).map(|(byte, rest)| (byte, rest.len()));
         same(&rt, given, wanted, inside);
     }
 }

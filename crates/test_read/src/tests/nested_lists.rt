@@ -1,7 +1,7 @@
 //! Tests of nested lists: how deep a token document is at most, and how long its texts are.
 use super::same;
 use super::shape::Shape::{self, Leaf, Listed};
-use super::shape::tree_made;
+use super::shape::made;
 use std::alloc::{AllocError, Global};
 use ufmt::{plain_text, pretty_text};
 use ufmt_doc::{Doc, StructName, Tree};
@@ -12,7 +12,7 @@ pub fn lists_around<N: StructName>(
     count: usize,
     inner: &Shape<'_>,
 ) -> Result<Tree<N>, AllocError> {
-    let mut doc = tree_made(alloc, inner)?;
+    let mut doc = made(alloc, inner)?;
     for _ in 0..count {
         let mut entries = Vec::new(alloc);
         entries.push(doc)?;

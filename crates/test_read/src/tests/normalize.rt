@@ -23,13 +23,11 @@ fn is_leaf_and_map(doc: &Doc) -> bool {
 // Whether a document is that tuple, and has its text: before the call, after it, and after a second
 // call.
 fn states(alloc: Global) -> Result<[(bool, bool); 3], AllocError> {
-    let mut doc = made(alloc, &TupleOf("", &[StructOf("A", &[]), SetOf(&[])]))?;
+    let mut doc: Doc = made(alloc, &TupleOf("", &[StructOf("A", &[]), SetOf(&[])]))?;
     let mut states = [(false, false); 3];
     for state in &mut states {
-        *state = (
-            is_leaf_and_map(&doc),
-            plain_text(alloc, &doc)?.as_str() == "(A, {})",
-        );
+        let has_text = plain_text(alloc, &doc)?.as_str() == "(A, {})";
+        *state = (is_leaf_and_map(&doc), has_text);
         doc.normalize(alloc);
     }
     Ok(states)

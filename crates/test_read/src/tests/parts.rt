@@ -18,12 +18,7 @@ fn name_lengths(alloc: Global, line: &[u8]) -> Result<Vec<usize>, ReadError> {
 #[test]
 fn field_names_of_a_read_document_are_collected(rt: HostRuntime) -> Result<(), ReadError> {
     let lengths = name_lengths(rt.alloc(), b"P { x: 1, why: 2 }")?;
-    same(
-        &rt,
-        lengths.as_slice() == [1, 3].as_slice(),
-        true,
-        "field names",
-    );
+    same(&rt, lengths.as_slice(), [1, 3].as_slice(), "names");
     Ok(())
 }
 

@@ -6,74 +6,42 @@ use super::shape::made;
 use std::alloc::{AllocError, Global};
 use test_rows::piece_rows::pieces_of;
 use test_rows::printed::{Left, print_to};
+use test_rows::rows_of;
 use test_rows::writers::FailAt;
 use ufmt::Full;
 use ufmt_doc::doc::Doc;
 
-// The document's pieces in plain mode, and after a tilde those in pretty mode, if each refusal leaves what it should.
-fn pieces_of_made(alloc: Global, shape: &Shape<'_>) -> Result<String, AllocError> {
-    pieces_of(alloc, &made(alloc, shape)?)
-}
-
-// Empty leaves and names are pieces too.
-const EMPTY_TEXTS: Shape<'static> = StructOf(
-    "",
-    &[
-        ("", Leaf("")),
-        ("", MapOf(&[(Leaf(""), Leaf(""))])),
-        ("", TupleOf("", &[Leaf(""), Leaf("x")])),
-    ],
-);
-
-const PIECES_OF_EMPTY_TEXTS: &str = "\
-| {| ||: ||, ||: |{||: ||}|, ||: ||(||, |x|)| |}|~\n\
-| {|\n|    ||: ||,\n\
-|    ||: |{|\n|    |    ||: ||,\n|    |}|,\n\
-|    ||: ||(|\n|    |    ||,\n|    |    |x|,\n|    |)|,\n|}|";
-
-// Blocks without entries.
-const EMPTY_BLOCKS: Shape<'static> = Listed(&[
-    Listed(&[]),
-    SetOf(&[]),
-    MapOf(&[]),
-    StructOf("S", &[]),
-    TupleOf("T", &[]),
-    TupleOf("", &[]),
-]);
-
-const PIECES_OF_EMPTY_BLOCKS: &str = "\
-[|[|]|, |{|}|, |{|}|, |S|, |T|, ||]|~\n\
-[|\n|    |[|]|,\n|    |{|}|,\n|    |{|}|,\n|    |S|,\n|    |T|,\n|    ||,\n|]|";
-
-// A block of each kind, whose leaves have two bytes.
-const BLOCKS: Shape<'static> = StructOf(
-    "S",
-    &[
-        ("a", Listed(&[Leaf("xy")])),
-        ("b", SetOf(&[Leaf("yy")])),
-        ("c", MapOf(&[(Leaf("kk"), Leaf("vv"))])),
-        ("d", TupleOf("T", &[Leaf("zz")])),
-        ("e", TupleOf("", &[Leaf("ww")])),
-    ],
-);
-
-const PIECES_OF_BLOCKS: &str = "\
+// Documents with their pieces in plain mode, and after a tilde those in pretty mode. Empty leaves and names are pieces too.
+const DOCUMENTS: [(Shape<'static>, &str); 5] = rows_of![
+    Leaf("a leaf") => "a leaf|";
+    Leaf("") => "|";
+    StructOf("S", &[("a", Listed(&[Leaf("xy")])), ("b", SetOf(&[Leaf("yy")])), ("c", MapOf(&[(Leaf("kk"), Leaf("vv"))])),
+        ("d", TupleOf("T", &[Leaf("zz")])), ("e", TupleOf("", &[Leaf("ww")]))]) => "\
 S| {| |a|: |[|xy|]|, |b|: |{|yy|}|, |c|: |{|kk|: |vv|}|, |d|: |T|(|zz|)|, |e|: ||(|ww|,|)| |}|~\n\
 S| {|\n|    |a|: |[|\n|    |    |xy|,\n|    |]|,\n\
 |    |b|: |{|\n|    |    |yy|,\n|    |}|,\n\
 |    |c|: |{|\n|    |    |kk|: |vv|,\n|    |}|,\n\
 |    |d|: |T|(|\n|    |    |zz|,\n|    |)|,\n\
 |    |e|: ||(|\n|    |    |ww|,\n|    |)|,\n|}|";
+    StructOf("", &[("", Leaf("")), ("", MapOf(&[(Leaf(""), Leaf(""))])), ("", TupleOf("", &[Leaf(""), Leaf("x")]))]) => "\
+| {| ||: ||, ||: |{||: ||}|, ||: ||(||, |x|)| |}|~\n\
+| {|\n|    ||: ||,\n\
+|    ||: |{|\n|    |    ||: ||,\n|    |}|,\n\
+|    ||: ||(|\n|    |    ||,\n|    |    |x|,\n|    |)|,\n|}|";
+    Listed(&[Listed(&[]), SetOf(&[]), MapOf(&[]), StructOf("S", &[]), TupleOf("T", &[]), TupleOf("", &[])]) => "\
+[|[|]|, |{|}|, |{|}|, |S|, |T|, ||]|~\n\
+[|\n|    |[|]|,\n|    |{|}|,\n|    |{|}|,\n|    |S|,\n|    |T|,\n|    ||,\n|]|";
+];
 
+fn pieces_of_made(alloc: Global, shape: &Shape<'_>) -> Result<String, AllocError> {
+    let doc: Doc = made(alloc, shape)?;
+    pieces_of(alloc, &doc)
+}
+
+// Each refusal of a piece leaves what it should.
 #[test]
 fn documents_are_written_piece_by_piece(rt: HostRuntime) {
-    for (shape, wanted) in [
-        (Leaf("a leaf"), "a leaf|"),
-        (Leaf(""), "|"),
-        (BLOCKS, PIECES_OF_BLOCKS),
-        (EMPTY_TEXTS, PIECES_OF_EMPTY_TEXTS),
-        (EMPTY_BLOCKS, PIECES_OF_EMPTY_BLOCKS),
-    ] {
+    for (shape, wanted) in DOCUMENTS {
         let pieces = pieces_of_made(rt.alloc(), &shape);
         same(&rt, pieces.as_deref().ok(), Some(wanted), "pieces");
     }

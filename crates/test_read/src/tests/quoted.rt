@@ -23,11 +23,9 @@ fn made_and_unquoted(alloc: Global, text: &str) -> Result<(bool, bool), AllocErr
     let character = text.chars().next().unwrap_or('x');
     let of_text = Doc::text(alloc, text)?.unquoted(alloc)?;
     let of_character = Doc::character(alloc, character)?.unquoted(alloc)?;
-    let is_text = of_text.as_deref() == Some(text);
-    Ok((
-        is_text,
-        of_character.as_deref() == text.get(..character.len_utf8()),
-    ))
+    let front = text.get(..character.len_utf8());
+    let is_character = of_character.as_deref() == front;
+    Ok((of_text.as_deref() == Some(text), is_character))
 }
 
 #[test]

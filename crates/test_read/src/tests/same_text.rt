@@ -1,29 +1,30 @@
 //! Tests of `same_text`.
 use super::same;
 use super::shape::Shape::{self, Leaf, Listed, MapOf, NonExhaustiveOf, SetOf, StructOf, TupleOf};
-use super::shape::{debug_made, made};
+use super::shape::made;
 use std::alloc::{AllocError, Global};
 use test_rows::rows_of;
 use ufmt::layout::Mode;
 use ufmt_doc::doc::{DebugDoc, Doc, same_text};
 use ufmt_doc::{ReadError, read_debug};
 
-// What `same_text` returns, if both are token documents.
-fn same_text_of_tokens(a: &Doc, b: &Doc) -> Option<bool> {
-    if a.is_token() && b.is_token() {
-        Some(same_text(a, b))
-    } else {
-        None
-    }
+// Whether both are token documents, and whether they have one normal form.
+fn compared(alloc: Global, a: &Shape<'_>, b: &Shape<'_>) -> Result<(bool, bool), AllocError> {
+    let (a, b): (Doc, Doc) = (made(alloc, a)?, made(alloc, b)?);
+    Ok((a.is_token() && b.is_token(), same_text(&a, &b)))
 }
 
-fn same_text_of_made(
+// Whether both are debug documents, and whether they have one normal form.
+fn are_same_debug(a: &DebugDoc, b: &DebugDoc) -> (bool, bool) {
+    (a.is_debug() && b.is_debug(), same_text(a, b))
+}
+
+fn compared_as_debug(
     alloc: Global,
     a: &Shape<'_>,
     b: &Shape<'_>,
-) -> Result<Option<bool>, AllocError> {
-    let (a, b) = (made(alloc, a)?, made(alloc, b)?);
-    Ok(same_text_of_tokens(&a, &b))
+) -> Result<(bool, bool), AllocError> {
+    Ok(are_same_debug(&made(alloc, a)?, &made(alloc, b)?))
 }
 
 // Two documents, and whether they have one text.
@@ -39,8 +40,8 @@ const MADE: [(&str, Shape<'static>, Shape<'static>, bool); 6] = rows_of![
 #[test]
 fn same_text_is_true_of_documents_with_one_text(rt: HostRuntime) {
     for (case, a, b, is_same) in MADE {
-        let given = same_text_of_made(rt.alloc(), &a, &b);
-        same(&rt, given, Ok(Some(is_same)), case);
+        let given = compared(rt.alloc(), &a, &b);
+        same(&rt, given, Ok((true, is_same)), case);
     }
 }
 
@@ -56,20 +57,8 @@ const OTHERS: [(&str, Shape<'static>, Shape<'static>, bool); 5] = rows_of![
 #[test]
 fn same_text_of_other_documents_is_true_if_they_have_one_normal_form(rt: HostRuntime) {
     for (case, a, b, is_same) in OTHERS {
-        let given = match (made(rt.alloc(), &a), made(rt.alloc(), &b)) {
-            (Ok(a), Ok(b)) => Some((a.is_token() && b.is_token(), same_text(&a, &b))),
-            _ => None,
-        };
-        same(&rt, given, Some((false, is_same)), case);
-    }
-}
-
-// What `same_text` returns, if both are debug documents.
-fn same_text_of_debug(a: &DebugDoc, b: &DebugDoc) -> Option<bool> {
-    if a.is_debug() && b.is_debug() {
-        Some(same_text(a, b))
-    } else {
-        None
+        let given = compared(rt.alloc(), &a, &b);
+        same(&rt, given, Ok((false, is_same)), case);
     }
 }
 
@@ -92,70 +81,27 @@ const MADE_AS_DEBUG: [(&str, Shape<'static>, Shape<'static>, bool); 15] = rows_o
     "a tuple and dots", TupleOf("S", &[]), NonExhaustiveOf("S", &[]) => false;
 ];
 
-fn same_text_of_made_as_debug(
-    alloc: Global,
-    a: &Shape<'_>,
-    b: &Shape<'_>,
-) -> Result<Option<bool>, AllocError> {
-    let (a, b) = (debug_made(alloc, a)?, debug_made(alloc, b)?);
-    Ok(same_text_of_debug(&a, &b))
-}
-
 #[test]
 fn same_text_is_true_of_debug_documents_with_one_text(rt: HostRuntime) {
     for (case, a, b, is_same) in MADE_AS_DEBUG {
-        let given = same_text_of_made_as_debug(rt.alloc(), &a, &b);
-        same(&rt, given, Ok(Some(is_same)), case);
+        let given = compared_as_debug(rt.alloc(), &a, &b);
+        same(&rt, given, Ok((true, is_same)), case);
     }
 }
 
-// Texts of documents.
-const READ_AS_DEBUG: [&str; 37] = [
-    "x",
-    "[]",
-    "{}",
-    "[x]",
-    "[x, y]",
-    "[y, x]",
-    "[[x], y]",
-    "{x}",
-    "{x: y}",
-    "{x: y, y: x}",
-    "(x,)",
-    "(x, y)",
-    "n(x)",
-    "S { a: x }",
-    "S { b: x }",
-    "S { a: x, b: y }",
-    "1.5",
-    "1.50",
-    "0..5",
-    "\"x\"",
-    "b\"x\"",
-    "'x'",
-    "'w'..='x'",
-    "[1.5]",
-    "{1.5}",
-    "{1.5: ::1}",
-    "{::1: 1.5}",
-    "{::1:1.5}",
-    "(1.5,)",
-    "a::B(1.5)",
-    "a::B { c: 1.5 }",
-    "a::B { c:d: 1.5 }",
-    "a::B { .. }",
-    "a::B { c: 1.5, .. }",
-    "a::B { c: 1.5, c: 1.5, .. }",
-    "a::B { c: a::B { .. }, .. }",
-    "[a::B { .. }]",
-];
+// Texts of documents, with a bar between each two.
+const READ_AS_DEBUG: &str = "\
+x|[]|{}|[x]|[x, y]|[y, x]|[[x], y]|{x}|{x: y}|{x: y, y: x}|(x,)|(x, y)|n(x)|S { a: x }|S { b: x }|S { a: x, b: y }\
+|1.5|1.50|0..5|\"x\"|b\"x\"|'x'|'w'..='x'|[1.5]|{1.5}|{1.5: ::1}|{::1: 1.5}|{::1:1.5}|(1.5,)|a::B(1.5)\
+|a::B { c: 1.5 }|a::B { c:d: 1.5 }|a::B { .. }|a::B { c: 1.5, .. }|a::B { c: 1.5, c: 1.5, .. }\
+|a::B { c: a::B { .. }, .. }|[a::B { .. }]";
 
 // Whether the document of this text has the same text as only one of `READ_AS_DEBUG`, its own.
 fn has_only_its_own_debug_text(alloc: Global, text: &str) -> Result<bool, ReadError> {
     let doc = read_debug(alloc, Mode::Plain, text.as_bytes())?;
-    for other in READ_AS_DEBUG {
+    for other in READ_AS_DEBUG.split('|') {
         let other_doc = read_debug(alloc, Mode::Plain, other.as_bytes())?;
-        if same_text_of_debug(&doc, &other_doc) != Some(text == other) {
+        if are_same_debug(&doc, &other_doc) != (true, text == other) {
             return Ok(false);
         }
     }
@@ -164,7 +110,7 @@ fn has_only_its_own_debug_text(alloc: Global, text: &str) -> Result<bool, ReadEr
 
 #[test]
 fn same_text_is_true_of_read_debug_documents_if_their_texts_are_equal(rt: HostRuntime) {
-    for text in READ_AS_DEBUG {
+    for text in READ_AS_DEBUG.split('|') {
         let is_own = has_only_its_own_debug_text(rt.alloc(), text);
         same(&rt, is_own, Ok(true), text);
     }

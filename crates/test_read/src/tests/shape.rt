@@ -1,6 +1,6 @@
 //! Shapes of documents, which rows of a table have. They take no memory.
 use std::alloc::{AllocError, Global};
-use ufmt_doc::{DebugDoc, Doc, StructName, Tree};
+use ufmt_doc::{StructName, Tree};
 
 /// The constructors of `Doc`, over slices, and a struct that ends in dots.
 #[derive(Clone, Copy)]
@@ -14,19 +14,9 @@ pub enum Shape<'a> {
     TupleOf(&'a str, &'a [Shape<'a>]),
 }
 
-/// Makes the document of a shape in which no struct ends in dots.
-pub fn made(alloc: Global, shape: &Shape<'_>) -> Result<Doc, AllocError> {
-    tree_made(alloc, shape)
-}
-
-/// Makes the debug document of any shape.
-pub fn debug_made(alloc: Global, shape: &Shape<'_>) -> Result<DebugDoc, AllocError> {
-    tree_made(alloc, shape)
-}
-
 /// Makes the document of a shape. Fails also at a struct that ends in dots, if no name says so.
 #[cycle(making)]
-pub fn tree_made<N: StructName>(alloc: Global, shape: &Shape<'_>) -> Result<Tree<N>, AllocError> {
+pub fn made<N: StructName>(alloc: Global, shape: &Shape<'_>) -> Result<Tree<N>, AllocError> {
     match shape {
         Shape::Leaf(name) => Ok(Tree::Leaf(String::from_str(alloc, name)?)),
         Shape::Listed(entries) => Ok(Tree::Listed(all_made(alloc, entries)?)),
@@ -66,7 +56,7 @@ fn all_made<N: StructName>(
 ) -> Result<Vec<Tree<N>>, AllocError> {
     let mut list = Vec::new(alloc);
     for shape in shapes {
-        list.push(tree_made(alloc, shape)?)?;
+        list.push(made(alloc, shape)?)?;
     }
     Ok(list)
 }
@@ -78,7 +68,7 @@ fn pairs_made<N: StructName>(
 ) -> Result<Vec<(Tree<N>, Tree<N>)>, AllocError> {
     let mut pairs = Vec::new(alloc);
     for (key, value) in shapes {
-        pairs.push((tree_made(alloc, key)?, tree_made(alloc, value)?))?;
+        pairs.push((made(alloc, key)?, made(alloc, value)?))?;
     }
     Ok(pairs)
 }
@@ -90,7 +80,7 @@ fn fields_made<N: StructName>(
 ) -> Result<Vec<(String, Tree<N>)>, AllocError> {
     let mut fields = Vec::new(alloc);
     for (name, value) in shapes {
-        fields.push((String::from_str(alloc, name)?, tree_made(alloc, value)?))?;
+        fields.push((String::from_str(alloc, name)?, made(alloc, value)?))?;
     }
     Ok(fields)
 }

@@ -49,10 +49,8 @@ fn conversions_fail_with_full_only_if_the_buffer_is_too_short(rt: HostRuntime) {
     let plain = "{a: [\"b\", ()], N: {}, (c,): {d, e}}";
     let pretty =
         "{\n    a: [\n        \"b\",\n        (),\n    ],\n    N: {},\n    (\n        c,\n    ): {\n        d,\n        e,\n    },\n}";
-    let (dotted, dotted_pretty) = (
-        "S { a: (1.5,), .. }",
-        "S {\n    a: (\n        1.5,\n    ),\n    ..\n}",
-    );
+    let dotted = "S { a: (1.5,), .. }";
+    let dotted_pretty = "S {\n    a: (\n        1.5,\n    ),\n    ..\n}";
     let rows = [
         (Class::Token, Mode::Pretty, plain, pretty),
         (Class::Token, Mode::Plain, pretty, plain),
@@ -82,10 +80,8 @@ fn is_at_front(to: Mode, text: &str, is_text: bool, front: &str) -> bool {
 
 #[test]
 fn conversions_into_a_buffer_write_at_its_front(rt: HostRuntime) {
-    let (plain, pretty) = (
-        "S { a: [1, ()] }",
-        "S {\n    a: [\n        1,\n        (),\n    ],\n}",
-    );
+    let plain = "S { a: [1, ()] }";
+    let pretty = "S {\n    a: [\n        1,\n        (),\n    ],\n}";
     let rows = [
         (Mode::Pretty, plain, true, pretty),
         (Mode::Plain, pretty, true, plain),

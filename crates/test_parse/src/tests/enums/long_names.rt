@@ -5,7 +5,7 @@ ghost use Rattle.test_parse.specs.declared.tests.enums.long_names.Link.TheVarian
 ghost use Rattle.ufmt_parse.specs.Values.{is_i16, is_u8, is_u32, is_u64};
 
 use crate::tests::{first_other, same};
-use ufmt::{Formatter, fields, uDebug, uWrite};
+use ufmt::{Formatter, uDebug, uWrite, variants};
 use ufmt_parse::{Fault, ParseMode, Parser, parse, parse_variants, uParse};
 
 /// What became of a device.
@@ -28,29 +28,11 @@ impl uDebug for Link {
     ] };
 
     fn fmt<W: uWrite>(&self, f: &mut Formatter<W>) -> Result<(), W::Error> {
-        match self {
-            Link::Up => fields!(f, Up),
-            Link::Disconnected => fields!(f, Disconnected),
-            Link::Interrupted(line) => fields!(f, Interrupted(line)),
-            Link::Reconfigured {
-                temperature,
-                channel,
-            } => fields!(
-                f,
-                Reconfigured {
-                    temperature,
-                    channel
-                }
-            ),
-            Link::AwaitingCalibrationOfSensor {
-                seconds_since_the_last_value,
-            } => fields!(
-                f,
-                AwaitingCalibrationOfSensor {
-                    seconds_since_the_last_value
-                }
-            ),
-        }
+        variants!(
+            f,
+            self,
+            Link { Up, Disconnected, Interrupted(line), Reconfigured { temperature, channel }, AwaitingCalibrationOfSensor { seconds_since_the_last_value } }
+        )
     }
 }
 
@@ -97,25 +79,18 @@ impl<A: Copy> uParse<A> for Link {
 
 #[test]
 fn long_names_are_parsed(rt: HostRuntime) {
-    let rows = [
-        ("Up", ""),
-        ("Disconnected", ""),
-        ("Interrupted(4294967295)", ""),
-        ("Reconfigured { temperature: -40, channel: 7 }", ""),
-        (
-            "AwaitingCalibrationOfSensor { seconds_since_the_last_value: 18446744073709551615 }",
-            "",
-        ),
-        ("Disconnecte", "0 Name"),
-        ("Disconnectedd", "0 Name"),
-        ("Interrupted(4294967296)", "12 Number"),
-        ("Reconfigured { temperatuer: -40 }", "15 Name"),
-        (
-            "AwaitingCalibrationOfSensor { seconds_since_the_last_valeu: 1 }",
-            "30 Name",
-        ),
-    ];
-    same(&rt, first_other::<Link>(rt.alloc(), &rows), None, "by rows");
+    all_stop!(rt, Link;
+        "Up" => "";
+        "Disconnected" => "";
+        "Interrupted(4294967295)" => "";
+        "Reconfigured { temperature: -40, channel: 7 }" => "";
+        "AwaitingCalibrationOfSensor { seconds_since_the_last_value: 18446744073709551615 }" => "";
+        "Disconnecte" => "0 Name";
+        "Disconnectedd" => "0 Name";
+        "Interrupted(4294967296)" => "12 Number";
+        "Reconfigured { temperatuer: -40 }" => "15 Name";
+        "AwaitingCalibrationOfSensor { seconds_since_the_last_valeu: 1 }" => "30 Name";
+    );
     let link = parse((), b"Reconfigured { temperature: -40, channel: 7 }");
     let wanted = Link::Reconfigured {
         temperature: -40,

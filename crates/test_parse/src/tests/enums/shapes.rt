@@ -8,7 +8,7 @@ ghost use Rattle.test_parse.specs.declared.tests.enums.shapes.Eight.TheVariants.
 
 use crate::tests::{first_other, same};
 use std::alloc::Global;
-use ufmt::{Formatter, fields, uDebug, uWrite};
+use ufmt::{Formatter, fields, uDebug, uWrite, variants};
 use ufmt_parse::{Fault, ParseMode, Parser, parse, parse_fields, parse_variants, uParse};
 
 /// Variants of each shape.
@@ -27,11 +27,7 @@ impl uDebug for Event {
     ] };
 
     fn fmt<W: uWrite>(&self, f: &mut Formatter<W>) -> Result<(), W::Error> {
-        match self {
-            Event::Started => fields!(f, Started),
-            Event::Said(node, text) => fields!(f, Said(node, text)),
-            Event::Lost { since, peers } => fields!(f, Lost { since, peers }),
-        }
+        variants!(f, self, Event { Started, Said(node, text), Lost { since, peers } })
     }
 }
 
@@ -123,16 +119,11 @@ impl<T: uDebug> uDebug for Eight<T> {
     ] };
 
     fn fmt<W: uWrite>(&self, f: &mut Formatter<W>) -> Result<(), W::Error> {
-        match self {
-            Eight::First => fields!(f, First),
-            Eight::Second(a) => fields!(f, Second(a)),
-            Eight::Third(a, b) => fields!(f, Third(a, b)),
-            Eight::Fourth() => fields!(f, Fourth()),
-            Eight::Fifth { channel, level } => fields!(f, Fifth { channel, level }),
-            Eight::Sixth(a) => fields!(f, Sixth(a)),
-            Eight::Seventh { value } => fields!(f, Seventh { value }),
-            Eight::Eighth {} => fields!(f, Eighth {}),
-        }
+        variants!(
+            f,
+            self,
+            Eight { First, Second(a), Third(a, b), Fourth(), Fifth { channel, level }, Sixth(a), Seventh { value }, Eighth {} }
+        )
     }
 }
 
@@ -226,29 +217,23 @@ impl<A: Copy> uParse<A> for Marker {
 
 #[test]
 fn variants_of_each_shape_are_parsed(rt: HostRuntime) {
-    let rows = [
-        ("First", ""),
-        ("Second(7)", ""),
-        ("Third(255, true)", ""),
-        ("Fourth", ""),
-        ("Fifth { channel: 3, level: false }", ""),
-        ("Sixth(true)", ""),
-        ("Seventh { value: true }", ""),
-        ("Eighth", ""),
-        ("Ninth", "0 Name"),
-        ("first", "0 Name"),
-        ("First()", "0 Name"),
-        ("Fourth()", "0 Name"),
-        ("Second", "6 Punctuation"),
-        ("Second(256)", "7 Number"),
-        ("Third(1, 1)", "9 Name"),
-        ("Fifth { level: false, channel: 3 }", "8 Name"),
-    ];
-    same(
-        &rt,
-        first_other::<Eight<bool>>(rt.alloc(), &rows),
-        None,
-        "by rows",
+    all_stop!(rt, Eight<bool>;
+        "First" => "";
+        "Second(7)" => "";
+        "Third(255, true)" => "";
+        "Fourth" => "";
+        "Fifth { channel: 3, level: false }" => "";
+        "Sixth(true)" => "";
+        "Seventh { value: true }" => "";
+        "Eighth" => "";
+        "Ninth" => "0 Name";
+        "first" => "0 Name";
+        "First()" => "0 Name";
+        "Fourth()" => "0 Name";
+        "Second" => "6 Punctuation";
+        "Second(256)" => "7 Number";
+        "Third(1, 1)" => "9 Name";
+        "Fifth { level: false, channel: 3 }" => "8 Name";
     );
     let fifth = Eight::Fifth {
         channel: 3,
@@ -260,53 +245,32 @@ fn variants_of_each_shape_are_parsed(rt: HostRuntime) {
 
 #[test]
 fn names_are_compared_whole(rt: HostRuntime) {
-    let rows = [
-        ("A", ""),
-        ("AB(7, None)", ""),
-        ("AB(255, Some(true))", ""),
-        ("ABC { on: true, level: 0, text: \"AB\" }", ""),
-        ("ABCD", "0 Name"),
-        ("A-B", "0 Name"),
-        ("A:B", "0 Name"),
-        ("AB", "2 Punctuation"),
-        ("AB { on: true }", "2 Punctuation"),
-        ("ABC(7, None)", "3 Punctuation"),
-        ("A(7)", "1 End"),
-        ("A ", "1 End"),
-        ("A: ", "1 End"),
-        ("", "0 Name"),
-    ];
-    same(
-        &rt,
-        first_other::<Signal>(rt.alloc(), &rows),
-        None,
-        "by rows",
+    all_stop!(rt, Signal;
+        "A" => "";
+        "AB(7, None)" => "";
+        "AB(255, Some(true))" => "";
+        "ABC { on: true, level: 0, text: \"AB\" }" => "";
+        "ABCD" => "0 Name";
+        "A-B" => "0 Name";
+        "A:B" => "0 Name";
+        "AB" => "2 Punctuation";
+        "AB { on: true }" => "2 Punctuation";
+        "ABC(7, None)" => "3 Punctuation";
+        "A(7)" => "1 End";
+        "A " => "1 End";
+        "A: " => "1 End";
+        "" => "0 Name";
     );
 }
 
 #[test]
 fn enums_are_parsed_in_other_values(rt: HostRuntime) {
-    let alloc = rt.alloc();
-    let rows = [
-        (
-            "Report { node: 9, last: Lost { since: true, peers: false } }",
-            "",
-        ),
-        ("Report { node: 9, last: Los }", "24 Name"),
-    ];
-    same(&rt, first_other::<Report>(alloc, &rows), None, "a struct");
-    let rows = [("[Started, Said(true, false)]", ""), ("[]", "")];
-    same(&rt, first_other::<Vec<Event>>(alloc, &rows), None, "a list");
-    let rows = [("Some(Started)", ""), ("None", "")];
-    same(
-        &rt,
-        first_other::<Option<Event>>(alloc, &rows),
-        None,
-        "some",
+    all_stop!(rt, Report;
+        "Report { node: 9, last: Lost { since: true, peers: false } }" => "";
+        "Report { node: 9, last: Los }" => "24 Name";
     );
-    let rows = [("Marker", ""), ("Marker {}", "6 End")];
-    same(&rt, first_other::<Marker>(alloc, &rows), None, "no fields");
-    let rows = [("Err(Started)", ""), ("Ok(1)", ""), ("Okay(1)", "0 Name")];
-    let other = first_other::<Result<u8, Event>>(alloc, &rows);
-    same(&rt, other, None, "a result");
+    all_stop!(rt, Vec<Event>; "[Started, Said(true, false)]" => ""; "[]" => "";);
+    all_stop!(rt, Option<Event>; "Some(Started)" => ""; "None" => "";);
+    all_stop!(rt, Marker; "Marker" => ""; "Marker {}" => "6 End";);
+    all_stop!(rt, Result<u8, Event>; "Err(Started)" => ""; "Ok(1)" => ""; "Okay(1)" => "0 Name";);
 }

@@ -6,7 +6,7 @@ ghost use Rattle.ufmt_parse.specs.Values.{is_i16, is_u8};
 
 use crate::tests::{first_other, same};
 use example_parse::Set;
-use ufmt::{Formatter, fields, uDebug, uWrite};
+use ufmt::{Formatter, uDebug, uWrite, variants};
 use ufmt_parse::ParseError::NotText;
 use ufmt_parse::{Expected, Fault, ParseMode, Parser, parse_pretty, parse_variants, uParse};
 
@@ -36,26 +36,11 @@ impl uDebug for Order {
     ] };
 
     fn fmt<W: uWrite>(&self, f: &mut Formatter<W>) -> Result<(), W::Error> {
-        match self {
-            Order::Halt => fields!(f, Halt),
-            Order::Apply { set } => fields!(f, Apply { set }),
-            Order::Hold(set, locked) => fields!(f, Hold(set, locked)),
-            Order::CrossFadeBetween {
-                starting_point,
-                end_point,
-                repeated,
-            } => {
-                fields!(
-                    f,
-                    CrossFadeBetween {
-                        starting_point,
-                        end_point,
-                        repeated
-                    }
-                )
-            }
-            Order::Pulse(count, pause, level) => fields!(f, Pulse(count, pause, level)),
-        }
+        variants!(
+            f,
+            self,
+            Order { Halt, Apply { set }, Hold(set, locked), CrossFadeBetween { starting_point, end_point, repeated }, Pulse(count, pause, level) }
+        )
     }
 }
 
@@ -102,26 +87,20 @@ impl<A: Copy> uParse<A> for Order {
 fn structs_in_variants_are_parsed(rt: HostRuntime) {
     let fading =
         "CrossFadeBetween { starting_point: Set { channel: 0, level: -32768 }, end_point: Set { channel: 255, level: 32767 }, repeated: true }";
-    let rows = [
-        ("Halt", ""),
-        ("Apply { set: Set { channel: 0, level: -32768 } }", ""),
-        ("Hold(Set { channel: 255, level: 32767 }, false)", ""),
-        (fading, ""),
-        ("Pulse(3, None, -1)", ""),
-        ("Pulse(0, Some(255), 0)", ""),
-        ("Apply { set: Set { channel: 256, level: 0 } }", "28 Number"),
-        ("Apply(Set { channel: 1, level: 2 })", "5 Punctuation"),
-        ("Apply { set: Halt }", "13 Name"),
-        ("Hold(Set { channel: 1, level: 2 }, maybe)", "35 Name"),
-        ("Hold(Set { channel: 1, level: 2 })", "33 Punctuation"),
-        ("Pulse(3, Some(256), -1)", "14 Number"),
-        ("Pulsed(3, None, -1)", "0 Name"),
-    ];
-    same(
-        &rt,
-        first_other::<Order>(rt.alloc(), &rows),
-        None,
-        "by rows",
+    all_stop!(rt, Order;
+        "Halt" => "";
+        "Apply { set: Set { channel: 0, level: -32768 } }" => "";
+        "Hold(Set { channel: 255, level: 32767 }, false)" => "";
+        fading => "";
+        "Pulse(3, None, -1)" => "";
+        "Pulse(0, Some(255), 0)" => "";
+        "Apply { set: Set { channel: 256, level: 0 } }" => "28 Number";
+        "Apply(Set { channel: 1, level: 2 })" => "5 Punctuation";
+        "Apply { set: Halt }" => "13 Name";
+        "Hold(Set { channel: 1, level: 2 }, maybe)" => "35 Name";
+        "Hold(Set { channel: 1, level: 2 })" => "33 Punctuation";
+        "Pulse(3, Some(256), -1)" => "14 Number";
+        "Pulsed(3, None, -1)" => "0 Name";
     );
     let high = Set {
         channel: 255,

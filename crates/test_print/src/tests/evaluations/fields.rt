@@ -43,129 +43,88 @@ macro_rules! unnamed {
     };
 }
 
+type Text = Formatter<String>;
+
+type Outcome = Result<(), AllocError>;
+
 /// A form's result, and what is wanted of its row: its turns and the text that it prints.
-type Evaluated = (Result<(), AllocError>, &'static str);
+type Evaluated = (Outcome, &'static str);
 
 // Forms with no field, with one and with two.
-fn print_few(number: usize, f: &mut Formatter<String>, turns: &mut Turns) -> Evaluated {
+fn print_few(number: usize, f: &mut Text, turns: &mut Turns) -> Evaluated {
     let (a, b) = (1u8, 2u8);
-    match number {
-        0 => (fields!(turns.formatter(f), S), "F=S"),
-        1 => (fields!(turns.formatter(f), S {}), "F=S"),
-        2 => (fields!(turns.formatter(f), S()), "F=S"),
-        3 => (named!(f, turns; a 1), "Fa=S { a: 1 }"),
-        4 => (unnamed!(f, turns; 1), "Fa=S(1)"),
-        5 => (named!(f, turns; a 1 b 2), "Fab=S { a: 1, b: 2 }"),
-        6 => (unnamed!(f, turns; 1 2), "Fab=S(1, 2)"),
-        _ => (
-            fields!(turns.formatter(f), S { a, b }),
-            "F=S { a: 1, b: 2 }",
-        ),
-    }
+    of_number!(number;
+        0 => fields!(turns.formatter(f), S), "F=S";
+        1 => fields!(turns.formatter(f), S {}), "F=S";
+        2 => fields!(turns.formatter(f), S()), "F=S";
+        3 => named!(f, turns; a 1), "Fa=S { a: 1 }";
+        4 => unnamed!(f, turns; 1), "Fa=S(1)";
+        5 => named!(f, turns; a 1 b 2), "Fab=S { a: 1, b: 2 }";
+        6 => unnamed!(f, turns; 1 2), "Fab=S(1, 2)";
+        _ => fields!(turns.formatter(f), S { a, b }), "F=S { a: 1, b: 2 }";
+    )
 }
 
 // Forms that take a value apart.
-fn print_apart(number: usize, f: &mut Formatter<String>, turns: &mut Turns) -> Evaluated {
+fn print_apart(number: usize, f: &mut Text, turns: &mut Turns) -> Evaluated {
     let (unit, pair, two) = (Unit, Pair { a: 1, b: 2 }, Two(1, 2));
-    match number {
-        8 => (fields!(turns.formatter(f), unit, Unit), "F=Unit"),
-        9 => (
-            fields!(turns.formatter(f), pair, Pair { b, a }),
-            "F=Pair { b: 2, a: 1 }",
-        ),
-        _ => (fields!(turns.formatter(f), two, Two(a, b)), "F=Two(1, 2)"),
-    }
+    of_number!(number;
+        8 => fields!(turns.formatter(f), unit, Unit), "F=Unit";
+        9 => fields!(turns.formatter(f), pair, Pair { b, a }), "F=Pair { b: 2, a: 1 }";
+        _ => fields!(turns.formatter(f), two, Two(a, b)), "F=Two(1, 2)";
+    )
 }
 
 // Forms with dots: with no field, with one and with two, and a value taken apart.
-fn print_few_with_dots(number: usize, f: &mut Formatter<String>, turns: &mut Turns) -> Evaluated {
+fn print_few_with_dots(number: usize, f: &mut Text, turns: &mut Turns) -> Evaluated {
     let (a, b) = (1u8, 2u8);
     let pair = Pair { a, b };
-    match number {
-        11 => (fields!(turns.formatter(f), S { .. }), "F=S { .. }"),
-        12 => (with_dots!(f, turns; a 1), "Fa=S { a: 1, .. }"),
-        13 => (with_dots!(f, turns; a 1 b 2), "Fab=S { a: 1, b: 2, .. }"),
-        14 => (
-            fields!(turns.formatter(f), S { a, b, .. }),
-            "F=S { a: 1, b: 2, .. }",
-        ),
-        15 => (
-            fields!(turns.formatter(f), pair, Pair { .. }),
-            "F=Pair { .. }",
-        ),
-        _ => (
-            fields!(turns.formatter(f), pair, Pair { b, .. }),
-            "F=Pair { b: 2, .. }",
-        ),
-    }
+    of_number!(number;
+        11 => fields!(turns.formatter(f), S { .. }), "F=S { .. }";
+        12 => with_dots!(f, turns; a 1), "Fa=S { a: 1, .. }";
+        13 => with_dots!(f, turns; a 1 b 2), "Fab=S { a: 1, b: 2, .. }";
+        14 => fields!(turns.formatter(f), S { a, b, .. }), "F=S { a: 1, b: 2, .. }";
+        15 => fields!(turns.formatter(f), pair, Pair { .. }), "F=Pair { .. }";
+        _ => fields!(turns.formatter(f), pair, Pair { b, .. }), "F=Pair { b: 2, .. }";
+    )
 }
 
 // Twelve fields, which one call takes, or thirteen, which make a chain. Beside a form of so many, its long text would take
 // the check past its limit of steps, so it is beside the call.
-fn print_named(
-    count: usize,
-    f: &mut Formatter<String>,
-    turns: &mut Turns,
-) -> Result<(), AllocError> {
+fn print_named(count: usize, f: &mut Text, turns: &mut Turns) -> Outcome {
     match count {
         12 => named!(f, turns; a 1 b 2 c 3 d 4 e 5 f 6 g 7 h 8 i 9 j 10 k 11 l 12),
         _ => named!(f, turns; a 1 b 2 c 3 d 4 e 5 f 6 g 7 h 8 i 9 j 10 k 11 l 12 m 13),
     }
 }
 
-fn print_unnamed(
-    count: usize,
-    f: &mut Formatter<String>,
-    turns: &mut Turns,
-) -> Result<(), AllocError> {
+fn print_unnamed(count: usize, f: &mut Text, turns: &mut Turns) -> Outcome {
     match count {
         12 => unnamed!(f, turns; 1 2 3 4 5 6 7 8 9 10 11 12),
         _ => unnamed!(f, turns; 1 2 3 4 5 6 7 8 9 10 11 12 13),
     }
 }
 
-fn print_with_dots(
-    count: usize,
-    f: &mut Formatter<String>,
-    turns: &mut Turns,
-) -> Result<(), AllocError> {
+fn print_with_dots(count: usize, f: &mut Text, turns: &mut Turns) -> Outcome {
     match count {
         12 => with_dots!(f, turns; a 1 b 2 c 3 d 4 e 5 f 6 g 7 h 8 i 9 j 10 k 11 l 12),
         _ => with_dots!(f, turns; a 1 b 2 c 3 d 4 e 5 f 6 g 7 h 8 i 9 j 10 k 11 l 12 m 13),
     }
 }
 
-fn print_many(number: usize, f: &mut Formatter<String>, turns: &mut Turns) -> Evaluated {
-    match number {
-        17 => (
-            print_named(12, f, turns),
-            "Fabcdefghijkl=S { a: 1, b: 2, c: 3, d: 4, e: 5, f: 6, g: 7, h: 8, i: 9, j: 10, k: 11, l: 12 }",
-        ),
-        18 => (
-            print_unnamed(12, f, turns),
-            "Fabcdefghijkl=S(1, 2, 3, 4, 5, 6, 7, 8, 9, 10, 11, 12)",
-        ),
-        19 => (
-            print_with_dots(12, f, turns),
-            "Fabcdefghijkl=S { a: 1, b: 2, c: 3, d: 4, e: 5, f: 6, g: 7, h: 8, i: 9, j: 10, k: 11, l: 12, .. }",
-        ),
-        20 => (
-            print_named(13, f, turns),
-            "Fabcdefghijklm=S { a: 1, b: 2, c: 3, d: 4, e: 5, f: 6, g: 7, h: 8, i: 9, j: 10, k: 11, l: 12, m: 13 }",
-        ),
-        21 => (
-            print_unnamed(13, f, turns),
-            "Fabcdefghijklm=S(1, 2, 3, 4, 5, 6, 7, 8, 9, 10, 11, 12, 13)",
-        ),
-        _ => (
-            print_with_dots(13, f, turns),
-            "Fabcdefghijklm=S { a: 1, b: 2, c: 3, d: 4, e: 5, f: 6, g: 7, h: 8, i: 9, j: 10, k: 11, l: 12, m: 13, .. }",
-        ),
-    }
+fn print_many(number: usize, f: &mut Text, turns: &mut Turns) -> Evaluated {
+    of_number!(number;
+        17 => print_named(12, f, turns), "Fabcdefghijkl=S { a: 1, b: 2, c: 3, d: 4, e: 5, f: 6, g: 7, h: 8, i: 9, j: 10, k: 11, l: 12 }";
+        18 => print_unnamed(12, f, turns), "Fabcdefghijkl=S(1, 2, 3, 4, 5, 6, 7, 8, 9, 10, 11, 12)";
+        19 => print_with_dots(12, f, turns), "Fabcdefghijkl=S { a: 1, b: 2, c: 3, d: 4, e: 5, f: 6, g: 7, h: 8, i: 9, j: 10, k: 11, l: 12, .. }";
+        20 => print_named(13, f, turns), "Fabcdefghijklm=S { a: 1, b: 2, c: 3, d: 4, e: 5, f: 6, g: 7, h: 8, i: 9, j: 10, k: 11, l: 12, m: 13 }";
+        21 => print_unnamed(13, f, turns), "Fabcdefghijklm=S(1, 2, 3, 4, 5, 6, 7, 8, 9, 10, 11, 12, 13)";
+        _ => print_with_dots(13, f, turns), "Fabcdefghijklm=S { a: 1, b: 2, c: 3, d: 4, e: 5, f: 6, g: 7, h: 8, i: 9, j: 10, k: 11, l: 12, m: 13, .. }";
+    )
 }
 
 // A variant of each kind.
-fn print_variant(number: usize, f: &mut Formatter<String>, turns: &mut Turns) -> Evaluated {
+fn print_variant(number: usize, f: &mut Text, turns: &mut Turns) -> Evaluated {
     let (event, wanted) = match number {
         23 => (Event::Started, "F=Started"),
         24 => (Event::Said(1, 2), "F=Said(1, 2)"),
@@ -178,11 +137,7 @@ fn print_variant(number: usize, f: &mut Formatter<String>, turns: &mut Turns) ->
 }
 
 // The turns, and the text that is printed.
-fn row(
-    outcome: Result<(), AllocError>,
-    turns: Turns,
-    f: Formatter<String>,
-) -> Result<String, AllocError> {
+fn row(outcome: Outcome, turns: Turns, f: Text) -> Result<String, AllocError> {
     outcome?;
     let mut row = turns.noted;
     row.push('=')?;

@@ -45,68 +45,19 @@ fn make_one_with_comma(number: usize, turns: &mut Turns) -> &'static str {
 
 // Each kind of piece as the first, in the middle and as the last.
 fn make_three(number: usize, turns: &mut Turns) -> &'static str {
-    match number {
-        0 => {
-            take(
-                &pieces!(text turns.text(1, "x"), pretty turns.number(2), each debug (turns.items(3)) between turns.separator()),
-            );
-            "abcS"
-        }
-        1 => {
-            take(
-                &pieces!(display turns.number(1), hex (turns.number(2)) with turns.options(), each pretty (turns.items(3)) between turns.separator()),
-            );
-            "abOcS"
-        }
-        2 => {
-            take(
-                &pieces!(debug turns.number(1), each display (turns.items(2)) between turns.separator(), each hex (turns.items(3)) with (turns.options()) between turns.separator()),
-            );
-            "abScOS"
-        }
-        3 => {
-            take(
-                &pieces!(pretty turns.number(1), each debug (turns.items(2)) between turns.separator(), each (turns.items(3)) by (turns.mark()) between turns.separator()),
-            );
-            "abScMS"
-        }
-        4 => {
-            take(
-                &pieces!(hex (turns.number(1)) with turns.options(), each pretty (turns.items(2)) between turns.separator(), text turns.text(3, "x")),
-            );
-            "aObSc"
-        }
-        5 => {
-            take(
-                &pieces!(each display (turns.items(1)) between turns.separator(), each hex (turns.items(2)) with (turns.options()) between turns.separator(), display turns.number(3)),
-            );
-            "aSbOSc"
-        }
-        6 => {
-            take(
-                &pieces!(each debug (turns.items(1)) between turns.separator(), each (turns.items(2)) by (turns.mark()) between turns.separator(), debug turns.number(3)),
-            );
-            "aSbMSc"
-        }
-        7 => {
-            take(
-                &pieces!(each pretty (turns.items(1)) between turns.separator(), text turns.text(2, "x"), pretty turns.number(3)),
-            );
-            "aSbc"
-        }
-        8 => {
-            take(
-                &pieces!(each hex (turns.items(1)) with (turns.options()) between turns.separator(), display turns.number(2), hex (turns.number(3)) with turns.options()),
-            );
-            "aOSbcO"
-        }
-        _ => {
-            take(
-                &pieces!(each (turns.items(1)) by (turns.mark()) between turns.separator(), debug turns.number(2), each display (turns.items(3)) between turns.separator()),
-            );
-            "aMSbcS"
-        }
-    }
+    let ((), wanted) = of_number!(number;
+        0 => take(&pieces!(text turns.text(1, "x"), pretty turns.number(2), each debug (turns.items(3)) between turns.separator())), "abcS";
+        1 => take(&pieces!(display turns.number(1), hex (turns.number(2)) with turns.options(), each pretty (turns.items(3)) between turns.separator())), "abOcS";
+        2 => take(&pieces!(debug turns.number(1), each display (turns.items(2)) between turns.separator(), each hex (turns.items(3)) with (turns.options()) between turns.separator())), "abScOS";
+        3 => take(&pieces!(pretty turns.number(1), each debug (turns.items(2)) between turns.separator(), each (turns.items(3)) by (turns.mark()) between turns.separator())), "abScMS";
+        4 => take(&pieces!(hex (turns.number(1)) with turns.options(), each pretty (turns.items(2)) between turns.separator(), text turns.text(3, "x"))), "aObSc";
+        5 => take(&pieces!(each display (turns.items(1)) between turns.separator(), each hex (turns.items(2)) with (turns.options()) between turns.separator(), display turns.number(3))), "aSbOSc";
+        6 => take(&pieces!(each debug (turns.items(1)) between turns.separator(), each (turns.items(2)) by (turns.mark()) between turns.separator(), debug turns.number(3))), "aSbMSc";
+        7 => take(&pieces!(each pretty (turns.items(1)) between turns.separator(), text turns.text(2, "x"), pretty turns.number(3))), "aSbc";
+        8 => take(&pieces!(each hex (turns.items(1)) with (turns.options()) between turns.separator(), display turns.number(2), hex (turns.number(3)) with turns.options())), "aOSbcO";
+        _ => take(&pieces!(each (turns.items(1)) by (turns.mark()) between turns.separator(), debug turns.number(2), each display (turns.items(3)) between turns.separator())), "aMSbcS";
+    );
+    wanted
 }
 
 /// How many pieces, and whether a comma follows the last.

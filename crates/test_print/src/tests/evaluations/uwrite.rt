@@ -1,9 +1,9 @@
 //! Tests of what `uwrite!` and `uwriteln!` evaluate.
 use super::super::asserts::has_wanted_rows;
 use super::Turns;
-use crate::tests::writers::FailOnce;
 use std::alloc::{AllocError, Global};
 use test_rows::rows::Table;
+use test_rows::writers::FailAt;
 use ufmt::{Formatter, Full, uwrite, uwriteln};
 
 // Each kind of piece by itself. Beside it is what is wanted by `uwrite!`, and by `uwriteln!`.
@@ -25,7 +25,7 @@ macro_rules! one_piece {
     };
 }
 
-type Written<'a> = Formatter<FailOnce<'a>>;
+type Written<'a> = Formatter<FailAt<'a>>;
 
 /// A call's result, and what is wanted of the form's row.
 type Evaluated = (Result<(), Full>, &'static str);
@@ -52,42 +52,21 @@ fn write_line_with_comma(number: usize, f: &mut Written<'_>, turns: &mut Turns) 
 
 // Each kind of piece as the first, in the middle and as the last.
 fn write_three(number: usize, f: &mut Written<'_>, turns: &mut Turns) -> Evaluated {
-    match number {
-        0 => (
-            uwrite!(turns.formatter(f), text turns.text(1, "x"), display turns.number(2), debug turns.number(3)),
-            "Fa! Fab!x Fabc!x2 Fabc=x23",
-        ),
-        1 => (
-            uwrite!(turns.formatter(f), display turns.number(1), debug turns.number(2), pretty turns.number(3)),
-            "Fa! Fab!1 Fabc!12 Fabc=123",
-        ),
-        2 => (
-            uwrite!(turns.formatter(f), debug turns.number(1), pretty turns.number(2), hex (turns.number(3)) with turns.options()),
-            "Fa! Fab!1 FabcO!12 FabcO=123",
-        ),
-        3 => (
-            uwrite!(turns.formatter(f), pretty turns.number(1), hex (turns.number(2)) with turns.options(), text turns.text(3, "x")),
-            "Fa! FabO!1 FabOc!12 FabOc=12x",
-        ),
-        _ => (
-            uwrite!(turns.formatter(f), hex (turns.number(1)) with turns.options(), text turns.text(2, "x"), display turns.number(3)),
-            "FaO! FaOb!1 FaObc!1x FaObc=1x3",
-        ),
-    }
+    of_number!(number;
+        0 => uwrite!(turns.formatter(f), text turns.text(1, "x"), display turns.number(2), debug turns.number(3)), "Fa! Fab!x Fabc!x2 Fabc=x23";
+        1 => uwrite!(turns.formatter(f), display turns.number(1), debug turns.number(2), pretty turns.number(3)), "Fa! Fab!1 Fabc!12 Fabc=123";
+        2 => uwrite!(turns.formatter(f), debug turns.number(1), pretty turns.number(2), hex (turns.number(3)) with turns.options()), "Fa! Fab!1 FabcO!12 FabcO=123";
+        3 => uwrite!(turns.formatter(f), pretty turns.number(1), hex (turns.number(2)) with turns.options(), text turns.text(3, "x")), "Fa! FabO!1 FabOc!12 FabOc=12x";
+        _ => uwrite!(turns.formatter(f), hex (turns.number(1)) with turns.options(), text turns.text(2, "x"), display turns.number(3)), "FaO! FaOb!1 FaObc!1x FaObc=1x3";
+    )
 }
 
 // Each kind of piece once, in lines of two and of three pieces.
 fn write_longer_line(number: usize, f: &mut Written<'_>, turns: &mut Turns) -> Evaluated {
-    match number {
-        0 => (
-            uwriteln!(turns.formatter(f), pretty turns.number(1), hex (turns.number(2)) with turns.options()),
-            "Fa! FabO!1 FabO!12 FabO=12\n",
-        ),
-        _ => (
-            uwriteln!(turns.formatter(f), text turns.text(1, "x"), display turns.number(2), debug turns.number(3)),
-            "Fa! Fab!x Fabc!x2 Fabc!x23 Fabc=x23\n",
-        ),
-    }
+    of_number!(number;
+        0 => uwriteln!(turns.formatter(f), pretty turns.number(1), hex (turns.number(2)) with turns.options()), "Fa! FabO!1 FabO!12 FabO=12\n";
+        _ => uwriteln!(turns.formatter(f), text turns.text(1, "x"), display turns.number(2), debug turns.number(3)), "Fa! Fab!x Fabc!x2 Fabc!x23 Fabc=x23\n";
+    )
 }
 
 /// How many pieces, by which macro, and whether a comma follows the last.
@@ -121,7 +100,7 @@ impl Form {
         for refused in 1..6usize {
             let mut bytes = [0; 8];
             let mut turns = Turns::new(alloc);
-            let mut f = Formatter::new(FailOnce::new(&mut bytes, refused));
+            let mut f = Formatter::new(FailAt::once(&mut bytes, refused));
             let evaluated = self.write(number, &mut f, &mut turns);
             let writer = f.into_inner();
             wanted = evaluated.1;
