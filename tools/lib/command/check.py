@@ -4,30 +4,27 @@ It reads the libraries below the crate from their sources, and trusts them: of a
 nothing else. So it names each wrong contract, `ghost` line and body of your crate, and its verdict is worth as much as the
 libraries' own proofs, which `rt check` makes first. With ITEMs, each a module or a function of the crate, it checks these
 alone. An ITEM is a path below the crate: `types` is a module, `types::write_to` a function, `types::Pair::swap` a method, and
-`types::PairuDebug::fmt` is `fmt` of `uDebug` for `Pair`. What it found is kept in the crate's `out/`, so the next run checks what
-changed.
+`types::PairuDebug::fmt` is `fmt` of `uDebug` for `Pair`. What it found is kept in `out/` at the top of the repository, so the next run,
+also for another crate, checks what is new.
 
 It runs at the top of a repository with a `crates.txt`, or below it; CRATE is a name in there. It needs the Rattle kit on the path.
-It prints what `rattle check` says, but for the lines of functions that are proved; its last line begins with `checked:` or with
-`not checked:`, and says that the libraries are trusted. The status is 0 if all is proved.
+It prints each error, and of a function that isn't proved its place, what isn't proved of it, and a line to try. Its last line begins
+with `checked:` or with `not checked:`, and says that the libraries are trusted. The status is 0 if all is proved.
 """
 import os
 import pathlib
-import re
 import shutil
 import signal
 import subprocess
 import sys
 
 from lib import needs, top
+from lib.command import verdict
 
 CHECKER = shutil.which("rattle")
-PROVED = re.compile(r"^(?:fn|struct|enum|trait|impl) .*: proved$")
-ONLY = re.compile(r"^only=(\d+) proved=(\d+)")
-NOISE = ("logic ", "statements ", "library ", "crate ", "checked ", "so far: checked ")
 
 
-def command(folder, crate, lines, paths, jobs, tests):
+def command(folder, kept, crate, lines, paths, jobs, tests):
     kit = pathlib.Path(CHECKER).resolve().parent.parent
     below = top.closure([crate], lines)
     libraries = sorted({name for one in below for name in lines[one] if name not in lines} | {"std"})
@@ -36,7 +33,7 @@ def command(folder, crate, lines, paths, jobs, tests):
         call += ["--extern", "%s=%s" % (name, kit / "rlibs" / (name + ".rlib"))]
     call += ["-L", "dependency=%s" % (kit / "rlibs"), "--antt-project", str(kit / "rattle/logic/antt-project.json")]
     call += ["--logic-built", str(kit / "logic_built"), "--jobs", str(jobs)]
-    call += ["--incremental", str(folder / "out" / "trusting")]
+    call += ["--incremental", str(kept)]
     for name in below[:-1]:
         call += ["--lib", "%s:%s=../%s/src/lib.rt" % (name, ",".join(["std"] + lines[name]), name)]
     call += ["--test"] * tests
@@ -55,6 +52,7 @@ def add_arguments(parser):
     parser.add_argument("crate", metavar="CRATE", help="a crate of crates.txt")
     parser.add_argument("items", metavar="ITEM", nargs="*", help="a module or a function of it: then only these are checked")
     parser.add_argument("--tests", action="store_true", help="check the crate with its tests: that each is safe, not that it passes")
+    parser.add_argument("--long", action="store_true", help="all that the checker says: goals, what a proof may use, notes")
     parser.add_argument("--jobs", metavar="N", type=int, default=os.cpu_count() or 1, help="how many functions side by side, each with some memory (%(default)s)")
 
 
@@ -67,20 +65,21 @@ def main(given):
         sys.exit("x check: crates.txt names no crate %s" % given.crate)
     if not CHECKER:
         sys.exit("x check: %s" % needs.told("rattle"))
-    folder = repository / "crates" / given.crate
+    folder, kept = repository / "crates" / given.crate, repository / "out" / "trusting"
     # The name of a crate stands for all of its functions.
     paths = given.items or [given.crate]
-    (folder / "out" / "trusting").mkdir(parents=True, exist_ok=True)
-    run = subprocess.Popen(command(folder, given.crate, lines, paths, given.jobs, given.tests), cwd=folder, text=True, start_new_session=True,
-                           stdout=subprocess.PIPE, stderr=subprocess.STDOUT)
+    kept.mkdir(parents=True, exist_ok=True)
+    run = subprocess.Popen(command(folder, kept, given.crate, lines, paths, given.jobs, given.tests), cwd=folder, text=True,
+                           start_new_session=True, stdout=subprocess.PIPE, stderr=subprocess.STDOUT)
     for number in (signal.SIGINT, signal.SIGTERM):
         signal.signal(number, lambda _number, _frame: ended(run))
-    counts = None
+    counts, short = None, verdict.Short(given.crate)
     for line in run.stdout:
-        counts = ONLY.match(line) or counts
-        if not (PROVED.match(line) or ONLY.match(line) or line.startswith(NOISE)):
-            print(line, end="", flush=True)
+        counts = verdict.ONLY.match(line) or counts
+        if not (verdict.PROVED.match(line) or verdict.ONLY.match(line) or line.startswith(verdict.NOISE)):
+            print(line if given.long else short.shown(line), end="", flush=True)
     status = run.wait()
+    print(*short.ended(), sep="", end="")
     said = "%s of %s functions proved; " % (counts[2], counts[1]) if counts else ""
     if status < 0:
         said += "the checker was killed by signal %d%s; " % (-status, ", mostly for want of memory: fewer --jobs need less" if status == -signal.SIGKILL else "")

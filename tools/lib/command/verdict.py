@@ -1,0 +1,110 @@
+"""What `x check` shows of what the checker says: an error as it stands, and of a function that isn't proved a line or two, with the
+lines to write next. `--long` shows all: goals, what may be used in a proof, and notes.
+"""
+import re
+
+PROVED = re.compile(r"^(?:fn|struct|enum|trait|impl) .*: proved$")
+ONLY = re.compile(r"^only=(\d+) proved=(\d+)")
+NOISE = ("logic ", "statements ", "library ", "crate ", "checked ", "so far: checked ")
+# A goal with its place, a function with its goals, the lines to begin its proof with, and what they may use.
+PLACE = re.compile(r"^note: (\S+?:\d+):\d+: it is not proved that (.*) \(`(.+)`\)$")
+UNPROVED = re.compile(r"^fn (\S+): no proof: expected answers in \./(\S+); .* did not prove (.*)$")
+GOAL = re.compile(r"^note: `(\S+)` of (\S+) must prove: ")
+START = re.compile(r"^    (\S+( .*)?) = \?$")
+CALL = re.compile(r"^  \| (c\.\S+): .*\.ensures \{\.(\w+)")
+# What a clause promises, where a function may return: of the trait whose types users write.
+CLAUSES = {"taken": "it takes the text of the value that it returns", "only": "no value with a longer text is there",
+           "none": "it fails with `NotText` only if no value's text is there", "memory": "it isn't refused memory",
+           "stops": "it stops where the type says", "blocks": "as many blocks are open as before", "shrinks": "no byte is put back"}
+# A list of bytes as the checker writes it, with what ends it.
+BYTES = re.compile(r"(?:mathlib\.Core\.List\.◌∷◌ \d+ \(?)+mathlib\.Core\.List\.\[\]\)*")
+# Where a name is declared.
+MODULE = re.compile(r"\b(?:Rattle|mathlib|lib)(?:\.[\w+-]+)*\.(?=[^\s.]+)")
+REST = re.compile(r"`(\d+) (?:\(codes \"(.*?)\"\)|mathlib\.Core\.List\.\[\])`")
+
+
+def text_of(codes):
+    """Bytes as a text in a clause, if they are printed ASCII or a line feed."""
+    if not all(32 <= code < 127 or code == 10 for code in codes):
+        return None
+    return 'codes "%s"' % "".join(map(chr, codes)).replace("\\", "\\\\").replace('"', '\\"').replace("\n", "\\n")
+
+
+def with_texts(line):
+    """The line with lists of bytes as texts, and names without their modules."""
+
+    def written(found):
+        codes = [int(code) for code in re.findall(r"◌∷◌ (\d+)", found.group())]
+        text = text_of(codes)
+        return found.group() if text is None else text + ")" * (found.group().count(")") - len(codes) + 1)
+
+    def begun(found):
+        first = text_of([int(found.group(1))])
+        return found.group() if first is None else "`%s%s\"`" % (first[:-1], found.group(2) or "")
+
+    return MODULE.sub("", REST.sub(begun, BYTES.sub(written, line))) if " error: " in line or line.startswith("  ") else line
+
+
+class Short:
+    """Passes on a line, or keeps what it says of a function for the end."""
+
+    def __init__(self, crate):
+        self.crate = crate
+        # By the name of a goal and its file: its place, and what isn't proved. By that file: its function, and the begun answers.
+        self.places, self.functions, self.starts, self.answers = [], {}, {}, {}
+        self.within = None
+
+    def shown(self, line):
+        """What is printed of a line at once."""
+        text = line.rstrip("\n")
+        if line.startswith("  ") and self.within is not None:
+            self.within(text)
+            return ""
+        self.within = None
+        place, unproved, goal = PLACE.match(text), UNPROVED.match(text), GOAL.match(text)
+        if place:
+            self.places.append(place.groups())
+        elif unproved:
+            name, path, goals = unproved.groups()
+            self.functions[path] = (name, goals, self.places)
+            self.places = []
+        elif text.startswith("help: write ./"):
+            path = text.split()[2][2:]
+            self.within = lambda told: self.begun(path, told)
+        elif goal:
+            self.within = lambda told: self.offered(goal.groups(), told)
+        elif text.startswith("note: ") or re.match(r"\S+\.antt:\d+:\d+: note: ", text):
+            self.within = lambda told: None
+        else:
+            return with_texts(line)
+        return ""
+
+    def begun(self, path, told):
+        start = START.match(told)
+        if start:
+            self.starts.setdefault(path, {})[start.group(1).split()[0]] = start.group(1)
+
+    def offered(self, goal, told):
+        call = CALL.match(told)
+        if call:
+            self.answers[goal] = "%s.ensures.%s" % call.groups()
+
+    def ended(self):
+        """Of each function that isn't proved: where, what, and what to write next."""
+        for path, (name, goals, places) in self.functions.items():
+            for place, what, goal in places:
+                clause = CLAUSES.get(goal.rpartition("-clause-")[2], what)
+                yield "%s: %s: it is not proved that %s (`%s`)\n" % (place, name, clause, goal)
+            if not places:
+                yield "%s: %s is not proved\n" % (name, goals)
+            yield from self.next_step(path, goals.strip("`"))
+        if self.functions:
+            yield "`x check %s .. --long` shows each goal, and the lines to begin a proof with.\n" % self.crate
+
+    def next_step(self, path, goal):
+        """For a function with one end: the answer with which the checker says which values differ."""
+        start, answer = self.starts.get(path, {}).get(goal), self.answers.get((goal, path))
+        if goal == "returns" and start and answer:
+            module = ".".join(["Rattle", self.crate, *path.split("/")[:-1], "Goals"])
+            yield "  To see which values differ, write %s with these lines, and check again:\n" % path
+            yield "    use %s as goal\n\n    pub returns : goal.returns\n    %s = %s\n" % (module, start, answer)
