@@ -179,12 +179,12 @@ impl uDisplayHex for Ff {
 // Numbers padded to each length from 4 to 8, with zeros and with spaces, in a column of six characters.
 fn of_each_length(alloc: Global, align: Align) -> Result<String, AllocError> {
     let (six, mut row) = (column(align, '*', 6), String::new(alloc));
-    let (mut zeros, mut spaces) = (PREFIXED, PREFIXED);
-    spaces.pad_char = b' ';
     let price = decimal(-125, 1);
     for pad_length in 4..9usize {
+        let (mut zeros, mut spaces) = (PREFIXED, PREFIXED);
         zeros.pad_length = pad_length;
         spaces.pad_length = pad_length;
+        spaces.pad_char = b' ';
         let line = pieces!(
             hex 255u32 with zeros in six, text "|", hex Ff with zeros in six, text "|",
             bin 5u8 with spaces in six, text "|", zeros (-7i8) to pad_length in six, text "|",
@@ -296,16 +296,20 @@ fn write_row_prints_columns(rt: HostRuntime) {
         "a very long name", u32::MAX, 48 => "Ok(39) a very long name4294967295|  0x00ff  |\n~~~~~~~~~";
         "pump", 1203, 12 => "Err(Full) pump      ..~~~~~~~~~~~~~~~~~~~~~~~~~~~~~~~~~~~~";
     ] {
-        if let Ok(name) = String::from_str(rt.alloc(), name) {
-            let counter = Counter {
-                name,
-                count,
-                register,
-            };
-            put_filled!(table; buffer[48] write_row(buffer, &counter); length => wanted;);
-        } else {
-            table.put_nothing();
+        let mut bytes = [b'~'; 48];
+        match String::from_str(rt.alloc(), name) {
+            Ok(name) => {
+                let counter = Counter {
+                    name,
+                    count,
+                    register,
+                };
+                let outcome = write_row(&mut bytes[..length], &counter);
+                table.put_outcome(outcome, &bytes);
+            }
+            Err(_) => table.put_nothing(),
         }
+        table.wants(wanted);
     }
     has_wanted_rows(&rt, &table);
 }

@@ -77,7 +77,7 @@ fn laws_of_decimals_print_items_and_columns(rt: HostRuntime) {
 #[test]
 fn a_field_has_its_number_of_decimals(rt: HostRuntime) {
     let mut table = Table::new(rt.alloc());
-    let (value, decimals) = (1013.25, 1);
+    let (value, decimals) = (1013.25f32, 1);
     let hectopascal = Fixed { value, decimals };
     put_rows!(table;
         pieces(&Displayed(&hectopascal)) => "1013.2|";

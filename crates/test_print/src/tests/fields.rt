@@ -2,7 +2,7 @@
 use super::asserts::has_wanted_rows;
 use super::printed::put_printed;
 use test_rows::rows::Table;
-use ufmt::{Formatter, fields, uDebug};
+use ufmt::{Formatter, fields};
 
 #[derive(Drop)]
 struct Unit;

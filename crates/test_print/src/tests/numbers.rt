@@ -1,12 +1,12 @@
 //! Tests of numbers: each is one piece by both traits and in both modes, and its decimal text is right. Nonzero numbers of
 //! each width are rows of tools/data/rows.
 use super::asserts::{has_wanted_rows, same};
-use std::alloc::{AllocError, Global};
+use std::alloc::Global;
 use std::fmt::Display;
 use std::num::NonZeroI8;
 use test_rows::put_rows;
 use test_rows::rows::Table;
-use ufmt::{Formatter, uDebug, uDisplay};
+use ufmt::{Formatter, uDebug};
 
 #[test]
 fn numbers_print_as_one_piece(rt: HostRuntime) {

@@ -76,6 +76,7 @@ impl Calls {
 type Left = (LastCall, bool, bool, u8);
 
 /// A builder's calls in the first entry of a list. The formatter continues with a list, which the writer doesn't refuse.
+#[derive(Clone, Copy)]
 struct InAList<'a> {
     block: Block,
     left: &'a Cell<Option<Left>>,
