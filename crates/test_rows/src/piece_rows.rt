@@ -113,7 +113,8 @@ fn printed_in<T: Printed>(
     let number = pieces.wrong_number(alloc, value)?;
     let size = pieces.wrong_size(alloc, value)?;
     let is_right = pieces.is_as_before && number.is_none() && size.is_none();
-    let printed = if has_bars { pieces.barred } else { pieces.text };
+    let Pieces { text, barred, .. } = pieces;
+    let printed = if has_bars { barred } else { text };
     if is_right {
         return Ok(printed);
     }
