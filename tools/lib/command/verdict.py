@@ -1,6 +1,7 @@
 """What `x check` shows of what the checker says: an error as it stands, and of a function that isn't proved a line or two, with the
 lines to write next. `--long` shows all: goals, what may be used in a proof, and notes.
 """
+import itertools
 import re
 
 PROVED = re.compile(r"^(?:fn|struct|enum|trait|impl) .*: proved$")
@@ -12,6 +13,7 @@ UNPROVED = re.compile(r"^fn (\S+): no proof: expected answers in \./(\S+); .* di
 GOAL = re.compile(r"^note: `(\S+)` of (\S+) must prove: ")
 START = re.compile(r"^    (\S+( .*)?) = \?$")
 CALL = re.compile(r"^  \| (c\.\S+): .*\.ensures \{\.(\w+)")
+ARM = re.compile(r"returns-in-(\w+)$")
 # What a clause promises, where a function may return: of the trait whose types users write.
 CLAUSES = {"taken": "it takes the text of the value that it returns", "only": "no value with a longer text is there",
            "none": "it fails with `NotText` only if no value's text is there", "memory": "it isn't refused memory",
@@ -20,6 +22,7 @@ CLAUSES = {"taken": "it takes the text of the value that it returns", "only": "n
 BYTES = re.compile(r"(?:mathlib\.Core\.List\.◌∷◌ \d+ \(?)+mathlib\.Core\.List\.\[\]\)*")
 # Where a name is declared.
 MODULE = re.compile(r"\b(?:Rattle|mathlib|lib)(?:\.[\w+-]+)*\.(?=[^\s.]+)")
+ALONE = re.compile(r"has `(\d+)`")
 REST = re.compile(r"`(\d+) (?:\(codes \"(.*?)\"\)|mathlib\.Core\.List\.\[\])`")
 
 
@@ -38,11 +41,15 @@ def with_texts(line):
         text = text_of(codes)
         return found.group() if text is None else text + ")" * (found.group().count(")") - len(codes) + 1)
 
+    def alone(found):
+        letter = text_of([int(found.group(1))])
+        return found.group() if letter is None else "%s, in a text %s," % (found.group(), letter)
+
     def begun(found):
         first = text_of([int(found.group(1))])
         return found.group() if first is None else "`%s%s\"`" % (first[:-1], found.group(2) or "")
 
-    return MODULE.sub("", REST.sub(begun, BYTES.sub(written, line))) if " error: " in line or line.startswith("  ") else line
+    return MODULE.sub("", ALONE.sub(alone, REST.sub(begun, BYTES.sub(written, line)))) if " error: " in line or line.startswith("  ") else line
 
 
 class Short:
@@ -92,19 +99,24 @@ class Short:
     def ended(self):
         """Of each function that isn't proved: where, what, and what to write next."""
         for path, (name, goals, places) in self.functions.items():
-            for place, what, goal in places:
-                clause = CLAUSES.get(goal.rpartition("-clause-")[2], what)
-                yield "%s: %s: it is not proved that %s (`%s`)\n" % (place, name, clause, goal)
+            for (place, what), its in itertools.groupby(places, lambda it: it[:2]):
+                its = [goal for _, _, goal in its]
+                clause = CLAUSES.get(its[0].rpartition("-clause-")[2], what)
+                yield "%s: %s: it is not proved that %s (%s)\n" % (place, name, clause, ", ".join("`%s`" % goal for goal in its))
             if not places:
                 yield "%s: %s is not proved\n" % (name, goals)
-            yield from self.next_step(path, goals.strip("`"))
+            yield from self.next_step(path, goals)
         if self.functions:
             yield "`x check %s .. --long` shows each goal, and the lines to begin a proof with.\n" % self.crate
 
-    def next_step(self, path, goal):
-        """For a function with one end: the answer with which the checker says which values differ."""
-        start, answer = self.starts.get(path, {}).get(goal), self.answers.get((goal, path))
-        if goal == "returns" and start and answer:
-            module = ".".join(["Rattle", self.crate, *path.split("/")[:-1], "Goals"])
+    def next_step(self, path, goals):
+        """The answers with which the checker says which values differ: where a function ends, alone or in an arm of a `match`."""
+        lines = []
+        for goal in re.findall(r"`(\S+)`", goals):
+            start, answer, arm = self.starts.get(path, {}).get(goal), self.answers.get((goal, path)), ARM.match(goal)
+            if start and answer and (goal == "returns" or arm):
+                lines += ["", "pub %s : goal.%s" % (goal, goal), "%s = %s%s" % (start, "rw c.in-%s.is " % arm.group(1) if arm else "", answer)]
+        if lines:
+            module = ".".join(["Rattle", self.crate, "proofs", *path.split("/")[1:-1], "Goals"])
             yield "  To see which values differ, write %s with these lines, and check again:\n" % path
-            yield "    use %s as goal\n\n    pub returns : goal.returns\n    %s = %s\n" % (module, start, answer)
+            yield from ("    %s\n" % line if line else "\n" for line in ["use %s as goal" % module, *lines])
