@@ -1,5 +1,5 @@
-"""What `x check` shows of what the checker says: an error as it stands, and of a function that isn't proved a line or two, with the
-lines to write next. `--long` shows all: goals, what may be used in a proof, and notes.
+"""What `x check` shows of what the checker says: an error as it stands, and of a function that isn't proved a line or two, with
+the lines to write next. `--long` shows all: goals, what may be used in a proof, and notes.
 """
 import itertools
 import re
@@ -15,9 +15,15 @@ START = re.compile(r"^    (\S+( .*)?) = \?$")
 CALL = re.compile(r"^  \| (c\.\S+): .*\.ensures \{\.(\w+)")
 ARM = re.compile(r"returns-in-(\w+)$")
 # What a clause promises, where a function may return: of the trait whose types users write.
-CLAUSES = {"taken": "it takes the text of the value that it returns", "only": "no value with a longer text is there",
-           "none": "it fails with `NotText` only if no value's text is there", "memory": "it isn't refused memory",
-           "stops": "it stops where the type says", "blocks": "as many blocks are open as before", "shrinks": "no byte is put back"}
+CLAUSES = {
+    "taken": "it takes the text of the value that it returns",
+    "only": "no value with a longer text is there",
+    "none": "it fails with `NotText` only if no value's text is there",
+    "memory": "it isn't refused memory",
+    "stops": "it stops where the type says",
+    "blocks": "as many blocks are open as before",
+    "shrinks": "no byte is put back",
+}
 # A list of bytes as the checker writes it, with what ends it.
 BYTES = re.compile(r"(?:mathlib\.Core\.List\.◌∷◌ \d+ \(?)+mathlib\.Core\.List\.\[\]\)*")
 # Where a name is declared.
@@ -42,14 +48,16 @@ def with_texts(line):
         return found.group() if text is None else text + ")" * (found.group().count(")") - len(codes) + 1)
 
     def alone(found):
-        letter = text_of([int(found.group(1))])
-        return found.group() if letter is None else "%s, in a text %s," % (found.group(), letter)
+        code = int(found.group(1))
+        return "%s (the letter `%c`)" % (found.group(), code) if 32 < code < 127 else found.group()
 
     def begun(found):
         first = text_of([int(found.group(1))])
         return found.group() if first is None else "`%s%s\"`" % (first[:-1], found.group(2) or "")
 
-    return MODULE.sub("", ALONE.sub(alone, REST.sub(begun, BYTES.sub(written, line)))) if " error: " in line or line.startswith("  ") else line
+    if " error: " not in line and not line.startswith("  "):
+        return line
+    return MODULE.sub("", ALONE.sub(alone, REST.sub(begun, BYTES.sub(written, line))))
 
 
 class Short:
@@ -115,7 +123,8 @@ class Short:
         for goal in re.findall(r"`(\S+)`", goals):
             start, answer, arm = self.starts.get(path, {}).get(goal), self.answers.get((goal, path)), ARM.match(goal)
             if start and answer and (goal == "returns" or arm):
-                lines += ["", "pub %s : goal.%s" % (goal, goal), "%s = %s%s" % (start, "rw c.in-%s.is " % arm.group(1) if arm else "", answer)]
+                matched = "rw c.in-%s.is " % arm.group(1) if arm else ""
+                lines += ["", "pub %s : goal.%s" % (goal, goal), "%s = %s%s" % (start, matched, answer)]
         if lines:
             module = ".".join(["Rattle", self.crate, "proofs", *path.split("/")[1:-1], "Goals"])
             yield "  To see which values differ, write %s with these lines, and check again:\n" % path
