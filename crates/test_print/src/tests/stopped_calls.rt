@@ -2,10 +2,8 @@
 //! leaves.
 use super::builder_calls::{Block, LastCall};
 use std::alloc::{AllocError, Global};
-use std::cell::Cell;
-use test_rows::printed::{Printed, print_to};
 use test_rows::writers::FailAt;
-use ufmt::{Formatter, uWrite};
+use ufmt::{Formatter, Full, uWrite};
 
 /// The place of a builder's calls: the first entry of a list, in one mode.
 #[derive(Clone, Copy)]
@@ -75,22 +73,44 @@ impl Calls {
 /// What a builder's calls leave: the last of them, whether it was `Ok`, and mode and depth.
 type Left = (LastCall, bool, bool, u8);
 
-/// A builder's calls in the first entry of a list. The formatter continues with a list, which the writer doesn't refuse.
-#[derive(Clone, Copy)]
-struct InAList<'a> {
-    block: Block,
-    left: &'a Cell<Option<Left>>,
+// Makes a builder's calls in the first entry of a list, and returns what they leave. The formatter continues with a
+// list, which the writer doesn't refuse.
+fn call_in_list<W: uWrite<Error = Full>>(block: Block, f: &mut Formatter<W>) -> Result<Left, Full> {
+    let mut list = f.debug_list()?;
+    let f = list.begin_entry()?;
+    let mut last = LastCall::closing("opening");
+    let is_ok = block.call_in_turn(f, &mut last).is_ok();
+    let (is_pretty, depth) = (f.is_pretty(), f.depth());
+    f.list_of(&[7u8])?;
+    Ok((last, is_ok, is_pretty, depth))
 }
 
-impl Printed for InAList<'_> {
-    fn print<W: uWrite>(&self, f: &mut Formatter<W>) -> Result<(), W::Error> {
-        let mut list = f.debug_list()?;
-        let f = list.begin_entry()?;
-        let mut last = LastCall::closing("opening");
-        let is_ok = self.block.call_in_turn(f, &mut last).is_ok();
-        self.left.set(Some((last, is_ok, f.is_pretty(), f.depth())));
-        f.list_of(&[7u8])
+fn call_at<W: uWrite<Error = Full>>(
+    place: Place,
+    block: Block,
+    f: &mut Formatter<W>,
+) -> Result<Left, Full> {
+    if !place.is_pretty {
+        return call_in_list(block, f);
     }
+    let mut left = Err(Full);
+    f.pretty(|f| {
+        left = call_in_list(block, f);
+        Ok(())
+    })?;
+    left
+}
+
+// What the calls leave over this writer, and whether mode and depth are as before.
+fn call_over<W: uWrite<Error = Full>>(
+    place: Place,
+    block: Block,
+    writer: W,
+) -> (Result<Left, Full>, bool, W) {
+    let mut f = Formatter::new(writer);
+    let left = call_at(place, block, &mut f);
+    let is_as_before = !f.is_pretty() && f.depth() == 0;
+    (left, is_as_before, f.into_inner())
 }
 
 // Whether this is left by a writer that refuses only the piece with this number. The text before
@@ -101,15 +121,13 @@ fn is_left(
     calls: &Calls,
     (number, length, last, is_ok): (usize, usize, LastCall, bool),
 ) -> bool {
-    let (mut bytes, left) = ([0u8; 100], Cell::new(None));
-    let value = InAList { block, left: &left };
+    let mut bytes = [0u8; 100];
     let writer = FailAt::once(&mut bytes, number);
-    let ((outcome, _, outside), writer) = print_to(place.is_pretty, &value, writer);
+    let (left, is_as_before, writer) = call_over(place, block, writer);
     let written = writer.written();
     let is_written = written.get(..length) == calls.text.as_bytes().get(..length)
         && written.get(length..) == Some(place.list.as_bytes());
-    let wanted = Some((last, is_ok, place.is_pretty, place.depth));
-    outcome.is_ok() && outside == (false, 0) && is_written && left.get() == wanted
+    is_as_before && is_written && left == Ok((last, is_ok, place.is_pretty, place.depth))
 }
 
 // The number of the first piece whose refusal leaves something wrong.
