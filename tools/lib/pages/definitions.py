@@ -14,7 +14,7 @@ import re
 from typing import NamedTuple
 
 from lib.contracts.functions import functions_of
-from lib.contracts.source import closing, end_of, name_at, tokens_of
+from lib.contracts.source import Source, closing
 from lib.findings import ended
 from lib.pages.items import PAGE, items_of, promises_of, section
 from lib.top import TOP, is_ours
@@ -146,10 +146,10 @@ def is_private(key):
 
 def ghost_identifiers(path, wanted):
     """The identifiers of the ghost values of a file's implementations, as of `seen`, where a clause has their name."""
-    tokens, identifiers = tokens_of(path.read_text()), set()
-    for at in range(len(tokens)):
-        if tokens[at].name == "ghost" and name_at(tokens, at + 1) in wanted and name_at(tokens, at + 2) == "=":
-            identifiers |= {token.name for token in tokens[at + 3 : end_of(tokens, at + 3)]}
+    source, identifiers = Source(path), set()
+    for at in source.all("ghost"):
+        if source.name(at + 1) in wanted and source.name(at + 2) == "=":
+            identifiers |= {token.name for token in source.tokens[at + 3 : source.tokens[at + 3].pair]}
     return identifiers
 
 
