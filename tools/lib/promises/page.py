@@ -10,7 +10,7 @@ from typing import NamedTuple
 from lib import generated
 from lib.contracts.functions import functions_of, public_functions
 from lib.contracts.source import sources
-from lib.pages.edits import edits_of
+from lib.pages.edits import all_edits
 from lib.top import TOP, listed
 
 TEMPLATE = TOP / "tools" / "data" / "promises.md"
@@ -110,7 +110,7 @@ class Reader:
 
 def shown(reader, section):
     """The promises of a section: by the order of crates, or of the headline by its parts."""
-    edits = [edit for path in sorted(TOP.glob("crates/*/more-edits.txt")) for edit in edits_of(path)]
+    edits = all_edits()
     told = [promise.shown(edits) for promise in reader.promises if promise.section == section]
     return sorted(told) if section == "headline" else told
 
