@@ -9,7 +9,7 @@ import pathlib
 import tempfile
 
 from lib import findings
-from lib.bench import calls, peers
+from lib.bench import calls
 from lib.contracts.source import Fault
 from lib.rust import export, linking, step, table
 
@@ -29,7 +29,7 @@ def sizes(tried, features, profile, target, ufmt):
     if ufmt:
         names, peer = names + ["ufmt"], 'ufmt = { path = "%s", optional = true }' % ufmt.resolve()
         (tried.room / "sizes" / ".cargo").mkdir(parents=True, exist_ok=True)
-        (tried.room / "sizes" / ".cargo" / "config.toml").write_text(peers.SOURCE % peers.DEBIAN if peers.DEBIAN.is_dir() else "")
+        (tried.room / "sizes" / ".cargo" / "config.toml").write_text(calls.SOURCE % calls.DEBIAN if calls.DEBIAN.is_dir() else "")
     library = tried.library_of_sizes(profile, ",".join(filter(None, (features, ufmt and "ufmt"))), target, peer)
     linker = linking.Linker(tried.room, target)
     for name in calls.PEER_SIZES if library else ():
