@@ -23,9 +23,8 @@ import shutil
 import tempfile
 
 from lib import measures
-from lib.c import archive, callers, cases, costs, header, leaves, library as by_python, stored
-from lib.c import huge as huge_options
-from lib.c.calling import CRATE, DATA, VALGRIND, by_program, caller_in_c, compare, here, rooms, run, under_valgrind, without_detail
+from lib.c import archive, callers, cases, costs, header, huge as huge_options, leaves
+from lib.c.calling import CRATE, DATA, VALGRIND, by_program, by_python, caller_in_c, compare, here, rooms, run, under_valgrind, without_detail
 from lib.c.random_cases import RandomCases
 from lib.findings import ended
 
@@ -77,9 +76,41 @@ def cases_of_tables(faults):
     return made, huge, [(case, room) for case in made for room in rooms(case)], [(case, room) for case in huge for room in rooms(case)]
 
 
+def write_rows():
+    with tempfile.TemporaryDirectory() as folder:
+        program = pathlib.Path(folder) / "rows"
+        run(["rustc", "--edition", "2024", "-D", "warnings", "-O", DATA / "rows.rs", "-o", program])
+        said = run(["rustc", "--version"]).strip()
+        rows = run([program]) + "".join(dumps(folder))
+    header.STORED.write_text(header.interface())
+    (DATA / "rows.tsv").write_text("# Printed by %s and by xxd, by x try c --write\n%s" % (said, rows))
+
+
+def escaped(data):
+    return "".join(chr(byte) if 0x20 < byte < 0x7F and byte != 0x25 else "%%%02x" % byte for byte in data) or "%"
+
+
+def dumps(folder):
+    """Rows of dumps, as xxd prints them, and the same with the column of offsets or of texts cut off."""
+    path = pathlib.Path(folder) / "bytes"
+    for data in (b"", b"abc", bytes(range(0x18, 0x40)), b"\x7f\x80~ %\n" * 5, bytes(range(256))[::7]):
+        path.write_bytes(data)
+        for per_row, group, first in ((16, 1, 0), (0, 1, 0), (16, 2, 0), (8, 4, 4096), (5, 3, 255), (16, 0, 0), (3, 1, 0xFFFFFFF0 if len(data) < 9 else 0x10000), (33, 1, 0)):
+            printed = run(["xxd", "-g", group, "-c", per_row, "-o", first, path])
+            width = 2 * (per_row or 16) + ((per_row or 16) - 1) // (group or per_row or 16)
+            for has_offsets, has_text in ((1, 1), (0, 1), (1, 0), (0, 0)):
+                text = "".join(cut(line, width, has_offsets, has_text) + "\n" for line in printed.splitlines())
+                yield "dump %s %d %d %d %d %d = %s\n" % (escaped(data), per_row, group, first, has_offsets, has_text, escaped(text.encode()))
+
+
+def cut(line, width, has_offsets, has_text):
+    offset, rest = line.split(": ", 1)
+    return (offset + ": " if has_offsets else "") + (rest if has_text else rest[:width].rstrip(" "))
+
+
 def main(given):
     if given.write:
-        stored.write_rows()
+        write_rows()
         return 0
     faults, is_ours = [], not given.proved and not given.program
     made, huge, tried, tried_huge = cases_of_tables(faults)
@@ -103,7 +134,7 @@ def main(given):
         from_rust = by_rust(faults, room, library, tried)
         by_valgrind = under_valgrind(faults, program, made + huge)
         loaded = ctypes.CDLL(str(shared))
-        compare(faults, "Python", tried, (by_python.make(loaded, case, size) for case, size in tried))
+        compare(faults, "Python", tried, (by_python(loaded, case, size) for case, size in tried))
         by_pages = callers.by_callers(faults, room, library, shared, made)
     counts = len(made) + len(huge), len(cases.CALLS), by_all, from_rust, by_valgrind + len(some), randomly, steps, by_pages
     return ended((fault[:600] for fault in faults), "%d cases of %d calls: %d calls from C and as many from Python, %d from Rust, %d under valgrind, %d at random, "
