@@ -18,7 +18,7 @@ import sys
 import tempfile
 from concurrent.futures import ThreadPoolExecutor
 
-from lib.crates import grammar, printers, refused, tests, tried
+from lib.crates import grammar, printers, refused, tests
 from lib.findings import ended
 from lib.top import TOP
 
@@ -28,8 +28,8 @@ CRATES = TOP / "tools" / "data" / "crates"
 def make_room(room):
     """Copies the libraries, without their work."""
     lines = (TOP / "crates.txt").read_text().splitlines()
-    (room / "crates.txt").write_text("".join(line + "\n" for line in lines if line.split(":")[0] in tried.LIBRARIES))
-    for crate in tried.LIBRARIES:
+    (room / "crates.txt").write_text("".join(line + "\n" for line in lines if line.split(":")[0] in tests.LIBRARIES))
+    for crate in tests.LIBRARIES:
         for part in ("src", "specs", "proofs"):
             if (TOP / "crates" / crate / part).is_dir():
                 shutil.copytree(TOP / "crates" / crate / part, room / "crates" / crate / part)
