@@ -1,12 +1,13 @@
 """The steps of `x try`, and what each shows.
 
-A step is a module with `main(given)`: it prints a line for each fault, and last a line of counts, and returns 1 if there was a fault. It needs
-some programs, and is skipped where they aren't; without those that it only uses it shows less.
+A step is a module with `main(given)`: it prints a line for each fault, and last a line of counts, and returns 1 if there was a
+fault. It needs some programs, and is skipped where they aren't; without those that it only uses it shows less.
 """
 import importlib
 from typing import NamedTuple, Tuple
 
-# What a step looks at: the sources alone, builds that it makes with nothing proved, or the programs that `rt ci` or `rt run` left.
+# What a step looks at: the sources alone, builds that it makes with nothing proved, or the programs that `rt ci` or `rt run`
+# left.
 SOURCES, UNPROVED, BUILT = "the sources", "builds with nothing proved", "built programs"
 
 

@@ -1,5 +1,5 @@
-"""Bytes of code and constants that a call that prints needs, and instructions that it takes, beside ufmt and core::fmt: programs of other
-crates are built with the cargo and the crates that the machine has."""
+"""Bytes of code and constants that a call that prints needs, and instructions that it takes, beside ufmt and core::fmt: programs
+of other crates are built with the cargo and the crates that the machine has."""
 import pathlib
 import re
 import shutil
@@ -76,8 +76,8 @@ def line(told, cells):
 
 
 def beside_peers(kind, ufmt, room, profiles, rows):
-    """A line for each row: ours, and what each peer takes in each profile. A row has its name, our figure, and what finds a peer's in the
-    folder of a profile, or None."""
+    """A line for each row: ours, and what each peer takes in each profile. A row has its name, our figure, and what finds a
+    peer's in the folder of a profile, or None."""
     made, found = peers(room, *kind, ufmt, profiles)
     for told, ours, theirs in rows:
         line(told, [ours, *(theirs(made / profile, peer) if theirs and peer in found else None for profile in profiles for peer in ("ufmt", "core"))])

@@ -1,4 +1,5 @@
-"""Instructions of one `{:?}` of an `f64`, beside core::fmt and the kit's ryu, and of one with a number of decimals, beside core::fmt."""
+"""Instructions of one `{:?}` of an `f64`, beside core::fmt and the kit's ryu, and of one with a number of decimals, beside
+core::fmt."""
 from lib.bench.calls import counted
 from lib.floats import patterns, programs
 

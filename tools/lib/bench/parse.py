@@ -1,5 +1,5 @@
-"""Instructions that parsing takes for each byte of a text and for each value, beside serde_json and ron, and the bytes of one more
-type that is parsed."""
+"""Instructions that parsing takes for each byte of a text and for each value, beside serde_json and ron, and the bytes of one
+more type that is parsed."""
 import subprocess
 import sys
 
@@ -55,8 +55,8 @@ def sizes(room):
 
 
 def table(room, given):
-    """Prints a line for each kind of values, and one for each kind of type. With a script, it calls that with the program in place
-    of its own counting."""
+    """Prints a line for each kind of values, and one for each kind of type. With a script, it calls that with the program in
+    place of its own counting."""
     program = build.over_copies(room, "parse", ["ufmt_parse"])
     if given.script:
         return subprocess.call([given.script, program])

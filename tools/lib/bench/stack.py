@@ -1,15 +1,15 @@
 """Whether calls that print or parse, and the built programs, stay within their bounds of stack, and the programs of code.
 
-Calls that convert or scan are tried by the step `c`, from C. The programs are those that LLVM made, crates/NAME/out/NAME, as `rt ci` or `rt run`
-leave them. The bounds are in tools/data/measured/stack.txt.
+Calls that convert or scan are tried by the step `c`, from C. The programs are those that LLVM made, crates/NAME/out/NAME, as `rt
+ci` or `rt run` leave them. The bounds are in tools/data/measured/stack.txt.
 
 - Of ufmt_conv and ufmt_lines it finds how many bytes of stack their `main` takes at most on any input, in their machine code
   (tools/lib/bench/frames.py). What the C library takes isn't in it.
 - It runs ufmt_conv, and probe_model, which reads, compares, prints and drops documents, and parses, prints and drops trees
   and chains, on blocks of each kind that are 248 deep, with no more stack than the bound and OUTSIDE. So what was found in the
   machine code is tested too.
-- Of example_print_program and example_parse_program it adds up the bytes of the functions of our crates. Each has one type and some lines, so
-  a call that is compiled into each of its callers is seen.
+- Of example_print_program and example_parse_program it adds up the bytes of the functions of our crates. Each has one type and
+  some lines, so a call that is compiled into each of its callers is seen.
 
 `setarch` lets a program's stack begin in one place.
 """
@@ -38,7 +38,8 @@ DOCUMENTS = ((b"[", b"1", b"]"), (b"{", b"1", b"}"), (b"{1: ", b"1", b"}"), (b"{
              (b"(", b"1", b",)"), (b"a { b: ", b"1", b" }"))
 VALUES = ((b"Tree { size: 1, children: [", b"Tree { size: 1, children: [] }", b"] }"),
           (b"Node { value: 1, next: Some(", b"Node { value: 1, next: None }", b") }"))
-# The words of a run, whether its text has its length before it, the shapes of its texts, and the levels of each; its program's name.
+# The words of a run, whether its text has its length before it, the shapes of its texts, and the levels of each; its program's
+# name.
 RUNS = (("ufmt_conv", ["pretty"], False, DOCUMENTS, 1), ("probe_model", [], True, DOCUMENTS, 1), ("probe_model", [], True, VALUES, 2))
 
 
@@ -75,8 +76,8 @@ def runs(words, text, size):
 
 
 def code_faults(name):
-    """Prints what a program's machine code takes, and yields a line if that is past its bound. The kit's `main` tests the processor, and then
-    continues as the program's with the stack as it was. A build with nothing proved has only a `main`."""
+    """Prints what a program's machine code takes, and yields a line if that is past its bound. The kit's `main` tests the
+    processor, and then continues as the program's with the stack as it was. A build with nothing proved has only a `main`."""
     code = frames.Frames(needs.built(name))
     start = name + "::main+start"
     most = code.most(start if start in code.addresses else "main")

@@ -1,11 +1,11 @@
-"""The files of ufmt_core and of the crates of parsing that have one call, impl, clause or proof for each number of fields, of the templates in
-tools/data/by_count.
+"""The files of ufmt_core and of the crates of parsing that have one call, impl, clause or proof for each number of fields, of the
+templates in tools/data/by_count.
 
-In a template `$A`, `$a`, `$P` and `$n` stand for a field's type, its name, its parser and its place, and `${WORD}` for what is the same for each
-field. `⟪*TEXT|BETWEEN⟫` repeats a text for each field, `⟪,TEXT⟫` as the parts of a tuple, and `⟪-,TEXT⟫` so without the first field;
-`⟪WORD:TEXT⟫` is there for some numbers of fields or one kind of block. `·` is a space at which a line may end: lines that have some are filled
-to at most 100 characters, which `rt fmt` leaves as they are. Of three parts, which end in a line `====`, the second comes for each number of
-fields. A line that begins with `# ` tells of the template.
+In a template `$A`, `$a`, `$P` and `$n` stand for a field's type, its name, its parser and its place, and `${WORD}` for what is
+the same for each field. `⟪*TEXT|BETWEEN⟫` repeats a text for each field, `⟪,TEXT⟫` as the parts of a tuple, and `⟪-,TEXT⟫` so
+without the first field; `⟪WORD:TEXT⟫` is there for some numbers of fields or one kind of block. `·` is a space at which a line
+may end: lines that have some are filled to at most 100 characters, which `rt fmt` leaves as they are. Of three parts, which end
+in a line `====`, the second comes for each number of fields. A line that begins with `# ` tells of the template.
 """
 import re
 

@@ -1,4 +1,5 @@
-"""Makes calls of the library by a program in C or in Rust, or of the shared object by ctypes, and compares what they return and leave."""
+"""Makes calls of the library by a program in C or in Rust, or of the shared object by ctypes, and compares what they return and
+leave."""
 import ctypes
 import functools
 import itertools
@@ -80,7 +81,8 @@ def request(case, room):
 
 
 def wanted_of(case, room):
-    """The result, the detail and the buffer that a call must leave in a buffer of this length, and whether only the buffer's length counts."""
+    """The result, the detail and the buffer that a call must leave in a buffer of this length, and whether only the buffer's
+    length counts."""
     filled = bytes([FILL]) * (room or 0)
     if case.number is not None:
         return 0, DETAIL, (case.number % 2**64).to_bytes(cases.NUMBER_SIZE, "little"), False
@@ -155,8 +157,8 @@ def caller_in_c(room, library):
 
 
 def by_python(library, case, room):
-    """What the call returns and leaves: the result, the detail and the buffer, which had `room` bytes of the fill. A room of None is a buffer of
-    0 bytes at NULL."""
+    """What the call returns and leaves: the result, the detail and the buffer, which had `room` bytes of the fill. A room of None
+    is a buffer of 0 bytes at NULL."""
     call, kinds, words = getattr(library, "ufmt_" + case.call), list(cases.CALLS[case.call]), []
     call.restype = RESULTS.get(case.call, ctypes.c_ssize_t)
     left = (ctypes.c_uint8 * (cases.NUMBER_SIZE if kinds[:1] == ["number"] else room or 0))()

@@ -1,8 +1,8 @@
 """The cases that `x try c` tries: calls of libufmt_c, their arguments, and what each is to do.
 
 What they expect comes from outside: rustc's texts and xxd's dumps in tools/data/c/rows.tsv, the texts of values that rustc
-printed in tools/expected/rows.txt, the models of texts and of lines in tools/lib/model/ and tools/lib/log_model/, a table of fields as a reader
-sees them in crates/ufmt_values/src/field/tests.rt, and Python's own decoding of UTF-8.
+printed in tools/expected/rows.txt, the models of texts and of lines in tools/lib/model/ and tools/lib/log_model/, a table of
+fields as a reader sees them in crates/ufmt_values/src/field/tests.rt, and Python's own decoding of UTF-8.
 """
 import json
 import re
@@ -196,7 +196,8 @@ DEEP = (254, 255, 256, 300)
 
 
 def fields():
-    """The table of fields; lines that are cut, or longer, or have one byte changed; lines with many brackets; names that aren't UTF-8."""
+    """The table of fields; lines that are cut, or longer, or have one byte changed; lines with many brackets; names that aren't
+    UTF-8."""
     table = FIELD_ROW.findall((TOP / "crates" / "ufmt_values" / "src" / "field" / "tests.rt").read_text())
     if len(table) < LEAST_FIELDS:
         raise ValueError("only %d rows of fields" % len(table))

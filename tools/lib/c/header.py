@@ -1,9 +1,9 @@
-"""The header by each standard of C and C++, what it declares beside what the library exports, and how its structs are laid out: what callers
-are compiled against.
+"""The header by each standard of C and C++, what it declares beside what the library exports, and how its structs are laid out:
+what callers are compiled against.
 
-tools/data/c/interface.txt has that: the lines of the header without its comments, and for each constant its value, for each struct and each
-of its members its place and its size, as gcc has them. A line that changes or goes may break a caller. Each call, each constant and each
-member of a struct has its comment.
+tools/data/c/interface.txt has that: the lines of the header without its comments, and for each constant its value, for each
+struct and each of its members its place and its size, as gcc has them. A line that changes or goes may break a caller. Each call,
+each constant and each member of a struct has its comment.
 """
 import pathlib
 import re
@@ -41,7 +41,8 @@ def laid_out(structs, constants):
 
 
 def uncommented(lines):
-    """The number and the name of each call or constant without a comment that ends right above it, and of each member without one beside it."""
+    """The number and the name of each call or constant without a comment that ends right above it, and of each member without one
+    beside it."""
     for number, (above, line) in enumerate(zip(["", *lines], lines), 1):
         declared, member = DECLARED.match(line), MEMBER.match(line)
         if declared and declared[1] not in WITH_ANOTHER and not above.endswith("*/") or member and not line.endswith("*/"):

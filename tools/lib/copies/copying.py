@@ -1,7 +1,7 @@
 """Copies crates of this repository into a user's repository, and brings what was copied up to date.
 
-What `x new` and `x update` copied is kept there in a file of the crate ufmt. A file of the repository is *ours* while it has the sum that is
-kept of it. Then it may be replaced; any other file stays as it is.
+What `x new` and `x update` copied is kept there in a file of the crate ufmt. A file of the repository is *ours* while it has the
+sum that is kept of it. Then it may be replaced; any other file stays as it is.
 """
 import hashlib
 import os
@@ -38,7 +38,8 @@ def sum_of(path):
 
 
 class Kept:
-    """The file in this folder of crates. `sums` has each file's sum by its path below the folder, `lines` what each crate stands on."""
+    """The file in this folder of crates. `sums` has each file's sum by its path below the folder, `lines` what each crate stands
+    on."""
 
     def __init__(self, crates):
         self.path = crates / COPIED

@@ -1,5 +1,5 @@
-"""Makes crates by `x new` in folders of each kind and updates them by `x update`, over a small library, and looks at what they write and copy of
-this one."""
+"""Makes crates by `x new` in folders of each kind and updates them by `x update`, over a small library, and looks at what they
+write and copy of this one."""
 import argparse
 import contextlib
 import io

@@ -1,7 +1,8 @@
 """What ufmt takes to print a float, and one with a number of decimals: steps, and bytes of stack by the machine code.
 
 The rows of tools/data/measured/floats.txt are usual floats; decimals that binary fractions have; the ends of the ranges that
-crates/ufmt_float/CALLING.md and crates/ufmt_fixed/CALLING.md name, and what lies in them. The bounds of stack are in stack.txt there.
+crates/ufmt_float/CALLING.md and crates/ufmt_fixed/CALLING.md name, and what lies in them. The bounds of stack are in stack.txt
+there.
 """
 import pathlib
 import shutil
@@ -21,7 +22,8 @@ def counted(program):
 
 
 def faults(program, counts):
-    """A line for each call that takes more steps than its bound, and for each function that is past a bound of stack, where there is objdump."""
+    """A line for each call that takes more steps than its bound, and for each function that is past a bound of stack, where there
+    is objdump."""
     past = list(measures.Table("floats").faults(counts)) if counts else []
     known = frames.Frames(program) if shutil.which("objdump") else None
     for name, (most, own) in measures.Table("stack").of("float").items() if known else ():

@@ -1,7 +1,8 @@
-"""Runs `x dist` where others stand in the place of its builds, which take minutes and are made by other steps: of the compiler's, the
-archive's and the kit.
+"""Runs `x dist` where others stand in the place of its builds, which take minutes and are made by other steps: of the compiler's,
+the archive's and the kit.
 
-What is tried is what it asks of them, where it puts what they leave, what it says, what is left where one fails, and what is in the folder.
+What is tried is what it asks of them, where it puts what they leave, what it says, what is left where one fails, and what is in
+the folder.
 """
 import argparse
 import ast
@@ -25,8 +26,8 @@ FAILING_KIT = '#!/bin/sh\n[ "$1" != %s ]\n'
 KEEPING_KIT = '#!/bin/sh\necho "$PWD: $*, $(wc -c)" >>"$0.asked"\n'
 PROVED = "import sys; sys.path.insert(0, %r); from lib.packaging import folder; programs, library = folder.proved(); print(*programs, library)"
 HEAD = "HEAD"
-# The commits that BUILD has, one after another: of a copy without git, of a tree, of one with a changed file, with a new one, of another tree
-# of the same repository, and of a folder in one.
+# The commits that BUILD has, one after another: of a copy without git, of a tree, of one with a changed file, with a new one, of
+# another tree of the same repository, and of a folder in one.
 COMMITS = ["unknown", HEAD, HEAD + " with changes", HEAD + " with changes", HEAD, "unknown"]
 
 
@@ -52,8 +53,8 @@ def say_how(trial, programs, library):
 
 
 def build_each(trial, programs, library):
-    """Without --proved each program is built by its own sources and those below it, as fast code, and what is built lies in a folder that
-    is removed."""
+    """Without --proved each program is built by its own sources and those below it, as fast code, and what is built lies in a
+    folder that is removed."""
     asked, places, before = [], [], os.getcwd()
 
     def kept(place, made):
@@ -90,7 +91,8 @@ def kit(trial, script):
 
 
 def prove_each(trial):
-    """With --proved each program is run by `rt`, and the library is made, in their crates and with no input. What these leave is taken."""
+    """With --proved each program is run by `rt`, and the library is made, in their crates and with no input. What these leave is
+    taken."""
     said = run(["env", kit(trial, KEEPING_KIT), sys.executable, "-c", PROVED % str(TOP / "tools")], b"an input")
     crates, words = TOP / "crates", {"ufmt_conv": "run -- lengths", "ufmt_lines": "run -- --version", "ufmt_c": "lib"}
     asked = (trial.room / "kit" / "rt.asked").read_text().splitlines()
@@ -117,8 +119,8 @@ def go_wrong(trial):
 
 
 def look_into_library(trial, archived):
-    """The shared library's name for the loader, and what is seen of it, if the archive has a function more. Programs can be started, and links
-    lead to the same file after the folder is moved."""
+    """The shared library's name for the loader, and what is seen of it, if the archive has a function more. Programs can be
+    started, and links lead to the same file after the folder is moved."""
     source, compiled, more = (trial.room / ("more." + end) for end in "coa")
     made = trial.room / "shared"
     made.mkdir()

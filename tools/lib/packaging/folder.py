@@ -1,5 +1,5 @@
-"""The folder that `x dist` leaves, laid out as a prefix: the programs, the library for C in both forms, and what says how they were built. They
-are built with nothing proved, or as `rt` proves and builds them."""
+"""The folder that `x dist` leaves, laid out as a prefix: the programs, the library for C in both forms, and what says how they
+were built. They are built with nothing proved, or as `rt` proves and builds them."""
 import shutil
 import subprocess
 from concurrent.futures import ThreadPoolExecutor

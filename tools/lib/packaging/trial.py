@@ -1,10 +1,10 @@
 """Installs what `x dist` leaves, as a packager would.
 
-The programs are those in out/ of their crates, which `rt ci` built; the archive is built here with nothing proved. They are put into a
-folder, and from there installed into a prefix, each with a space in its name. There the programs run, their manual pages are compared
-with them, and callers of the library are built: crates/ufmt_c/examples/convert.c by pkg-config, with the archive and with the shared library, and
-convert.rs by cargo with build.rs. Then a second version is installed over the first, and the ways in which an
-installation goes wrong are tried, and so is `x dist` (dist_trial.py).
+The programs are those in out/ of their crates, which `rt ci` built; the archive is built here with nothing proved. They are put
+into a folder, and from there installed into a prefix, each with a space in its name. There the programs run, their manual pages
+are compared with them, and callers of the library are built: crates/ufmt_c/examples/convert.c by pkg-config, with the archive and
+with the shared library, and convert.rs by cargo with build.rs. Then a second version is installed over the first, and the ways in
+which an installation goes wrong are tried, and so is `x dist` (dist_trial.py).
 """
 import os
 import pathlib
@@ -142,8 +142,8 @@ class Trial:
         self.installs("without room", 1, self.built, self.room / "short", before=("bash", "-c", WITHOUT_ROOM, "bash"))
 
     def remove(self):
-        """A file that can't be removed is a fault. What is listed is removed, as by a later version of the tool, and nothing else; the
-        folders stay."""
+        """A file that can't be removed is a fault. What is listed is removed, as by a later version of the tool, and nothing
+        else; the folders stay."""
         own, program, more = (self.prefix / "bin" / name for name in ("ufmt_own", "ufmt_conv", "ufmt_more"))
         own.write_text("mine")
         program.unlink()

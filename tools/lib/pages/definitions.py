@@ -5,8 +5,8 @@ such a definition cites, and so on. The list of that section must have every one
 this repository. An item lists a file of specs/ whole, or `without` some of its definitions, or only those that it names. A call's
 name may have stars.
 
-A fault is a name of the page that is nothing, a definition that isn't listed, or one that is listed and not cited. `x list definitions`
-first prints, for each list of promises, the definitions that these rest on beside the headline's, by file.
+A fault is a name of the page that is nothing, a definition that isn't listed, or one that is listed and not cited. `x list
+definitions` first prints, for each list of promises, the definitions that these rest on beside the headline's, by file.
 """
 import fnmatch
 import re
@@ -39,7 +39,8 @@ def typed_name(line):
 
 
 def definitions_of(text):
-    """The lines of each definition of a file of specs/, by the name to which its first line gives a type. A record has its fields."""
+    """The lines of each definition of a file of specs/, by the name to which its first line gives a type. A record has its
+    fields."""
     found, fields, its = {}, None, []
     for line in re.sub(r"(?m)^\s*(?:--|pub use |use |pub mod |mod ).*|\s*--.*", "", text).split("\n"):
         name, is_record = typed_name(line)
@@ -117,7 +118,8 @@ def calls_named(tree, name, before):
         found = [call for call in found if parts[-2] in call.owner or parts[-2] in call.path.with_suffix("").parts]
     if not found:
         found = [call for call in tree.calls if call.path.stem == parts[-1] and (len(parts) == 1 or parts[-2] in call.path.parts)]
-    # Each implementation gives the names in a trait's clauses a meaning of its own. What all of them rest on is named beside the call.
+    # Each implementation gives the names in a trait's clauses a meaning of its own. What all of them rest on is named beside the
+    # call.
     return [call for call in found if not call.is_of_trait() and " for " not in call.owner]
 
 
@@ -170,7 +172,8 @@ def places_in(text):
 
 
 def beside_files(text):
-    """For each file in the headline's list the names beside it, and whether the file is listed without these: with no name it is listed whole."""
+    """For each file in the headline's list the names beside it, and whether the file is listed without these: with no name it is
+    listed whole."""
     return {CRATES / file.strip("`"): (set(re.findall(r"`(\w+)`", words)), "without" in words or "`" not in words) for file, words in items_of(text)}
 
 

@@ -1,9 +1,9 @@
 """Each promise of docs/PROMISES.md with the edits that guard it.
 
-An edit is a wrong body that the check must refuse. crates/CRATE/more-edits.txt has the crate's edits, an empty line between two: the
-edit's name, a line `guards:` for each promise that it guards, with the first words of the promise, and then `file:`, `old:` and
-`new:` as in a file of must-fail/. An edit without these three lines is in must-fail/NAME.edit, which the gate tries. `guards: none`
-and a reason stand for an edit that guards no promise.
+An edit is a wrong body that the check must refuse. crates/CRATE/more-edits.txt has the crate's edits, an empty line between two:
+the edit's name, a line `guards:` for each promise that it guards, with the first words of the promise, and then `file:`, `old:`
+and `new:` as in a file of must-fail/. An edit without these three lines is in must-fail/NAME.edit, which the gate tries. `guards:
+none` and a reason stand for an edit that guards no promise.
 
 Each edit guards a promise that is there and is the only one with these first words, and the texts that it replaces stand once in
 its file; else that is a fault. `x list edits` prints each promise with its edits.
@@ -18,7 +18,8 @@ NONE = "none: "
 
 
 class Edit:
-    """A wrong body: its crate and name, the first words of the promises that it guards, and the lines that say what it changes."""
+    """A wrong body: its crate and name, the first words of the promises that it guards, and the lines that say what it
+    changes."""
 
     def __init__(self, listed, number, lines):
         self.crate, self.name = listed.parent, lines[0]

@@ -1,5 +1,5 @@
-"""The items of the lists of docs/PROMISES.md, each of one line: what is promised, and after the last colon where, or what a call asks
-for.
+"""The items of the lists of docs/PROMISES.md, each of one line: what is promised, and after the last colon where, or what a call
+asks for.
 """
 import re
 

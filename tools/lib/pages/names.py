@@ -1,6 +1,6 @@
-"""Looks for what the pages name: each link leads to a file and a title that are there, each file in backticks is there, each command,
-as `./x try pages`, is there with its steps, and each module of contracts, as `Rattle.ufmt.specs.Layout`, is there with the words that stand
-in braces after it.
+"""Looks for what the pages name: each link leads to a file and a title that are there, each file in backticks is there, each
+command, as `./x try pages`, is there with its steps, and each module of contracts, as `Rattle.ufmt.specs.Layout`, is there with
+the words that stand in braces after it.
 
 Modules of this repository are files of `crates`, those of std are files of the kit. A library passes on modules by the `pub use`
 lines of its `Lib.antt`. Modules below `declared` are made from the sources, and aren't looked at.

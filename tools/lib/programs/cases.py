@@ -73,8 +73,8 @@ class Cases:
         return [word for it in split for word in [self.filled(it[1])] * int(it[2] or 1)]
 
     def table(self, file, texts):
-        """Judges each row of a table in tools/data/programs. Its part `texts` has more texts by their names, and its part `files` those of
-        files. The parts `calls`, `messages` and `slow` have rows of their own forms."""
+        """Judges each row of a table in tools/data/programs. Its part `texts` has more texts by their names, and its part `files`
+        those of files. The parts `calls`, `messages` and `slow` have rows of their own forms."""
         self.texts.update(texts)
         forms = {"texts": self.texts.__setitem__, "files": lambda name, text: (self.room / name).write_bytes(text)}
         judges = {"calls": self.judge_calls, "messages": self.judge_messages, "slow": self.judge_slow}
@@ -87,7 +87,8 @@ class Cases:
                 self.judge_row(part, row)
 
     def judge_row(self, part, row):
-        """Judges a run: the words, the text on standard input, the status, the output, the line on standard error, and what is special."""
+        """Judges a run: the words, the text on standard input, the status, the output, the line on standard error, and what is
+        special."""
         words, text, status, output, line, special = row + ["%", "%", ""][len(row) - 3 :]
         given, name = dict(it.partition("=")[::2] for it in special.split()), "%s: %s %s, of %s" % (part, words, special, text[:40])
         ran = self.run_row(self.arguments(words), self.filled(text), given, len(self.filled(output)))
@@ -107,10 +108,10 @@ class Cases:
         return findings.ended(self.faults, "%d cases" % self.count)
 
     def run(self, *arguments, text=b"", source=None, sink=None, error=None, limit=None, files_limit=None, variables=None, as_nobody=False):
-        """Runs the program to its end. Standard input has the text, or is `source`: an open file, CLOSED, or a name that `opened` knows, and so are
-        `sink` and `error`; what doesn't come through a pipe is empty. `limit` is how many KiB of memory it has, `files_limit` how many files
-        it has open at once. It has these variables of the environment more. It may run as a user who owns nothing, if this one may read
-        everything."""
+        """Runs the program to its end. Standard input has the text, or is `source`: an open file, CLOSED, or a name that `opened`
+        knows, and so are `sink` and `error`; what doesn't come through a pipe is empty. `limit` is how many KiB of memory it has,
+        `files_limit` how many files it has open at once. It has these variables of the environment more. It may run as a user who
+        owns nothing, if this one may read everything."""
         given = (source, sink, error)
         files = [opened(one) if isinstance(one, str) and one != CLOSED else [one] for one in given]
         streams = [subprocess.DEVNULL if its == [CLOSED] else subprocess.PIPE if its == [None] else its[0] for its in files]
@@ -156,9 +157,9 @@ class Cases:
         self.same("reads and writes of " + name, (int(reads), int(writes)), (counts[0].reads, counts[0].writes))
 
     def judge_slow(self, name, arguments, *steps):
-        """Runs the program beside a producer that is slow. Of each step, the first is what is written then, and the second what must come before
-        more is written: `soon` says that nothing may come. After the steps stands the output that comes last. A run in which an output was
-        late or early has no status."""
+        """Runs the program beside a producer that is slow. Of each step, the first is what is written then, and the second what
+        must come before more is written: `soon` says that nothing may come. After the steps stands the output that comes last. A
+        run in which an output was late or early has no status."""
         process, (*steps, last) = self.start(arguments), steps
         pairs = [(written, b"" if wanted == b"soon" else wanted) for written, wanted in zip(steps[::2], steps[1::2])]
         output, in_time = b"", True
@@ -197,9 +198,9 @@ def filled(texts, column):
 
 
 def opened(name):
-    """The files behind a device: first the one that is a stream of the run, and then what stays open beside it. An input may be a folder, a
-    pipe that stays `open` and has nothing, or one that doesn't wait for its bytes, which are `not-yet` there; an output may be `full`, a pipe
-    that is `unread`, or one with `no-room` that doesn't wait."""
+    """The files behind a device: first the one that is a stream of the run, and then what stays open beside it. An input may be a
+    folder, a pipe that stays `open` and has nothing, or one that doesn't wait for its bytes, which are `not-yet` there; an output
+    may be `full`, a pipe that is `unread`, or one with `no-room` that doesn't wait."""
     if name in (FOLDER, "full"):
         return [os.open("/", os.O_RDONLY) if name == FOLDER else os.open("/dev/full", os.O_WRONLY)]
     reader, writer = os.pipe()

@@ -1,8 +1,8 @@
-"""Runs `x check` over five small crates, and compares how and where it calls the checker, its last line, its status and the lines that
-it shows.
+"""Runs `x check` over five small crates, and compares how and where it calls the checker, its last line, its status and the lines
+that it shows.
 
-In the place of the kit's checker there is a script that keeps its arguments, and prints what that prints of such a crate. What the
-kit's own prints isn't tried here.
+In the place of the kit's checker there is a script that keeps its arguments, and prints what that prints of such a crate. What
+the kit's own prints isn't tried here.
 """
 import os
 import pathlib

@@ -76,8 +76,8 @@ def file_names(cases):
 
 
 def named_pipe(cases):
-    """A pipe with a name is read until its writers are gone, however slow they are. A file is opened to be read only: who opens a pipe to
-    write it, too, waits for itself."""
+    """A pipe with a name is read until its writers are gone, however slow they are. A file is opened to be read only: who opens a
+    pipe to write it, too, waits for itself."""
     pipe = cases.room / "pipe"
     os.mkfifo(pipe)
 
@@ -102,7 +102,8 @@ def named_pipe(cases):
 
 
 def each_byte(cases):
-    """No byte has a meaning of its own, at the front or in the middle: a byte order mark, NUL, an end of file of other systems."""
+    """No byte has a meaning of its own, at the front or in the middle: a byte order mark, NUL, an end of file of other
+    systems."""
     log = b"\xef\xbb\xbf" + bytes(range(256)).translate(None, b"[{(") + b"\n"
     (cases.room / "each byte").write_bytes(log * 2)
     for row in ((), ("--plain",)):
@@ -113,8 +114,9 @@ def each_byte(cases):
 
 
 def terminals(cases):
-    """A terminal is read to its first end of file, and isn't asked again while the next file is opened. One that goes away fails in the
-    middle: the reason is said, and a line that had begun continues in the next file. Nor can one that went away be written."""
+    """A terminal is read to its first end of file, and isn't asked again while the next file is opened. One that goes away fails
+    in the middle: the reason is said, and a line that had begun continues in the next file. Nor can one that went away be
+    written."""
     leader, follower = pty.openpty()
     os.write(leader, LONG + b"\x04")
     ran = cases.run("-", "none", source=follower)

@@ -1,9 +1,9 @@
 """Runs the built programs as a shell would.
 
-It compares the status, the standard output and the standard error of ufmt_conv and ufmt_lines, as each of the two compilers built them,
-and of the programs of the pages: example_parse_program, which says what a line of standard input sets, and example_print_program, whose
-output is one write. The programs are in out/ of their crates, where `rt ci` leaves both builds and `rt run` one. A C compiler is needed for
-devices that move one byte a call.
+It compares the status, the standard output and the standard error of ufmt_conv and ufmt_lines, as each of the two compilers built
+them, and of the programs of the pages: example_parse_program, which says what a line of standard input sets, and
+example_print_program, whose output is one write. The programs are in out/ of their crates, where `rt ci` leaves both builds and
+`rt run` one. A C compiler is needed for devices that move one byte a call.
 """
 import pathlib
 

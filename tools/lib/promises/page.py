@@ -1,8 +1,8 @@
 """docs/PROMISES.md: the page in tools/data/promises.md with each promise that a comment of the sources makes.
 
-A comment `// Promise (SECTION): TEXT.` stands above the function whose contract carries the promise. It may go on with `Clauses:` and the
-names of the clauses that do, and with `Also:` and further functions that carry it. A promise beside no function with a clause is a fault, and
-so is the name of a function or a clause that isn't there.
+A comment `// Promise (SECTION): TEXT.` stands above the function whose contract carries the promise. It may go on with `Clauses:`
+and the names of the clauses that do, and with `Also:` and further functions that carry it. A promise beside no function with a
+clause is a fault, and so is the name of a function or a clause that isn't there.
 """
 import re
 from typing import NamedTuple
@@ -97,7 +97,8 @@ class Reader:
         return next((name for name, one in self.public[crate] if (one.path, one.line) == (function.path, function.line)), function.name)
 
     def named(self, crate, place, also):
-        """The functions that the rest of a comment names: `name`, or `crate::name` of another crate, by the ends of their paths."""
+        """The functions that the rest of a comment names: `name`, or `crate::name` of another crate, by the ends of their
+        paths."""
         for told in re.findall(r"`([\w:]+)`", also or ""):
             first, _, rest = told.partition("::")
             other, name = (first, rest) if rest and first in self.public else (crate, told)

@@ -1,9 +1,10 @@
 """Writes a cargo workspace into DIR from the crates that print, for rustc.
 
-What is ghost in a source is removed. Each other change is by a rule of tools/lib/rust/rewrite.py or by a row of the tables of tools/data/rust.
-docs/RUST.md has both, and `--table` prints the rows. A ghost form that isn't known, a text of the table that isn't in its file, an import from
-std that it doesn't have, and a public function that requires something and has no decision in tools/data/rust/decisions.tsv end it with the
-place. `x try rust` tries what it writes. `--measure` counts bytes and instructions of calls by it, with valgrind: those of README.md.
+What is ghost in a source is removed. Each other change is by a rule of tools/lib/rust/rewrite.py or by a row of the tables of
+tools/data/rust. docs/RUST.md has both, and `--table` prints the rows. A ghost form that isn't known, a text of the table that
+isn't in its file, an import from std that it doesn't have, and a public function that requires something and has no decision in
+tools/data/rust/decisions.tsv end it with the place. `x try rust` tries what it writes. `--measure` counts bytes and instructions
+of calls by it, with valgrind: those of README.md.
 """
 import pathlib
 import tempfile

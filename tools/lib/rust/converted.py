@@ -59,7 +59,8 @@ def with_uses(path):
 
 
 def files(crates):
-    """The text of each file of the shared crates, and of the tests, which are below a folder `tests`, by its path in the workspace."""
+    """The text of each file of the shared crates, and of the tests, which are below a folder `tests`, by its path in the
+    workspace."""
     found = {}
     for crate in SHARED:
         folder = crates / crate / "src"

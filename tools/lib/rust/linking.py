@@ -1,5 +1,5 @@
-"""Programs that make some calls, linked from a library of calls: their symbols and their bytes. A target that rustc has no `core` for gets one
-that is built from rustc's sources, where they are.
+"""Programs that make some calls, linked from a library of calls: their symbols and their bytes. A target that rustc has no `core`
+for gets one that is built from rustc's sources, where they are.
 
 Debian has the sources as rust-src, and rustup as its component rust-src. They need no registry: `core` stands on nothing, and
 `compiler_builtins` on `core` alone.

@@ -1,11 +1,11 @@
 """Tries the package that `x rust` writes, as rustc and cargo compile it.
 
-The package compiles without a warning with each choice of features. Its tests pass, also with `proved`, where std's own tests of an index
-end a program: worked rows, the sources' own tests, cursors of every size, writers that refuse each piece, builders' calls in each order,
-and 10,000 random values and floats beside core::fmt. Valgrind sees no wrong access. `cargo doc` and clippy have no warning. The calls have
-no symbol of `core::panicking` with `proved`, at opt-level 3, `s` and `z`, and have some without. Programs stay within bounds of bytes. The
-tool refuses each of its own wrong sources. 32-bit programs are linked where rustc has `core` for one, or its sources, from which `core` is
-built: `RUSTC=/path/of/rustc ./x try rust` uses another rustc.
+The package compiles without a warning with each choice of features. Its tests pass, also with `proved`, where std's own tests of
+an index end a program: worked rows, the sources' own tests, cursors of every size, writers that refuse each piece, builders'
+calls in each order, and 10,000 random values and floats beside core::fmt. Valgrind sees no wrong access. `cargo doc` and clippy
+have no warning. The calls have no symbol of `core::panicking` with `proved`, at opt-level 3, `s` and `z`, and have some without.
+Programs stay within bounds of bytes. The tool refuses each of its own wrong sources. 32-bit programs are linked where rustc has
+`core` for one, or its sources, from which `core` is built: `RUSTC=/path/of/rustc ./x try rust` uses another rustc.
 """
 import os
 import pathlib
@@ -78,7 +78,8 @@ class Trial:
             self.cargo("clippy", "--quiet", "-p", "ufmt", "--features", features, "--", "-D", "warnings")
 
     def build(self, name, source, profile, features, target=HOST, **form):
-        """Builds this source over the package, with this in its manifest. Its result is the folder of what cargo made, or None."""
+        """Builds this source over the package, with this in its manifest. Its result is the folder of what cargo made, or
+        None."""
         folder = self.room / name
         folder.mkdir(exist_ok=True)
         (folder / "lib.rs").write_text(source)
@@ -96,7 +97,8 @@ class Trial:
     def panics(self, target=HOST):
         """No call's program has a symbol of `core::panicking` with `proved`. Without it most have: so the test finds them.
 
-        One program of all calls has what the programs of each have together. Only if it has such a symbol, each call is linked alone.
+        One program of all calls has what the programs of each have together. Only if it has such a symbol, each call is linked
+        alone.
         """
         source = (DATA / "calls" / "lib.rs").read_text()
         linker = linking.Linker(self.room, target)
@@ -140,7 +142,8 @@ class Trial:
             self.faults.append("docs/RUST.md:1: hasn't the table that `x rust --table` prints")
 
     def rows_of_32_bits(self):
-        """The worked rows hold in a program without a C library, with tests of overflow, where this machine runs 32-bit programs."""
+        """The worked rows hold in a program without a C library, with tests of overflow, where this machine runs 32-bit
+        programs."""
         library = self.library("narrow", (DATA / "narrow" / "lib.rs").read_text(), "tested", "", NARROW_HOST)
         made = linking.Linker(self.room, NARROW_HOST).link(library, "_start") if library else None
         status = subprocess.run([made]).returncode if made else "that no program is linked with"

@@ -1,5 +1,5 @@
-"""The tables of tools/data/rust: each text of the sources that is another one in Rust, and why. docs/RUST.md has them in short, and the
-package with their files."""
+"""The tables of tools/data/rust: each text of the sources that is another one in Rust, and why. docs/RUST.md has them in short,
+and the package with their files."""
 import re
 from typing import NamedTuple
 

@@ -1,4 +1,5 @@
-"""The sources of tools/data/rust/wrong.txt: the tool must end with the place of each that is wrong, and not write a package of it."""
+"""The sources of tools/data/rust/wrong.txt: the tool must end with the place of each that is wrong, and not write a package of
+it."""
 import pathlib
 
 from lib import data, findings
