@@ -23,11 +23,10 @@ import pathlib
 import shutil
 import tempfile
 
-from lib import measures
+from lib import findings, measures
 from lib.c import archive, callers, cases, costs, header, huge as huge_options, leaves
 from lib.c.calling import CRATE, DATA, VALGRIND, by_program, by_python, caller_in_c, compare, here, rooms, run, under_valgrind, without_detail
 from lib.c.random_cases import RandomCases
-from lib.findings import ended
 
 LEAST_CASES, LEAST_HUGE = 2_000, 5_000
 # What all calls with huge options may take together from C: they take less than one.
@@ -43,7 +42,7 @@ def at_random(faults, program, seed):
     made = RandomCases(seed)
     tried = [(case, room) for case in made.made(RANDOM_CASES) for room in made.rooms(case)]
     if len(tried) < LEAST_RANDOM or {case.call for case, _ in tried} != set(cases.CALLS) - {"version"}:
-        faults.append("only %d random calls, of %d names" % (len(tried), len({case.call for case, _ in tried})))
+        faults.append(findings.case("random calls", "%d, of each name" % LEAST_RANDOM, "%d" % len(tried)))
     by_program(faults, program, tried, how="C, at random")
     some = tried[::RANDOM_EACH]
     if shutil.which("valgrind"):
@@ -73,7 +72,8 @@ def cases_of_tables(faults):
     made, huge = [*cases.all_cases(), *leaves.all_cases()], huge_options.huge_options()
     missing = set(cases.CALLS) - {case.call for case in made}
     if missing or len(made) < LEAST_CASES or len(huge) < LEAST_HUGE:
-        faults.append("only %d cases, %d with huge options, and none of %s" % (len(made), len(huge), sorted(missing)))
+        got = "%d, %d, and none of %s" % (len(made), len(huge), sorted(missing))
+        faults.append(findings.case("cases", "%d, and %d with huge options" % (LEAST_CASES, LEAST_HUGE), got))
     return made, huge, [(case, room) for case in made for room in rooms(case)], [(case, room) for case in huge for room in rooms(case)]
 
 
@@ -138,5 +138,5 @@ def main(given):
         compare(faults, "Python", tried, (by_python(loaded, case, size) for case, size in tried))
         by_pages = callers.by_callers(faults, room, library, shared, made)
     counts = len(made) + len(huge), len(cases.CALLS), by_all, from_rust, by_valgrind + len(some), randomly, steps, by_pages
-    return ended((fault[:600] for fault in faults), "%d cases of %d calls: %d calls from C and as many from Python, %d from Rust, %d under valgrind, %d at random, "
+    return findings.ended((fault[:600] for fault in faults), "%d cases of %d calls: %d calls from C and as many from Python, %d from Rust, %d under valgrind, %d at random, "
                  "the steps of %d, %d by the page's callers" % counts)

@@ -56,15 +56,15 @@ class Refused:
             given.setdefault(int(line), []).append(message)
         found = [fault for line in sorted({*given, *self.lines}) for fault in self.compare(line, given.get(line, []))]
         if not given:
-            found.append("%s gave no message:\n%s" % (self.name, said))
+            found.append(findings.case(self.name, "messages", "none:\n" + said))
         if MORE.search(said):
-            found.append("%s gave more messages than the compiler shows" % self.name)
+            found.append(findings.case(self.name, "as many messages as the compiler shows", "more"))
         return found
 
     def compare(self, line, messages):
         snippet = self.lines.get(line)
         if snippet is None:
-            yield "line %d of %s gave\n%s" % (line, self.name, "\n".join(messages))
+            yield findings.case("line %d of %s" % (line, self.name), "no message", "\n".join(messages))
         elif sorted(messages) != snippet.messages:
             wanted, got = ("\n%s\n" % "\n".join(it) for it in (snippet.messages, messages or ["no message"]))
             yield findings.case("%s: `%s`" % (snippet.place, snippet.code), wanted, got)

@@ -23,6 +23,7 @@ from lib.findings import ended
 from lib.top import TOP
 
 CRATES = TOP / "tools" / "data" / "crates"
+TESTS = "tools/data/crates/tests:1"
 
 
 def make_room(room):
@@ -41,11 +42,11 @@ def missing_rows(files):
     named = set(printers.named_in(text))
     found = printers.printers(TOP)
     for name in sorted(found - named):
-        yield "no row of tools/data/crates/tests says how often %s prints a value" % name
+        yield "%s: no row says how often %s prints a value" % (TESTS, name)
     for name in sorted(named - found):
-        yield "a row of tools/data/crates/tests names %s, which prints no value or isn't there" % name
+        yield "%s: a row names %s, which prints no value or isn't there" % (TESTS, name)
     if not found:
-        yield "no implementation was found that prints another type's value"
+        yield "crates:1: no implementation was found that prints another type's value"
 
 
 def main(given):

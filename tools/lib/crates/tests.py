@@ -71,7 +71,7 @@ class Tests:
         said = run(self.room, "tests", ["--test", "--fail-alloc", self.refused])
         given = dict(results_in(said))
         if not given:
-            return ["the crate of tests didn't run:\n" + said]
+            return [findings.case("the crate of tests", "results", "none:\n" + said)]
         return [fault for test in sorted({*self.wanted, *given}) for fault in self.compare(test, given)]
 
     def compare(self, test, given):
