@@ -37,7 +37,7 @@ STEPS = (
     Step("texts", BUILT, "lib.model.step", "each call on random texts and texts of each shape, against a model; memory and steps", (), ("cc", "valgrind")),
     Step("costs", UNPROVED, "lib.costs.step", "what printing and parsing of each type takes; each allocation of parsing is refused", ("rt", "cc"), ("valgrind",)),
     Step("macros", UNPROVED, "lib.crates.step", "each form of each macro, lines that must not compile, tests that must fail, how often values print", ("rt",)),
-    Step("stack", UNPROVED, "lib.bench.stack", "stack of calls that print or parse, and of built programs, and their bytes of code",
+    Step("stack", UNPROVED, "lib.bench.stack", "stack of calls that print or parse, and of built programs, and bytes of code",
          ("rt", "objdump", "nm", "setarch")),
     Step("logs", BUILT, "lib.log_model.step", "random logs through ufmt_lines, against a model, with each read and write", (), ("valgrind",)),
     Step("floats", UNPROVED, "lib.floats.step", "texts of floats as rustc prints them, their steps and stack", ("rt", "rustc"), ("valgrind", "objdump")),

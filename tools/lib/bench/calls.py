@@ -17,7 +17,8 @@ LEAST = "-2147483648"
 # What is called, and with which number.
 CALLS = (("text", "text", "0"), ("i32 of 0", "number", "0"), ("i32 of least", "number", LEAST), ("u64 of 19 digits", "u64", "0"),
          ("u128 of most", "u128", "0"), ("struct of zeros", "struct", "0"), ("struct of least", "struct", LEAST),
-         ("pretty of zeros", "pretty", "0"), ("pretty of least", "pretty", LEAST), ("{:#010x} of 0", "hex", "0"), ("list of 100 u64", "list", "0"))
+         ("pretty of zeros", "pretty", "0"), ("pretty of least", "pretty", LEAST), ("{:#010x} of 0", "hex", "0"),
+         ("list of 100 u64", "list", "0"))
 # Debian's packages librust-*-dev put their crates here; else they are those that cargo has.
 DEBIAN = pathlib.Path("/usr/share/cargo/registry")
 SOURCE = '[source.crates-io]\nreplace-with = "debian"\n[source.debian]\ndirectory = "%s"\n'

@@ -40,7 +40,8 @@ VALUES = ((b"Tree { size: 1, children: [", b"Tree { size: 1, children: [] }", b"
           (b"Node { value: 1, next: Some(", b"Node { value: 1, next: None }", b") }"))
 # The words of a run, whether its text has its length before it, the shapes of its texts, and the levels of each; its program's
 # name.
-RUNS = (("ufmt_conv", ["pretty"], False, DOCUMENTS, 1), ("probe_model", [], True, DOCUMENTS, 1), ("probe_model", [], True, VALUES, 2))
+RUNS = (("ufmt_conv", ["pretty"], False, DOCUMENTS, 1), ("probe_model", [], True, DOCUMENTS, 1),
+        ("probe_model", [], True, VALUES, 2))
 
 
 def past_bounds(room, programs):
@@ -71,7 +72,8 @@ def table(room, _given):
 def runs(words, text, size):
     """Whether the program ends well with this much stack."""
     limit = functools.partial(resource.setrlimit, resource.RLIMIT_STACK, (size, size))
-    ran = subprocess.run(["setarch", "-R", *words], input=text, stdout=subprocess.PIPE, stderr=subprocess.DEVNULL, preexec_fn=limit, env={})
+    ran = subprocess.run(["setarch", "-R", *words], input=text, stdout=subprocess.PIPE, stderr=subprocess.DEVNULL, preexec_fn=limit,
+                         env={})
     return ran.returncode == 0 and b"FAULT" not in ran.stdout
 
 

@@ -74,7 +74,8 @@ def written(name, counts, words):
 
 
 SHARED = {"{written}": "`x generate` writes this file: change tools/lib/by_count."}
-STRUCT = {**SHARED, "{block}": "struct", "{list}": "Fields", "{same}": "SameFields", "{row}": "fields_of", "{compared}": "_ _ _ _ _ _"}
+STRUCT = {**SHARED, "{block}": "struct", "{list}": "Fields", "{same}": "SameFields", "{row}": "fields_of",
+          "{compared}": "_ _ _ _ _ _"}
 TUPLE = {**SHARED, "{block}": "tuple", "{list}": "Documents", "{same}": "SameDocuments", "{row}": "documents", "{compared}": "_ _ _ _ _"}
 EACH = range(1, MOST + 1)
 # The calls that parse a kind of block are in two files, with these numbers of fields.

@@ -23,8 +23,8 @@ SECONDS = 300
 UNDER_VALGRIND = 60
 VALGRIND = ["valgrind", "--quiet", "--error-exitcode=9", "--leak-check=full", "--errors-for-leak-kinds=all"]
 # A float is made of its bits.
-TYPES = {**{name: getattr(ctypes, "c_" + name.replace("_t", "")) for name in ("uint8_t", "uint32_t", "uint64_t", "int64_t", "bool")},
-         "size_t": ctypes.c_size_t, "double": lambda bits: ctypes.c_double(*struct.unpack("<d", struct.pack("<Q", bits)))}
+TYPES = {"uint8_t": ctypes.c_uint8, "uint32_t": ctypes.c_uint32, "uint64_t": ctypes.c_uint64, "int64_t": ctypes.c_int64,
+         "bool": ctypes.c_bool, "size_t": ctypes.c_size_t, "double": lambda bits: ctypes.c_double(*struct.unpack("<d", struct.pack("<Q", bits)))}
 STRUCTS = {name: type("ufmt_%s_style" % name, (ctypes.Structure,), {"_fields_": [("member_%d" % at, TYPES[kind]) for at, kind in enumerate(kinds)]})
            for name, kinds in cases.STYLES.items()}
 # What the calls return that take no detail.
@@ -88,7 +88,8 @@ def wanted_of(case, room):
         return 0, DETAIL, (case.number % 2**64).to_bytes(cases.NUMBER_SIZE, "little"), False
     if case.text is None:
         left = bytes([FILL]) * cases.NUMBER_SIZE if cases.leaves_number(case) else filled
-        return case.result, DETAIL if case.detail is None else case.detail, left, case.result == cases.NO_TEXT and cases.has_buffer(case)
+        detail, is_any = DETAIL if case.detail is None else case.detail, case.result == cases.NO_TEXT and cases.has_buffer(case)
+        return case.result, detail, left, is_any
     length = len(case.text) if case.length is None else case.length
     result = length if length <= len(filled) else cases.FULL
     return result, min(length, cases.SIZE_MAX), case.text[: len(filled)] + filled[length:], False

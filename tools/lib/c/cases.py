@@ -149,7 +149,8 @@ def conversions():
 def as_rustc_printed():
     """The texts that rustc printed, both ways, where a class has the value: the same rows by rustc's own words."""
     listed = {(reason.row, reason.text_class): reason.outcomes for reason in expected_rows.reasons(EXPECTED / "reasons")}
-    for row, text_class in ((row, text_class) for row in expected_rows.rows(EXPECTED / "rows.txt") for text_class in (TOKEN, DEBUG)):
+    rows = expected_rows.rows(EXPECTED / "rows.txt")
+    for row, text_class in ((row, text_class) for row in rows for text_class in (TOKEN, DEBUG)):
         outcomes = listed.get((row.name, "debug" if text_class == DEBUG else "token"), ("same", "same"))
         texts = row.plain.encode(), row.pretty.encode()
         for outcome, mode, given, wanted in zip(outcomes, ("pretty", "plain"), texts, texts[::-1]):
@@ -214,7 +215,8 @@ def refusals():
     """Inputs that aren't UTF-8; options, classes and modes that mean nothing; and sizes of structs that no version had."""
     for data in NOT_TEXTS:
         asked = [("quote", data), ("in_column", data, style("column", 8, 32, 0))]
-        asked += [(call, *texts) for call in ("difference", "first_difference") for texts in ((data, b"a"), (b"a", data), (data, b"abcdef\xff"))]
+        pairs = (data, b"a"), (b"a", data), (data, b"abcdef\xff")
+        asked += [(call, *texts) for call in ("difference", "first_difference") for texts in pairs]
         yield from (Case(call, tuple(its), result=NOT_UTF8, detail=valid_up_to(data)) for call, *its in asked)
     bad = [(call, 7, style("hex", 4, pad, 0, 0)) for pad in (128, 255) for call in ("hexadecimal", "binary")]
     bad += [("in_column", data, style("column", 8, fill, align)) for data in (b"a", b"\xff")
@@ -224,7 +226,8 @@ def refusals():
         bad += [("dump", b"abc", (size, 16, 1, 0, 1, 1)), ("in_column", b"a", (size, 8, 32, 0))]
     bad += [("convert", text_class, mode, data) for data in (b"", b"1", b"[1]")
             for text_class, mode in ((2, 0), (0, 2), (2, 2), (255, 1), (1, 256), (2**32 - 1, 0), (1, 2**31))]
-    bad += [("field", text_class, b"S { x: 1 }", name) for text_class in (2, 3, 255, 256, 2**31, 2**32 - 1) for name in (b"x", b"", b"\xff")]
+    classes = 2, 3, 255, 256, 2**31, 2**32 - 1
+    bad += [("field", text_class, b"S { x: 1 }", name) for text_class in classes for name in (b"x", b"", b"\xff")]
     yield from (Case(call, tuple(its), result=BAD_OPTION) for call, *its in bad)
     yield from (Case("is_text", tuple(its), result=0) for call, *its in bad if call == "convert")
     first, second, third = map(int, top.version().split("."))

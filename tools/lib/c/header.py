@@ -23,7 +23,8 @@ TOLD = HEADER.relative_to(TOP)
 # A call or a constant, and a member of a struct.
 DECLARED, MEMBER = re.compile(r"(?:\w+ (?=ufmt_\w+\()|#define (?=UFMT_\w+ +[\d(]))(\w+)"), re.compile(r" {4}\w+ (\w+);")
 # These have the comment of the one above them, or of the member that they are for.
-WITH_ANOTHER = ("ufmt_signed", "ufmt_parse_signed", "ufmt_parse_float", "UFMT_DEBUG", "UFMT_PRETTY", "UFMT_LEFT", "UFMT_CENTER", "UFMT_RIGHT")
+WITH_ANOTHER = ("ufmt_signed", "ufmt_parse_signed", "ufmt_parse_float", "UFMT_DEBUG", "UFMT_PRETTY",
+                "UFMT_LEFT", "UFMT_CENTER", "UFMT_RIGHT")
 
 
 def laid_out(structs, constants):

@@ -25,7 +25,8 @@ import tempfile
 
 from lib import findings, measures
 from lib.c import archive, callers, cases, costs, header, huge as huge_options, leaves
-from lib.c.calling import CRATE, DATA, VALGRIND, by_program, by_python, caller_in_c, compare, here, rooms, run, under_valgrind, without_detail
+from lib.c.calling import (CRATE, DATA, VALGRIND, by_program, by_python, caller_in_c, compare, here, rooms, run, under_valgrind,
+                           without_detail)
 from lib.c.random_cases import RandomCases
 
 LEAST_CASES, LEAST_HUGE = 2_000, 5_000
@@ -138,5 +139,5 @@ def main(given):
         compare(faults, "Python", tried, (by_python(loaded, case, size) for case, size in tried))
         by_pages = callers.by_callers(faults, room, library, shared, made)
     counts = len(made) + len(huge), len(cases.CALLS), by_all, from_rust, by_valgrind + len(some), randomly, steps, by_pages
-    return findings.ended((fault[:600] for fault in faults), "%d cases of %d calls: %d calls from C and as many from Python, %d from Rust, %d under valgrind, %d at random, "
-                 "the steps of %d, %d by the page's callers" % counts)
+    return findings.ended((fault[:600] for fault in faults), "%d cases of %d calls: %d calls from C and as many from Python, %d from Rust, "
+                          "%d under valgrind, %d at random, the steps of %d, %d by the page's callers" % counts)

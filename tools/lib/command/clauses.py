@@ -44,7 +44,8 @@ def changes(old, new):
         if kind == "ensures" and (kind, text) not in after:
             yield "ensures %s was %s" % (name, text)
             yield from ("    is now %s" % now for other, its, now in new.texts if (other, its) == ("ensures", name))
-    yield from ("requires %s, new: %s" % (name, text) for kind, name, text in new.texts if kind == "requires" and (kind, text) not in before)
+    asked = [(name, text) for kind, name, text in new.texts if kind == "requires" and (kind, text) not in before]
+    yield from ("requires %s, new: %s" % it for it in asked)
 
 
 def compared(old, new):

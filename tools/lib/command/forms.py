@@ -56,7 +56,8 @@ class Form:
         if ran.returncode == 0:
             return "not refused"
         last = "\n".join(ran.stdout.splitlines()[-20:])
-        return next(("nothing says `%s`; last was said:\n%s" % (words, last) for words in self.says if words not in ran.stdout), None)
+        missing = [words for words in self.says if words not in ran.stdout]
+        return "nothing says `%s`; last was said:\n%s" % (missing[0], last) if missing else None
 
 
 def make_room(room, forms):

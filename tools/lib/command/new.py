@@ -20,7 +20,8 @@ from lib.data import DATA
 # What the line of a crate has for each, and the folder of a library of this repository.
 NEEDS = {"parse": ("ufmt_parse", "ufmt", "ufmt_core"), "values": ("ufmt_values", "ufmt"), "snapshot": ("ufmt_snapshot", "ufmt"),
          "doc": ("ufmt_doc", "ufmt")}
-# A line of a first file in tools/data/new begins a part, which is taken if the crate does each of these words, or not what has a `-` before it.
+# A line of a first file in tools/data/new begins a part, which is taken if the crate does each of these words, or not what has
+# a `-` before it.
 PART = re.compile(r"// \[(.*)\]$")
 
 

@@ -19,7 +19,8 @@ KINDS = (steps.SOURCES, steps.UNPROVED, steps.BUILT)
 def epilog():
     lines = []
     for kind in KINDS:
-        lines += ["", "Of %s:" % kind, *("  %-10s %s" % (step.name, step.told) for step in sorted(steps.STEPS) if step.kind == kind)]
+        its = [step for step in sorted(steps.STEPS) if step.kind == kind]
+        lines += ["", "Of %s:" % kind, *("  %-10s %s" % (step.name, step.told) for step in its)]
     return "\n".join(lines).strip() + "\n\nBuilt programs are those that `rt ci` leaves, or `rt run` in each program's crate."
 
 
@@ -46,7 +47,8 @@ def words_of(given):
 def say_missing(tried):
     """Says which programs this machine hasn't, and what isn't tried for want of each."""
     for name in needs.missing(sorted({name for step in tried for name in (*step.needs, *step.uses)})):
-        kinds = {"skipped": [step.name for step in tried if name in step.needs], "in part": [step.name for step in tried if name in step.uses]}
+        kinds = {"skipped": [step.name for step in tried if name in step.needs],
+                 "in part": [step.name for step in tried if name in step.uses]}
         say("%s: %s" % (needs.told(name), "; ".join("%s: %s" % (kind, ", ".join(its)) for kind, its in kinds.items() if its)))
 
 

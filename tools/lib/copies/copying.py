@@ -13,8 +13,8 @@ import sys
 from lib import top
 
 COPIED = "ufmt/COPIED"
-HEAD = ("# What `x new` and `x update` copied here: lines of crates.txt, and files by their SHA-256. A file that was changed since is never "
-        "replaced.\n")
+HEAD = ("# What `x new` and `x update` copied here: lines of crates.txt, and files by their SHA-256. A file that was changed since "
+        "is never replaced.\n")
 # What a user needs of a crate. Wrong bodies and what tells of them stay here.
 PARTS = ("src", "specs", "proofs", "CALLING.md")
 LICENCES = ("LICENSE-APACHE", "LICENSE-MIT")

@@ -30,7 +30,8 @@ def write(room, name, files):
 def run(room, name, arguments):
     """Runs `rt try` on the crate, and returns all that it says. On a busy machine a program may take minutes."""
     words = ["rt", "try", "--seconds", str(SECONDS), *arguments]
-    ran = subprocess.run(words, cwd=room / "crates" / name, stdin=subprocess.DEVNULL, stdout=subprocess.PIPE, stderr=subprocess.STDOUT)
+    ran = subprocess.run(words, cwd=room / "crates" / name, stdin=subprocess.DEVNULL, stdout=subprocess.PIPE,
+                         stderr=subprocess.STDOUT)
     return ran.stdout.decode(errors="replace")
 
 

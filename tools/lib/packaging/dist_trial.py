@@ -24,7 +24,8 @@ from lib.top import TOP, X, version
 FAILING_KIT = '#!/bin/sh\n[ "$1" != %s ]\n'
 # A kit that proves all. It keeps where it is called, its words, and how many bytes it can read.
 KEEPING_KIT = '#!/bin/sh\necho "$PWD: $*, $(wc -c)" >>"$0.asked"\n'
-PROVED = "import sys; sys.path.insert(0, %r); from lib.packaging import folder; programs, library = folder.proved(); print(*programs, library)"
+PROVED = ("import sys; sys.path.insert(0, %r); from lib.packaging import folder; programs, library = folder.proved(); "
+          "print(*programs, library)")
 HEAD = "HEAD"
 # The commits that BUILD has, one after another: of a copy without git, of a tree, of one with a changed file, with a new one, of
 # another tree of the same repository, and of a folder in one.

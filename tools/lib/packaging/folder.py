@@ -54,7 +54,8 @@ def share(library, folder):
 
 def made(folder, programs, library, is_proved):
     """Puts the built programs, the archive and what belongs to them into the folder, which is empty or not there."""
-    told = {"version": version(), "kit": output_of(["rt", "version"]).strip(), "commit": commit(), "proved": "yes" if is_proved else "no"}
+    told = {"version": version(), "kit": output_of(["rt", "version"]).strip(), "commit": commit(),
+            "proved": "yes" if is_proved else "no"}
     copied = {"lib/%s.a" % LIBRARY: library, "include/ufmt.h": CRATE / "include" / "ufmt.h"}
     copied.update(("share/doc/ufmt/" + licence, TOP / licence) for licence in ("LICENSE-APACHE", "LICENSE-MIT"))
     for program in programs:

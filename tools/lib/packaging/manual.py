@@ -33,7 +33,8 @@ def texts_of_page(page, section):
     fonts."""
     parts = page.split(".SH %s\n" % section)[1].split(".SH ")[0].split(".TP\n")[1:]
     found = filter(None, (re.fullmatch(r'\.BI? (\S+)(?: " \w+")?\n(.*?)(?:\.PP\n.*)?', part, re.DOTALL) for part in parts))
-    return {it[1].replace("\\-", "-"): " ".join(re.sub(r"(?m)^\.[BIR]+ ", "", it[2]).splitlines()).replace("\\-", "-") for it in found}
+    texts = {it[1]: " ".join(re.sub(r"(?m)^\.[BIR]+ ", "", it[2]).splitlines()) for it in found}
+    return {word.replace("\\-", "-"): text.replace("\\-", "-") for word, text in texts.items()}
 
 
 def numbers_in(text):

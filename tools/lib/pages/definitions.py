@@ -22,7 +22,7 @@ IMPORT = re.compile(r"^\s*(?:ghost |pub )?use Rattle\.(\w+)\.specs\.([\w.]+)\.\{
 BEGINS = re.compile(r"^ *(?:(?:abbrev|unfoldable|pub|inductive|data) )*(record )?([\w◌]\S*) ?(.*)$")
 # Words of the page that stand for many calls.
 MANY_CALLS = {
-    "each builder call": ("formatter/builder.rt", *("core/src/%s.rt" % name for name in ("list", "set", "map", "structs", "tuple"))),
+    "each builder call": ("formatter/builder.rt", *("core/src/%s.rt" % name for name in "list set map structs tuple".split())),
     "the calls of `layout`": ("core/src/layout.rt",),
 }
 
@@ -68,14 +68,16 @@ def crate_of(path):
 
 def promised(pattern):
     """The files of the crates of this repository, but for tests. A user's crate may stand beside these."""
-    return [path for path in sorted(CRATES.glob(pattern)) if is_ours(crate_of(path)) and not {"tests", "tests.rt"} & set(path.parts)]
+    ours = [path for path in sorted(CRATES.glob(pattern)) if is_ours(crate_of(path))]
+    return [path for path in ours if not {"tests", "tests.rt"} & set(path.parts)]
 
 
 class Tree:
     """The definitions of specs/, each with its identifiers, and the calls of src/."""
 
     def __init__(self):
-        files, sources = [path for path in promised("*/specs/**/*.antt") if path.stem not in ("Lib", "Private")], promised("*/src/**/*.rt")
+        files = [path for path in promised("*/specs/**/*.antt") if path.stem not in ("Lib", "Private")]
+        sources = promised("*/src/**/*.rt")
         texts = {path: path.read_text() for path in files + sources}
         self.definitions = {(path, name): set(re.findall(r"\w+", "\n".join(lines)))
                             for path in files for name, lines in definitions_of(texts[path]).items()}
@@ -84,7 +86,7 @@ class Tree:
         for path in files:
             self.files.setdefault("/".join(path.relative_to(CRATES).parts[2:]), []).append(path)
         self.calls = [call for path in sources for call in functions_of(path)]
-        self.names = {name for _, name in self.definitions} | {word for text in texts.values() for word in re.findall(r"\w+", text)}
+        self.names = {name for _, name in self.definitions}.union(*(re.findall(r"\w+", text) for text in texts.values()))
         self.imports = {path: imports_of(text) for path, text in texts.items()}
 
     def named(self, crate, file, name):
@@ -95,7 +97,8 @@ class Tree:
     def cited(self, path, identifiers):
         """The definitions that these identifiers mean in this file."""
         own = {(path, it) for it in identifiers if (path, it) in self.definitions}
-        brought = {self.named(*self.imports[path][it]) for it in identifiers if (path, it) not in own and it in self.imports[path]}
+        imports = self.imports[path]
+        brought = {self.named(*imports[it]) for it in identifiers if (path, it) not in own and it in imports}
         return own | brought - {None}
 
     def closed(self, keys):
@@ -199,7 +202,8 @@ def show_others(tree, text, headline):
         for path, name in sorted(rests_on(tree, places, lambda path: crate_of(path) in crates)[0] - headline) if places else ():
             names.setdefault(path, []).append(name)
         if places:
-            print("\n".join([title, *("  %s: %s" % (path.relative_to(CRATES), ", ".join(its)) for path, its in names.items()), ""]))
+            rows = ["  %s: %s" % (path.relative_to(CRATES), ", ".join(its)) for path, its in names.items()]
+            print("\n".join([title, *rows, ""]))
 
 
 def main(arguments):

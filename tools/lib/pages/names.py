@@ -66,7 +66,8 @@ def wrong_module(_page, crate, side, path, words):
     if file is None:
         return "there is no module Rattle.%s.%s%s" % (crate, side, path)
     text = file.read_text()
-    missing = [word for word in re.findall(r"[^\s,]+", words) if not re.search(r"(?<![\w◌-])%s(?![\w◌-])" % re.escape(word), text)]
+    named = re.findall(r"[^\s,]+", words)
+    missing = [word for word in named if not re.search(r"(?<![\w◌-])%s(?![\w◌-])" % re.escape(word), text)]
     return "Rattle.%s.%s%s has no %s" % (crate, side, path, missing[0]) if missing else None
 
 

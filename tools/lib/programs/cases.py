@@ -31,8 +31,8 @@ MESSAGE = 64 * 1024
 # The number of the user who owns nothing.
 NOBODY = 65534
 # Variables that other programs look at.
-OTHERS = ("NO_COLOR CLICOLOR CLICOLOR_FORCE FORCE_COLOR COLUMNS LINES TERM LANG LC_ALL TZ PAGER CI DEBUG POSIXLY_CORRECT RUST_LOG RUST_BACKTRACE "
-          "HOME PATH TMPDIR UFMT_LINES UFMT_LINES_LONGER_THAN").split()
+OTHERS = ("NO_COLOR CLICOLOR CLICOLOR_FORCE FORCE_COLOR COLUMNS LINES TERM LANG LC_ALL TZ PAGER CI DEBUG POSIXLY_CORRECT RUST_LOG "
+          "RUST_BACKTRACE HOME PATH TMPDIR UFMT_LINES UFMT_LINES_LONGER_THAN").split()
 
 
 class Ran(NamedTuple):
@@ -90,15 +90,16 @@ class Cases:
         """Judges a run: the words, the text on standard input, the status, the output, the line on standard error, and what is
         special."""
         words, text, status, output, line, special = row + ["%", "%", ""][len(row) - 3 :]
-        given, name = dict(it.partition("=")[::2] for it in special.split()), "%s: %s %s, of %s" % (part, words, special, text[:40])
+        name, given = "%s: %s %s, of %s" % (part, words, special, text[:40]), dict(it.partition("=")[::2] for it in special.split())
         ran = self.run_row(self.arguments(words), self.filled(text), given, len(self.filled(output)))
         self.judge(name, ran, int(status), self.filled(output), self.filled(line))
 
     def run_row(self, arguments, text, given, size):
         if "leaves" in given:
             return self.leaves(arguments, text, size, "endless" in given, "ignores" in given)
-        preloaded = {"LD_PRELOAD": str(self.meter.library), "COUNTS_READ": "1", "COUNTS_WRITE": "1"} if "bytewise" in given else {}
-        variables = {**dict.fromkeys(OTHERS if "others" in given else (), given.get("others")), **preloaded}
+        variables = dict.fromkeys(OTHERS if "others" in given else (), given.get("others"))
+        if "bytewise" in given:
+            variables.update({"LD_PRELOAD": str(self.meter.library), "COUNTS_READ": "1", "COUNTS_WRITE": "1"})
         limits = {"limit": int(given.get("limit", 0)), "files_limit": int(given.get("files", 0))}
         return self.run(*arguments, text=text, source=given.get("in"), sink=given.get("out"), error=given.get("err"),
                         as_nobody="nobody" in given, variables=variables, **limits)
@@ -128,8 +129,8 @@ class Cases:
 
         program, taken_in = self.for_all() if is_other else self.program, {"input": text} if source is None else {"stdin": streams[0]}
         try:
-            return ended([program, *arguments], **taken_in, stdout=streams[1], stderr=streams[2], cwd=self.room, preexec_fn=prepared,
-                         env=dict(os.environ, **(variables or {})))
+            return ended([program, *arguments], **taken_in, stdout=streams[1], stderr=streams[2], cwd=self.room,
+                         preexec_fn=prepared, env=dict(os.environ, **(variables or {})))
         finally:
             for file in (file for one, its in zip(given, files) if isinstance(one, str) and one != CLOSED for file in its):
                 os.close(file)

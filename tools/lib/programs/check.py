@@ -82,10 +82,12 @@ class Check(unittest.TestCase):
         for crate, (root, below) in CALLS.items():
             for paths in ([], ["types", "types::Pair::swap"]):
                 run(self.command(self.crates / crate / "src", crate, *paths))
-                externs = [word for name in ("core", "std") for word in ("--extern", "%s=%s/rlibs/%s.rlib" % (name, self.kit, name))]
-                wanted = [str(self.crates / crate), "check", "--crate-name", crate, root, *externs, "-L", "dependency=%s/rlibs" % self.kit,
-                          "--antt-project", "%s/rattle/logic/antt-project.json" % self.kit, "--logic-built", "%s/logic_built" % self.kit,
-                          "--jobs", str(os.cpu_count()), "--incremental", "%s/out/trusting" % (self.crates / crate)]
+                wanted = [str(self.crates / crate), "check", "--crate-name", crate, root]
+                for name in ("core", "std"):
+                    wanted += ["--extern", "%s=%s/rlibs/%s.rlib" % (name, self.kit, name)]
+                wanted += ["-L", "dependency=%s/rlibs" % self.kit, "--antt-project", "%s/rattle/logic/antt-project.json" % self.kit,
+                           "--logic-built", "%s/logic_built" % self.kit,
+                           "--jobs", str(os.cpu_count()), "--incremental", "%s/out/trusting" % (self.crates / crate)]
                 wanted += [word for library in below for word in ("--lib", library)] + [word for path in paths or [crate] for word in ("--only", path)]
                 with self.subTest(crate, paths=paths):
                     self.assertEqual(wanted, self.checker.with_name("rattle.asked").read_text().splitlines())
@@ -121,7 +123,8 @@ class Check(unittest.TestCase):
         without = self.room / "without"
         without.mkdir()
         (without / "python3").symlink_to(sys.executable)
-        self.says(run(self.command(self.room, "small", path=without)), 1, error=b"x check: no rattle on the path (the Rattle kit has it)\n")
+        said = run(self.command(self.room, "small", path=without))
+        self.says(said, 1, error=b"x check: no rattle on the path (the Rattle kit has it)\n")
 
     def test_an_end_before_the_verdict(self):
         """Of the checker nothing is left."""

@@ -23,11 +23,12 @@ LONG_PRETTY = b"got [\n    1,\n    12345678901234567890,\n    234567890123456789
 # A line whose texts have many spaces.
 DEPTH = 250
 DEEP = b"[" * DEPTH + b"x, y" + b"]" * DEPTH + b"\n"
-DEEP_LINES = [*((at, b"[") for at in range(DEPTH)), (DEPTH, b"x,"), (DEPTH, b"y,"), *((at, b"],") for at in range(DEPTH - 1, 0, -1)), (0, b"]")]
+DEEP_LINES = [*((at, b"[") for at in range(DEPTH)), (DEPTH, b"x,"), (DEPTH, b"y,"),
+              *((at, b"],") for at in range(DEPTH - 1, 0, -1)), (0, b"]")]
 # Of the table.
 TEXTS = {"plain": PLAIN, "pretty": PRETTY, "help": HELP, "version": VERSION, "usage": USAGE.encode(), "line": LONG, "cut": LONG[:20], "rest": LONG[20:],
-         "group": LONG_PRETTY, "group-cut": LONG_PRETTY[:20], "group-rest": LONG_PRETTY[20:], "long-name": b"b" * 300, "deep": DEEP,
-         "deep-pretty": b"".join(b"    " * at + text + b"\n" for at, text in DEEP_LINES)}
+         "group": LONG_PRETTY, "group-cut": LONG_PRETTY[:20], "group-rest": LONG_PRETTY[20:], "long-name": b"b" * 300,
+         "deep": DEEP, "deep-pretty": b"".join(b"    " * at + text + b"\n" for at, text in DEEP_LINES)}
 # Logs by their names, each with what it becomes, and those that stay, in each mode.
 LOGS = data.named("programs/logs.txt")
 

@@ -37,5 +37,6 @@ EXAMPLES = {"example_parse_program": of_table("parse.txt"), "example_print_progr
 def main(given):
     if given.program:
         return TRIED[pathlib.Path(given.program).name.partition(".")[0]](given.program)
-    runs = [(TRIED[name], name + build) for name in TRIED for build in ("", ".by-rattle")] + [(main, name) for name, main in EXAMPLES.items()]
+    runs = [(main, name + build) for name, main in TRIED.items() for build in ("", ".by-rattle")]
+    runs += [(main, name) for name, main in EXAMPLES.items()]
     return max(main(TOP / "crates" / name.partition(".")[0] / "out" / name) for main, name in runs)

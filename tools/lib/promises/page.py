@@ -29,7 +29,8 @@ class Promise(NamedTuple):
 
     def shown(self, edits):
         crates = [None, *(crate for crate, _, _ in self.functions)]
-        told = ["`%s%s`" % ("" if crate == before else crate + "::", short(name)) for before, (crate, name, _) in zip(crates, self.functions)]
+        told = ["`%s%s`" % ("" if crate == before else crate + "::", short(name))
+                for before, (crate, name, _) in zip(crates, self.functions)]
         words = sorted({word for _, _, function in self.functions for word in defined(function)})
         clauses = " (%s)" % ", ".join("`%s`" % name for name in self.clauses) if self.clauses else ""
         by = ", by " + ", ".join("`%s`" % word for word in words) if words else ""

@@ -35,7 +35,8 @@ def sizes(tried, features, profile, target, ufmt):
     linker = linking.Linker(tried.room, target)
     for name in calls.PEER_SIZES if library else ():
         told = ", ".join("%s %s" % (by, linker.size(library, "%s_%s" % (by, name))) for by in names)
-        print("%-12s bytes        %-16s %s; opt-level %s, %s" % (features or "tested", name, told, step.LEVELS[profile], target), flush=True)
+        shown = features or "tested", name, told, step.LEVELS[profile], target
+        print("%-12s bytes        %-16s %s; opt-level %s, %s" % shown, flush=True)
 
 
 def counts(tried, features, profile, told):

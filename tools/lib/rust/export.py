@@ -47,7 +47,8 @@ def of_workspace():
 
 def of_packages(ours):
     """The manifest of each package, and the file of what its sources use of `proved`."""
-    proved = {name + "/src/proved.rs": (DATA / "proved.rs").read_text() for name in PACKAGES if "\nmod proved;" in ours[name + "/src/lib.rs"]}
+    with_proved = [name for name in PACKAGES if "\nmod proved;" in ours[name + "/src/lib.rs"]]
+    proved = {name + "/src/proved.rs": (DATA / "proved.rs").read_text() for name in with_proved}
     return {**proved, **{name + "/Cargo.toml": manifest(name) for name in PACKAGES}}
 
 

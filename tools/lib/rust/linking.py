@@ -27,7 +27,8 @@ SET = {"RUSTC_BOOTSTRAP": "1", "CFG_CARGO_FEATURES": "", "CFG_OPT_LEVEL": "3", "
 
 def run(words, **how):
     """What a command says on both outputs, or None if it fails."""
-    ran = subprocess.run(list(map(str, words)), stdout=subprocess.PIPE, stderr=subprocess.STDOUT, text=True, errors="replace", **how)
+    ran = subprocess.run(list(map(str, words)), stdout=subprocess.PIPE, stderr=subprocess.STDOUT, text=True, errors="replace",
+                         **how)
     return ran.stdout if ran.returncode == 0 else None
 
 

@@ -5,8 +5,8 @@ from lib.contracts.source import Edits, Fault, Source
 from lib.rust import ghost
 from lib.rust.table import UNSAFE, rows
 
-KEYWORDS = set("as break const crate dyn else enum fn for if impl in let loop match mod move mut pub ref return static struct trait type unsafe use "
-               "where while".split())
+KEYWORDS = set("as break const crate dyn else enum fn for if impl in let loop match mod move mut pub ref return static struct trait type "
+               "unsafe use where while".split())
 # Imports of std, as patterns, and what they are in Rust. An import with an empty text is removed.
 IMPORTS = rows("imports")
 PATTERNS = rows("patterns")

@@ -40,8 +40,8 @@ class Trial:
 
     def cargo(self, *words, folder=None, **more):
         """Runs cargo with this in its environment. Its result is what cargo said, or None after a fault."""
-        ran = subprocess.run(["cargo", *words], cwd=folder or self.package, env={**self.environment, **more}, stdin=subprocess.DEVNULL,
-                             stdout=subprocess.PIPE, stderr=subprocess.STDOUT, text=True, errors="replace")
+        ran = subprocess.run(["cargo", *words], cwd=folder or self.package, env={**self.environment, **more}, text=True, errors="replace",
+                             stdin=subprocess.DEVNULL, stdout=subprocess.PIPE, stderr=subprocess.STDOUT)
         if ran.returncode:
             self.faults.append("cargo %s\n%s" % (" ".join(words), ran.stdout[-3000:]))
             return None
@@ -66,7 +66,8 @@ class Trial:
             print("no valgrind here, so it isn't asked")
             return
         runner = {"CARGO_TARGET_%s_RUNNER" % HOST.upper().replace("-", "_"): "valgrind --quiet --error-exitcode=9"}
-        self.cargo("test", "--quiet", "-p", "ufmt_tests", "--test", "out_of_order", "--test", "refused_pieces", "--features", "proved", **runner)
+        tests = "--test", "out_of_order", "--test", "refused_pieces"
+        self.cargo("test", "--quiet", "-p", "ufmt_tests", *tests, "--features", "proved", **runner)
 
     def lints(self):
         """No warning by `cargo doc`, nor by clippy where it is there."""
@@ -113,7 +114,8 @@ class Trial:
         library, sample = self.library("calls", source, "release", "", target), names[::4]
         kept = sum(bool(linker.panics(library, name)) for name in sample) if library else 0
         if kept < len(sample) // 2:
-            self.faults.append(findings.case("programs that test an index without `proved`", "at least %d" % (len(sample) // 2), kept))
+            what = "programs that test an index without `proved`"
+            self.faults.append(findings.case(what, "at least %d" % (len(sample) // 2), kept))
         print("no panicking branch in %d calls for %s, at opt-level %s" % (len(names), target, "; ".join(LEVELS.values())), flush=True)
 
     def library_of_sizes(self, profile, features, target=HOST, peer=""):

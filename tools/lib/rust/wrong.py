@@ -9,7 +9,7 @@ from lib.rust import decisions, ghost, rewrite, table
 PATH = pathlib.Path("wrong.rt")
 # What goes wrong with the tables, and a part of what the tool says.
 TABLES = {
-    "a decision for a function that isn't there": (lambda: decisions.decided("put", "unsafe", PATH, "fn other() {}\n"), "no public function"),
+    "a decision for no function": (lambda: decisions.decided("put", "unsafe", PATH, "fn other() {}\n"), "no public function"),
     "a text of the table that isn't there": (lambda: table.replaced(PATH, "fn f() {}", "fn g", "fn h", 1), "has this text 0 times"),
     "a file of the table that isn't there": (lambda: table.check_paths(set()), "isn't there"),
     "a substitution without its end": (lambda: list(table.substitutions("a.rt\nwhy: b\n<<<\nc\n===\nd\n")), "isn't of the form"),
@@ -37,7 +37,8 @@ def faults(room):
     """A line for each wrong source that the tool takes, and for each text that it changes."""
     rows = data.named("rust/wrong.txt")
     found = [(name, said.decode(), fault_of(through, text.decode())) for name, (text, said) in rows["refused"].items()]
-    found += [(name, said.decode(), fault_of(decided, room / PATH, text.decode())) for name, (text, said) in rows["undecided"].items()]
+    undecided = rows["undecided"].items()
+    found += [(name, said.decode(), fault_of(decided, room / PATH, text.decode())) for name, (text, said) in undecided]
     found += [(name, said, fault_of(work)) for name, (work, said) in TABLES.items()]
     yield from (findings.case(name, said, fault) for name, said, fault in found if said not in fault)
     for name, (text,) in rows["kept"].items():
