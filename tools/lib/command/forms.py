@@ -23,6 +23,7 @@ import shutil
 import subprocess
 import tempfile
 
+from lib.bench import build
 from lib.command.arguments import add_names
 from lib.findings import ended
 from lib.top import TOP, closure, listed
@@ -63,10 +64,7 @@ class Form:
 def make_room(room, forms):
     lines = listed()
     crates = closure([crate for form in forms for crate in form.uses if crate in lines], lines)
-    for crate in crates:
-        for part in KEPT:
-            if (TOP / "crates" / crate / part).is_dir():
-                shutil.copytree(TOP / "crates" / crate / part, room / "crates" / crate / part, symlinks=True)
+    build.copied(TOP, room, crates, KEPT)
     rows = {**{crate: lines[crate] for crate in crates}, **{form.name: form.uses for form in forms}}
     (room / "crates.txt").write_text("".join("%s: %s\n" % (crate, " ".join(below)) for crate, below in rows.items()))
     for form in forms:

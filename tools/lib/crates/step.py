@@ -13,11 +13,11 @@ so they are in several crates; those in its folder `last` are in a crate of thei
 only where it has found no others. With `--full` it also tries tools/data/crates/refused/more, and each number of fields up to 25.
 """
 import pathlib
-import shutil
 import sys
 import tempfile
 from concurrent.futures import ThreadPoolExecutor
 
+from lib.bench import build
 from lib.crates import grammar, printers, refused, tests
 from lib.findings import ended
 from lib.top import TOP
@@ -30,10 +30,7 @@ def make_room(room):
     """Copies the libraries, without their work."""
     lines = (TOP / "crates.txt").read_text().splitlines()
     (room / "crates.txt").write_text("".join(line + "\n" for line in lines if line.split(":")[0] in tests.LIBRARIES))
-    for crate in tests.LIBRARIES:
-        for part in ("src", "specs", "proofs"):
-            if (TOP / "crates" / crate / part).is_dir():
-                shutil.copytree(TOP / "crates" / crate / part, room / "crates" / crate / part)
+    build.copied(TOP, room, tests.LIBRARIES, ("src", "specs", "proofs"))
 
 
 def missing_rows(files):
