@@ -81,13 +81,10 @@ def frame(lines, starts, own):
 
 class Frames:
     def __init__(self, program):
-        self.program = program
         lines, self.names = code(program)
-        self.frames = {start: frame(its, lines, start) for start, its in lines.items() if not self.is_outside(start)}
+        self.frames = {start: frame(its, lines, start) for start, its in lines.items()
+                       if not self.names[start].endswith("@plt")}
         self.addresses, self.known, self.reach = symbols(program), {}, {}
-
-    def is_outside(self, start):
-        return self.names[start].endswith("@plt")
 
     def next_of(self, start):
         """What a function calls or continues as, each with the bytes before it."""

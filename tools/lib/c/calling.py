@@ -40,16 +40,12 @@ def here(program, without):
     return bool(shutil.which(program))
 
 
-def asked_of(tried):
-    """What asks the programs of tools/data/c for these calls, each a case with the length of its buffer."""
-    return [request(case, room) for case, room in tried]
-
-
-def lines_of(program, asked, before=(), words=(), seconds=SECONDS):
-    """What such a program says of each of these calls."""
-    lines = run([*before, program, *words], input="".join(asked).encode(), seconds=seconds).splitlines()
-    if len(lines) != len(asked):
-        sys.exit("%d answers to %d calls" % (len(lines), len(asked)))
+def lines_of(program, tried, before=(), words=(), seconds=SECONDS):
+    """What a program of tools/data/c says of each of these calls, each a case with the length of its buffer."""
+    asked = "".join(request(case, room) for case, room in tried)
+    lines = run([*before, program, *words], input=asked.encode(), seconds=seconds).splitlines()
+    if len(lines) != len(tried):
+        sys.exit("%d answers to %d calls" % (len(lines), len(tried)))
     return lines
 
 
@@ -117,13 +113,12 @@ def answer(line):
 
 
 def by_program(faults, program, tried, before=(), how="C", seconds=SECONDS):
-    return compare(faults, how, tried, map(answer, lines_of(program, asked_of(tried), before, seconds=seconds)))
+    return compare(faults, how, tried, map(answer, lines_of(program, tried, before, seconds=seconds)))
 
 
 def without_detail(faults, program, tried):
     """Tries cases with a detail at NULL: the same is returned and left as with one elsewhere."""
-    asked = asked_of(tried)
-    for (case, room), line, other in zip(tried, lines_of(program, asked, words=["null"]), lines_of(program, asked)):
+    for (case, room), line, other in zip(tried, lines_of(program, tried, words=["null"]), lines_of(program, tried)):
         (result, detail, left), (wanted, _, text) = answer(line), answer(other)
         if (result, detail, left) != (wanted, DETAIL, text):
             faults.append("a detail at NULL: %s%r in %s bytes: wanted %s, got %s" % (case.call, case.arguments, room, other, line))
@@ -145,7 +140,7 @@ def under_valgrind(faults, program, made):
     tried = [(case, room) for case in some_of(made) for room in rooms(case)]
     count = by_program(faults, program, tried, VALGRIND, "C under valgrind")
     whole = [(case, len(case.text)) for case in some_of(made) if case.text is not None and case.length is None]
-    for (case, _), line in zip(whole, lines_of(program, asked_of(whole), VALGRIND, ["unset"])):
+    for (case, _), line in zip(whole, lines_of(program, whole, VALGRIND, ["unset"])):
         if answer(line) != (len(case.text), len(case.text), case.text):
             faults.append("an unset buffer: %s%r: wanted %r, got %s" % (case.call, case.arguments, case.text, line))
     return count + len(whole)
