@@ -8,6 +8,9 @@ from lib.top import TOP
 PACKAGES = {"valgrind": "valgrind", "cc": "gcc", "gcc": "gcc", "g++": "g++", "rustc": "rustc", "cargo": "cargo", "objdump": "binutils", "nm": "binutils",
             "readelf": "binutils", "man": "man-db", "pkg-config": "pkgconf", "xxd": "xxd", "setarch": "util-linux", "git": "git", "clippy-driver": "rust-clippy"}
 
+# What leaves the built programs.
+BUILDS = "`rt ci` builds it, and so does `rt run` in its crate"
+
 
 def missing(names):
     return [name for name in names if not shutil.which(name)]
@@ -28,7 +31,7 @@ def require(command, *names):
 def built(name):
     path = TOP / "crates" / name / "out" / name
     if not os.access(path, os.X_OK):
-        sys.exit("%s isn't there: `rt ci` builds it, and so does `rt run` in its crate" % path.relative_to(TOP))
+        sys.exit("%s isn't there: %s" % (path.relative_to(TOP), BUILDS))
     return path
 
 

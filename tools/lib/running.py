@@ -1,7 +1,7 @@
 """Commands that run beside each other, and end with this one.
 
-Each command is a process group of its own, so whatever it starts ends with it. When this process is interrupted, or ended by a signal, it
-ends them all.
+Each command is a process group of its own, so whatever it starts ends with it. When this process is interrupted, or ended by a
+signal, it ends them all.
 """
 import collections
 import os
@@ -12,7 +12,8 @@ import sys
 import tempfile
 import time
 
-# How often to look, how often to say what is running, and how long a process may take to end: `rt ci` puts back what it set aside.
+# How often to look, how often to say what is running, and how long a process may take to end: `rt ci` puts back what it set
+# aside.
 LOOK, SAY, GRACE = 0.1, 60, 30
 # It is in the environment of a command for which another one says that it is running.
 INSIDE = "UFMT_X_INSIDE"

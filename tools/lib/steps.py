@@ -1,12 +1,13 @@
 """The steps of `x try`, and what each shows.
 
-A step is a module with `main(given)`: it prints a line for each fault, and last a line of counts, and returns 1 if there was a fault. It needs
-some programs, and is skipped where they aren't; without those that it only uses it shows less.
+A step is a module with `main(given)`: it prints a line for each fault, and last a line of counts, and returns 1 if there was a
+fault. It needs some programs, and is skipped where they aren't; without those that it only uses it shows less.
 """
 import importlib
 from typing import NamedTuple, Tuple
 
-# What a step looks at: the sources alone, builds that it makes with nothing proved, or the programs that `rt ci` or `rt run` left.
+# What a step looks at: the sources alone, builds that it makes with nothing proved, or the programs that `rt ci` or `rt run`
+# left.
 SOURCES, UNPROVED, BUILT = "the sources", "builds with nothing proved", "built programs"
 
 
@@ -36,7 +37,7 @@ STEPS = (
     Step("texts", BUILT, "lib.model.step", "each call on random texts and texts of each shape, against a model; memory and steps", (), ("cc", "valgrind")),
     Step("costs", UNPROVED, "lib.costs.step", "what printing and parsing of each type takes; each allocation of parsing is refused", ("rt", "cc"), ("valgrind",)),
     Step("macros", UNPROVED, "lib.crates.step", "each form of each macro, lines that must not compile, tests that must fail, how often values print", ("rt",)),
-    Step("stack", UNPROVED, "lib.bench.stack_step", "stack of calls that print or parse, and of built programs, and their bytes of code",
+    Step("stack", UNPROVED, "lib.bench.stack", "stack of calls that print or parse, and of built programs, and bytes of code",
          ("rt", "objdump", "nm", "setarch")),
     Step("logs", BUILT, "lib.log_model.step", "random logs through ufmt_lines, against a model, with each read and write", (), ("valgrind",)),
     Step("floats", UNPROVED, "lib.floats.step", "texts of floats as rustc prints them, their steps and stack", ("rt", "rustc"), ("valgrind", "objdump")),

@@ -1,6 +1,8 @@
 """Where the repository is, and which repository a command means."""
 import pathlib
 
+from lib.running import output_of
+
 TOP = pathlib.Path(__file__).resolve().parents[2]
 X = TOP / "x"
 
@@ -32,8 +34,8 @@ def closure(names, lines=None):
 
 
 def is_ours(crate):
-    """Whether a crate is a library or a program of this repository. Tests, probes and examples have other names, and so has what a user
-    puts beside these."""
+    """Whether a crate is a library or a program of this repository. Tests, probes and examples have other names, and so has what
+    a user puts beside these."""
     return crate == "ufmt" or crate.startswith("ufmt_")
 
 
@@ -51,3 +53,11 @@ def nearest():
 def version():
     """The version of all crates, as the manual page of a program has it."""
     return (TOP / "tools" / "data" / "man" / "ufmt_lines.1").read_text().split('"ufmt_lines ')[1].split('"')[0]
+
+
+def commit():
+    """The commit of this tree, and whether files of it are changed. A tree without git has none."""
+    if not (TOP / ".git").exists():
+        return "unknown"
+    head, changed = (output_of(["git", *words], cwd=TOP).strip() for words in (("rev-parse", "HEAD"), ("status", "--porcelain")))
+    return head + (" with changes" if changed else "")

@@ -5,13 +5,12 @@ docs/PROMISES.md, and so are left out here.
 """
 import re
 
+from lib import generated
 from lib.api.items import items_of, macros_of
 from lib.contracts.functions import Exports, re_exported
 from lib.contracts.source import sources
-from lib.findings import ended
 from lib.top import TOP
 
-PAGE = TOP / "docs" / "API.md"
 # A file for each crate: what the words of its clauses mean.
 WORDS = TOP / "tools" / "data" / "words"
 # The crates that a user names, with those whose items they hand on.
@@ -91,12 +90,9 @@ def text():
     return HEAD + "".join(part for crate in CRATES for part in section(crate))
 
 
-def write():
-    PAGE.write_text(text(), encoding="utf-8")
-    print("docs/API.md, written")
-    return 0
+def files():
+    return [("docs/API.md", text())]
 
 
 def main(_given):
-    stale = not PAGE.is_file() or PAGE.read_text(encoding="utf-8") != text()
-    return ended(["docs/API.md:1: not as `x generate` writes it"] * stale, "docs/API.md")
+    return generated.compare(files(), "docs/API.md")

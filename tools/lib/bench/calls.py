@@ -1,10 +1,14 @@
-"""Bytes of code and constants that a call that prints needs, and instructions that it takes, beside ufmt and core::fmt."""
+"""Bytes of code and constants that a call that prints needs, and instructions that it takes, beside ufmt and core::fmt: programs
+of other crates are built with the cargo and the crates that the machine has."""
+import pathlib
 import re
+import shutil
+import subprocess
+import sys
 
-from lib.bench import build, peers
-from lib.bench.counter import counted
-from lib.running import output_of
-from lib.top import TOP
+from lib.bench import build
+from lib.data import DATA
+from lib.rust import linking
 
 # `two` prints a second type as well, `eight` eight types. The peers have the first seven.
 PEER_SIZES = ("text", "number", "struct", "pretty", "two", "eight", "line")
@@ -15,18 +19,19 @@ CALLS = (("text", "text", "0"), ("i32 of 0", "number", "0"), ("i32 of least", "n
          ("u128 of most", "u128", "0"), ("struct of zeros", "struct", "0"), ("struct of least", "struct", LEAST),
          ("pretty of zeros", "pretty", "0"), ("pretty of least", "pretty", LEAST), ("{:#010x} of 0", "hex", "0"),
          ("list of 100 u64", "list", "0"))
+# Debian's packages librust-*-dev put their crates here; else they are those that cargo has.
+DEBIAN = pathlib.Path("/usr/share/cargo/registry")
+SOURCE = '[source.crates-io]\nreplace-with = "debian"\n[source.debian]\ndirectory = "%s"\n'
+VALGRIND = ["valgrind", "--tool=cachegrind", "--cache-sim=no", "--cachegrind-out-file=/dev/null"]
 
 
-def bytes_of(room, library, entry):
-    """How many bytes of code and constants a program without a C library has that only makes this call."""
-    helpers, made = room / "memory.o", room / "alone"
-    if not helpers.exists():
-        source = TOP / "tools" / "data" / "bench" / "memory.c"
-        output_of(["gcc", "-Os", "-ffreestanding", "-fno-builtin", "-ffunction-sections", "-c", source, "-o", helpers])
-    output_of(["gcc", "-nostdlib", "-static", "-no-pie", "-Wl,--gc-sections", "-Wl,-e," + entry, "-Wl,-u," + entry, "-o", made,
-               "-Wl,--start-group", library, helpers, "-Wl,--end-group"])
-    found = re.findall(r"\]\s+\.(?:text|rodata|data)\S*\s+\S+\s+\S+\s+\S+\s+([0-9a-f]+)", output_of(["readelf", "-SW", made]))
-    return sum(int(size, 16) for size in found)
+def counted(words, text=b""):
+    """How many instructions a run takes on this input, and what it prints."""
+    ran = subprocess.run(VALGRIND + list(map(str, words)), input=text, capture_output=True)
+    found = re.search(rb"I\s+refs:\s+([\d,]+)", ran.stderr)
+    if ran.returncode or not found:
+        sys.exit("x bench: valgrind can't count: " + ran.stderr.decode(errors="replace")[-500:])
+    return int(found[1].replace(b",", b"")), ran.stdout.strip()
 
 
 def instructions(words, name, number):
@@ -34,14 +39,47 @@ def instructions(words, name, number):
     return (many - few) // 2000
 
 
+def bytes_of(room, library, entry):
+    """How many bytes of code and constants a program without a C library has that only makes this call."""
+    return linking.Linker(room).size(library, entry) or sys.exit("x bench: %s isn't linked" % entry)
+
+
+def cargo(room, name, kind, dependencies, features, profiles):
+    """Builds a crate of tools/data/bench/peers in this folder. Its result is whether cargo could."""
+    if not shutil.which("cargo"):
+        return False
+    folder = room / "peers" / name
+    (folder / ".cargo").mkdir(parents=True, exist_ok=True)
+    if DEBIAN.is_dir():
+        (folder / ".cargo" / "config.toml").write_text(SOURCE % DEBIAN)
+    head, lines = ("[lib]", 'crate-type = ["staticlib"]') if kind == "library" else ("[[bin]]", 'name = "%s"' % name)
+    named = "\n".join('%s = ["dep:%s"]' % (it, it) for it in features)
+    manifest = (DATA / "bench" / "peers.toml").read_text() % (name, head, lines, named, "\n".join(dependencies))
+    (folder / "Cargo.toml").write_text(manifest)
+    shutil.copy(DATA / "bench" / "peers" / (name + ".rs"), folder / "main.rs")
+    words = ["cargo", "build", "--offline", "--quiet", *(["--features", ",".join(features)] if features else [])]
+    return all(linking.run([*words, "--profile", profile], cwd=folder) is not None for profile in profiles)
+
+
+def peers(room, name, kind, ufmt, profiles):
+    """The folder of what cargo made of a crate, and which peers are in it: `core`, and `ufmt` if its crate was found. None if
+    the machine has no cargo that builds it."""
+    where = 'path = "%s"' % ufmt.resolve() if ufmt else 'version = "0.2.0"'
+    wanted = "ufmt = { %s%s, optional = true }" % (where, ', features = ["std"]' if kind == "program" else "")
+    for dependencies, features, found in (([wanted], ["ufmt"], ("ufmt", "core")), ([], [], ("core",))):
+        if cargo(room, name, kind, dependencies, features, profiles):
+            return room / "peers" / name / "target", found
+    return None, ()
+
+
 def line(told, cells):
     print("%-18s" % told + "".join("%11s" % (cell if cell is not None else "-") for cell in cells), flush=True)
 
 
 def beside_peers(kind, ufmt, room, profiles, rows):
-    """A line for each row: ours, and what each peer takes in each profile. A row has its name, our figure, and what finds a peer's in the
-    folder of a profile, or None."""
-    made, found = peers.built(room, *kind, ufmt, profiles)
+    """A line for each row: ours, and what each peer takes in each profile. A row has its name, our figure, and what finds a
+    peer's in the folder of a profile, or None."""
+    made, found = peers(room, *kind, ufmt, profiles)
     for told, ours, theirs in rows:
         line(told, [ours, *(theirs(made / profile, peer) if theirs and peer in found else None for profile in profiles for peer in ("ufmt", "core"))])
 

@@ -1,5 +1,6 @@
-"""Instructions of one `{:?}` of an `f64`, beside core::fmt and the kit's ryu, and of one with a number of decimals, beside core::fmt."""
-from lib.bench import counter
+"""Instructions of one `{:?}` of an `f64`, beside core::fmt and the kit's ryu, and of one with a number of decimals, beside
+core::fmt."""
+from lib.bench.calls import counted
 from lib.floats import patterns, programs
 
 VALUES = "21.5 0.1 1.0 3.141592653589793 1e-7 1e23 1e-20 1.5e100 1e300 5e-324".split()
@@ -12,7 +13,7 @@ def instructions(program, value):
     """How many instructions a call takes, with the loop around it. A number of decimals may follow the value, after a colon."""
     number, _, decimals = value.partition(":")
     bits = b"%016x" % patterns.bits_of(number, 64) + (b" " + decimals.encode() if decimals else b"")
-    few, many = (counter.counted([program, "%x" % turns], bits)[0] for turns in (FEW, MANY))
+    few, many = (counted([program, "%x" % turns], bits)[0] for turns in (FEW, MANY))
     return (many - few) // (MANY - FEW)
 
 

@@ -42,24 +42,20 @@ class Frame(NamedTuple):
 
 def symbols(program):
     """The address of each function, by its name."""
-    found = {}
-    for line in output_of(["nm", program]).splitlines():
-        parts = line.split(" ", 2)
-        if len(parts) == 3 and parts[1] in "tTwW" and parts[0]:
-            found[parts[2]] = int(parts[0], 16)
-    return found
+    found = re.findall(r"(?m)^([0-9a-f]+) [tTwW] (.*)$", output_of(["nm", program]))
+    return {name: int(address, 16) for address, name in found}
 
 
 def code(program):
     """The lines of each function, by its address, and the name that stands there."""
-    lines, names, current = {}, {}, None
+    lines, names, its = {}, {}, []
     for line in output_of(["objdump", "-d", "--no-show-raw-insn", program]).splitlines():
         begun = re.match(r"([0-9a-f]+) <(.*)>:$", line)
         if begun:
-            current = int(begun.group(1), 16)
-            lines[current], names[current] = [], begun.group(2)
-        elif current is not None and "\t" in line:
-            lines[current].append(line.split("\t", 1)[1].strip())
+            its = lines[int(begun[1], 16)] = []
+            names[int(begun[1], 16)] = begun[2]
+        elif "\t" in line:
+            its.append(line.split("\t", 1)[1].strip())
     return lines, names
 
 
@@ -67,40 +63,28 @@ def frame(lines, starts, own):
     """A function's frame. A jump to where another function begins is a call that takes this one's place."""
     size, below, calls, jumps, unknown = 0, 0, set(), set(), ""
     for line in lines:
-        moved = MOVES.match(line)
+        moved, used, gone = MOVES.match(line), BELOW.search(line), GOES.match(line)
         if re.match(r"push\w*\s", line):
             size += 8
         elif moved:
-            is_down = (moved.group(1) == "sub") != bool(moved.group(2))
-            size += int(moved.group(3), 16) if is_down else 0
-        elif WRITES_POINTER.match(line):
+            size += int(moved[3], 16) if (moved[1] == "sub") != bool(moved[2]) else 0
+        elif WRITES_POINTER.match(line) or re.match(r"call\s+\*", line):
             unknown = line
-        elif re.match(r"call\s+\*", line):
-            unknown = line
-        used = BELOW.search(line)
-        if used:
-            below = max(below, int(used.group(1), 16))
-        gone = GOES.match(line)
-        if gone:
-            target = int(gone.group(2), 16)
-            if gone.group(1) == "call":
-                calls.add(target)
-            elif target in starts and target != own:
-                jumps.add(target)
+        below = max(below, int(used[1], 16)) if used else below
+        target = int(gone[2], 16) if gone else own
+        if gone and gone[1] == "call":
+            calls.add(target)
+        elif target in starts and target != own:
+            jumps.add(target)
     return Frame(size, size + below, frozenset(calls), frozenset(jumps), unknown)
 
 
 class Frames:
     def __init__(self, program):
-        self.program = program
         lines, self.names = code(program)
-        self.frames = {start: frame(its, lines, start) for start, its in lines.items() if not self.is_outside(start)}
-        self.addresses = symbols(program)
-        self.known = {}
-        self.group = self.groups()
-
-    def is_outside(self, start):
-        return self.names[start].endswith("@plt")
+        self.frames = {start: frame(its, lines, start) for start, its in lines.items()
+                       if not self.names[start].endswith("@plt")}
+        self.addresses, self.known, self.reach = symbols(program), {}, {}
 
     def next_of(self, start):
         """What a function calls or continues as, each with the bytes before it."""
@@ -114,38 +98,17 @@ class Frames:
         for target in its.jumps - its.calls:
             yield target, 0
 
-    def groups(self):
-        """For each function the functions that it is in a cycle with, itself among them, by Tarjan's algorithm."""
-        index, low, stack, found = {}, {}, [], {}
-        for root in self.frames:
-            if root in index:
-                continue
-            index[root] = low[root] = len(index)
-            stack.append(root)
-            work = [(root, iter(self.callees(root)))]
-            while work:
-                start, left = work[-1]
-                for target in left:
-                    if target not in index:
-                        index[target] = low[target] = len(index)
-                        stack.append(target)
-                        work.append((target, iter(self.callees(target))))
-                        break
-                    if target not in found:
-                        low[start] = min(low[start], index[target])
-                else:
-                    work.pop()
-                    if work:
-                        low[work[-1][0]] = min(low[work[-1][0]], low[start])
-                    if low[start] == index[start]:
-                        group = frozenset(stack[stack.index(start):])
-                        del stack[stack.index(start):]
-                        found.update((it, group) for it in group)
-        return found
-
-    def callees(self, start):
-        its = self.frames.get(start)
-        return (its.calls | its.jumps) & self.frames.keys() if its else ()
+    def reached(self, start):
+        """The functions that a function reaches by calls: itself, if it is in a cycle."""
+        if start not in self.reach:
+            found, left = set(), [start]
+            while left:
+                its = self.frames.get(left.pop())
+                more = (its.calls | its.jumps) & self.frames.keys() - found if its else ()
+                found.update(more)
+                left += more
+            self.reach[start] = found
+        return self.reach[start]
 
     def most(self, name):
         """What a call of the function with this name takes at most, with its return address."""
@@ -165,11 +128,10 @@ class Frames:
 
     def walked(self, root, start, before, path):
         """The most from here on, of a path that began at the root with so many bytes before this function."""
-        group = self.group[root]
         best = Most(before + self.frames[start].whole, 0, tuple(self.names[it] for it in path))
         level = 0
         for target, cost in self.next_of(start):
-            if target in group:
+            if root in self.reached(target):
                 if target in path:
                     level = max(level, before + cost if target == root else 0)
                     continue

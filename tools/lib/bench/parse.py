@@ -1,11 +1,10 @@
-"""Instructions that parsing takes for each byte of a text and for each value, beside serde_json and ron, and the bytes of one more
-type that is parsed."""
+"""Instructions that parsing takes for each byte of a text and for each value, beside serde_json and ron, and the bytes of one
+more type that is parsed."""
 import subprocess
 import sys
 
-from lib.bench import build, peers, values
-from lib.bench.calls import bytes_of
-from lib.bench.counter import counted
+from lib.bench import build, values
+from lib.bench.calls import bytes_of, cargo, counted
 
 ROWS = (("u64", "plain"), ("u32", "plain"), ("f64", "plain"), ("long-f64", "plain"), ("measurement", "plain"),
         ("measurement", "pretty"), ("strings", "plain"), ("escapes", "plain"), ("options", "plain"), ("event", "plain"),
@@ -56,13 +55,13 @@ def sizes(room):
 
 
 def table(room, given):
-    """Prints a line for each kind of values, and one for each kind of type. With a script, it calls that with the program in place
-    of its own counting."""
+    """Prints a line for each kind of values, and one for each kind of type. With a script, it calls that with the program in
+    place of its own counting."""
     program = build.over_copies(room, "parse", ["ufmt_parse"])
     if given.script:
         return subprocess.call([given.script, program])
     peer = room / "peers" / "parse" / "target" / "linked" / "parse"
-    has_peer = peers.cargo(room, "parse", "program", DEPENDENCIES, [], ["linked"])
+    has_peer = cargo(room, "parse", "program", DEPENDENCIES, [], ["linked"])
     print("%-20s%18s%18s%18s" % ("instructions", "ours", "serde_json", "ron"))
     print("%-20s" % "" + "%9s%9s" % ("a byte", "a value") * 3)
     for kind, mode in ROWS:

@@ -1,21 +1,12 @@
 """Instructions for each byte of a text that is converted, read or printed."""
 import sys
 
+from lib import data
 from lib.bench import build, values
-from lib.bench.counter import counted
+from lib.bench.calls import counted
 
 SIZE = 1 << 20
-# A call, the run without it, and its text.
-ROWS = (
-    ("to_pretty", "none", "numbers, plain"), ("to_pretty", "none", "texts, plain"),
-    ("to_plain", "none", "numbers, pretty"), ("to_plain", "none", "texts, pretty"),
-    ("debug_to_pretty", "none", "numbers, plain"), ("debug_to_pretty", "none", "texts, plain"),
-    ("debug_to_pretty", "none", "debug leaves, plain"), ("debug_to_plain", "none", "numbers, pretty"),
-    ("debug_to_plain", "none", "texts, pretty"), ("debug_to_plain", "none", "debug leaves, pretty"),
-    ("read_plain", "none", "numbers, plain"), ("read_plain", "none", "texts, plain"), ("read_pretty", "none", "numbers, pretty"),
-    ("read_and_drop_plain", "none", "numbers, plain"),
-    ("print", "own", "ASCII"), ("print", "own", "escapes"), ("print", "own", "accents"), ("print", "own", "four bytes each"),
-)
+ROWS = [row.split(" => ") for row in data.parts("bench/texts.txt")["calls"]]
 LEAVES = ("1.5", "-2.5e-7", "0..5", "12:34:56.789", "127.0.0.1:80", "std::fmt::Error", "1.5s", "2026-11-29T04:05:06Z")
 UNITS = {"ASCII": "All work and no play. ", "escapes": 'a\tb "c" d\\e\n', "accents": "été, où ça? ", "four bytes each": "\U0001F980\U0001F600 ok "}
 

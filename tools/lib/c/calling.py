@@ -1,15 +1,18 @@
-"""Makes calls of the library by a program in C or in Rust, and compares what they return and leave."""
+"""Makes calls of the library by a program in C or in Rust, or of the shared object by ctypes, and compares what they return and
+leave."""
+import ctypes
 import functools
 import itertools
 import shutil
+import struct
 import sys
 
 from lib import running
 from lib.c import cases
+from lib.data import DATA as ALL_DATA
 from lib.top import TOP
 
-CRATE = TOP / "crates" / "ufmt_c"
-DATA = TOP / "tools" / "data" / "c"
+CRATE, DATA = TOP / "crates" / "ufmt_c", ALL_DATA / "c"
 HEADER = CRATE / "include" / "ufmt.h"
 WARNINGS = ["-Wall", "-Wextra", "-Wconversion", "-Wpedantic", "-Werror"]
 FILL, DETAIL = 0xA5, 777
@@ -19,6 +22,13 @@ SECONDS = 300
 # valgrind runs at most so many cases of a call, of each kind of outcome.
 UNDER_VALGRIND = 60
 VALGRIND = ["valgrind", "--quiet", "--error-exitcode=9", "--leak-check=full", "--errors-for-leak-kinds=all"]
+# A float is made of its bits.
+TYPES = {"uint8_t": ctypes.c_uint8, "uint32_t": ctypes.c_uint32, "uint64_t": ctypes.c_uint64, "int64_t": ctypes.c_int64,
+         "bool": ctypes.c_bool, "size_t": ctypes.c_size_t, "double": lambda bits: ctypes.c_double(*struct.unpack("<d", struct.pack("<Q", bits)))}
+STRUCTS = {name: type("ufmt_%s_style" % name, (ctypes.Structure,), {"_fields_": [("member_%d" % at, TYPES[kind]) for at, kind in enumerate(kinds)]})
+           for name, kinds in cases.STYLES.items()}
+# What the calls return that take no detail.
+RESULTS = {"is_text": ctypes.c_bool, "version": ctypes.c_uint32}
 # What a command printed; it must end with status 0, and soon.
 run = functools.partial(running.output_of, seconds=SECONDS)
 
@@ -30,16 +40,12 @@ def here(program, without):
     return bool(shutil.which(program))
 
 
-def asked_of(tried):
-    """What asks the programs of tools/data/c for these calls, each a case with the length of its buffer."""
-    return [request(case, room) for case, room in tried]
-
-
-def lines_of(program, asked, before=(), words=(), seconds=SECONDS):
-    """What such a program says of each of these calls."""
-    lines = run([*before, program, *words], input="".join(asked).encode(), seconds=seconds).splitlines()
-    if len(lines) != len(asked):
-        sys.exit("%d answers to %d calls" % (len(lines), len(asked)))
+def lines_of(program, tried, before=(), words=(), seconds=SECONDS):
+    """What a program of tools/data/c says of each of these calls, each a case with the length of its buffer."""
+    asked = "".join(request(case, room) for case, room in tried)
+    lines = run([*before, program, *words], input=asked.encode(), seconds=seconds).splitlines()
+    if len(lines) != len(tried):
+        sys.exit("%d answers to %d calls" % (len(lines), len(tried)))
     return lines
 
 
@@ -70,36 +76,32 @@ def request(case, room):
     return " ".join(words) + "\n"
 
 
-def outcome(wanted, result, detail, left):
-    return "wanted %s, got %d, detail %d, %r" % (wanted, result, detail, left)
-
-
-def wrong(case, room, result, detail, left):
-    """What is wrong with what a call returned and left, if anything is."""
-    room = room or 0
-    if cases.leaves_number(case):
-        room = cases.NUMBER_SIZE
+def wanted_of(case, room):
+    """The result, the detail and the buffer that a call must leave in a buffer of this length, and whether only the buffer's
+    length counts."""
+    filled = bytes([FILL]) * (room or 0)
     if case.number is not None:
-        bits = (case.number % 2**64).to_bytes(room, "little")
-        return None if (result, detail, left) == (0, DETAIL, bits) else outcome("0, detail %d, %r" % (DETAIL, bits), result, detail, left)
+        return 0, DETAIL, (case.number % 2**64).to_bytes(cases.NUMBER_SIZE, "little"), False
     if case.text is None:
-        stays = len(left) == room and (case.result == cases.NO_TEXT and cases.has_buffer(case) or left == bytes([FILL]) * room)
-        if (result, detail, stays) != (case.result, DETAIL if case.detail is None else case.detail, True):
-            return outcome("%d, detail %s, and the buffer as it was" % (case.result, case.detail), result, detail, left)
-        return None
+        left = bytes([FILL]) * cases.NUMBER_SIZE if cases.leaves_number(case) else filled
+        detail, is_any = DETAIL if case.detail is None else case.detail, case.result == cases.NO_TEXT and cases.has_buffer(case)
+        return case.result, detail, left, is_any
     length = len(case.text) if case.length is None else case.length
-    if detail != min(length, cases.SIZE_MAX):
-        return outcome("detail %d" % length, result, detail, left)
-    if result != (length if length <= room else cases.FULL):
-        return outcome("%d" % (length if length <= room else cases.FULL), result, detail, left)
-    if left != case.text[:room] + bytes([FILL]) * max(room - length, 0):
-        return outcome("%r" % case.text, result, detail, left)
-    return None
+    result = length if length <= len(filled) else cases.FULL
+    return result, min(length, cases.SIZE_MAX), case.text[: len(filled)] + filled[length:], False
+
+
+def wrong(case, room, *got):
+    """What is wrong with the result, the detail and the buffer that a call left, if anything is."""
+    *wanted, is_any = wanted_of(case, room)
+    if is_any and len(got[2]) == len(wanted[2]):
+        wanted[2] = got[2]
+    return None if tuple(wanted) == got else "wanted %d, detail %d, %r, got %d, detail %d, %r" % (*wanted, *got)
 
 
 def compare(faults, how, tried, answers):
-    for (case, room), (result, detail, left) in zip(tried, answers):
-        told = wrong(case, room, result, detail, left)
+    for (case, room), answered in zip(tried, answers):
+        told = wrong(case, room, *answered)
         if told:
             faults.append("%s: %s%r in %s bytes: %s" % (how, case.call, case.arguments, room, told))
     return len(tried)
@@ -111,13 +113,12 @@ def answer(line):
 
 
 def by_program(faults, program, tried, before=(), how="C", seconds=SECONDS):
-    return compare(faults, how, tried, map(answer, lines_of(program, asked_of(tried), before, seconds=seconds)))
+    return compare(faults, how, tried, map(answer, lines_of(program, tried, before, seconds=seconds)))
 
 
 def without_detail(faults, program, tried):
     """Tries cases with a detail at NULL: the same is returned and left as with one elsewhere."""
-    asked = asked_of(tried)
-    for (case, room), line, other in zip(tried, lines_of(program, asked, words=["null"]), lines_of(program, asked)):
+    for (case, room), line, other in zip(tried, lines_of(program, tried, words=["null"]), lines_of(program, tried)):
         (result, detail, left), (wanted, _, text) = answer(line), answer(other)
         if (result, detail, left) != (wanted, DETAIL, text):
             faults.append("a detail at NULL: %s%r in %s bytes: wanted %s, got %s" % (case.call, case.arguments, room, other, line))
@@ -139,7 +140,7 @@ def under_valgrind(faults, program, made):
     tried = [(case, room) for case in some_of(made) for room in rooms(case)]
     count = by_program(faults, program, tried, VALGRIND, "C under valgrind")
     whole = [(case, len(case.text)) for case in some_of(made) if case.text is not None and case.length is None]
-    for (case, _), line in zip(whole, lines_of(program, asked_of(whole), VALGRIND, ["unset"])):
+    for (case, _), line in zip(whole, lines_of(program, whole, VALGRIND, ["unset"])):
         if answer(line) != (len(case.text), len(case.text), case.text):
             faults.append("an unset buffer: %s%r: wanted %r, got %s" % (case.call, case.arguments, case.text, line))
     return count + len(whole)
@@ -149,3 +150,22 @@ def caller_in_c(room, library):
     program = room / "calls"
     run(["gcc", "-std=c11", "-D_GNU_SOURCE", *WARNINGS, "-O1", "-g", "-I", HEADER.parent, DATA / "calls.c", library, "-o", program])
     return program
+
+
+def by_python(library, case, room):
+    """What the call returns and leaves: the result, the detail and the buffer, which had `room` bytes of the fill. A room of None
+    is a buffer of 0 bytes at NULL."""
+    call, kinds, words = getattr(library, "ufmt_" + case.call), list(cases.CALLS[case.call]), []
+    call.restype = RESULTS.get(case.call, ctypes.c_ssize_t)
+    left = (ctypes.c_uint8 * (cases.NUMBER_SIZE if kinds[:1] == ["number"] else room or 0))()
+    ctypes.memset(left, FILL, len(left))
+    reported = ctypes.c_size_t(DETAIL)
+    if kinds[:1] in (["number"], ["buffer"]):
+        words += [left] if kinds.pop(0) == "number" else [left if room is not None else None, ctypes.c_size_t(len(left))]
+    for kind, value in zip(kinds, case.arguments):
+        if kind == "bytes":
+            words += [value, ctypes.c_size_t(len(value))]
+        else:
+            words.append(ctypes.byref(STRUCTS[kind](*value)) if kind in STRUCTS else TYPES[kind](value))
+    words += [ctypes.byref(reported)] * (case.call not in RESULTS)
+    return int(call(*words)), reported.value, bytes(left)

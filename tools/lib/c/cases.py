@@ -1,8 +1,8 @@
 """The cases that `x try c` tries: calls of libufmt_c, their arguments, and what each is to do.
 
 What they expect comes from outside: rustc's texts and xxd's dumps in tools/data/c/rows.tsv, the texts of values that rustc
-printed in tools/expected/rows.txt, the models of texts and of lines in tools/lib/model/ and tools/lib/log_model/, a table of fields as a reader
-sees them in crates/ufmt_values/src/field/tests.rt, and Python's own decoding of UTF-8.
+printed in tools/expected/rows.txt, the models of texts and of lines in tools/lib/model/ and tools/lib/log_model/, a table of
+fields as a reader sees them in crates/ufmt_values/src/field/tests.rt, and Python's own decoding of UTF-8.
 """
 import json
 import re
@@ -18,6 +18,7 @@ from lib.model.document import plain, pretty  # noqa: E402
 from lib.model.reading import DEBUG, TOKEN, PlainReader, PrettyReader  # noqa: E402
 from lib.top import TOP
 
+EXPECTED = TOP / "tools" / "expected"
 NO_TEXT, FULL, NOT_UTF8, BAD_OPTION = -1, -2, -3, -4
 # What each call takes after its buffer, if it has one, and before `detail`. A struct has its name and its members' types, and
 # a number that is left is `number`. A float is its bits.
@@ -85,38 +86,28 @@ def style(name, *members):
 
 
 def arguments(call, words):
-    words, found = list(words), []
+    left, found = iter(words), []
     for kind in CALLS[call]:
-        if kind == "bytes":
-            found.append(tables.data_of(words.pop(0)))
-        elif kind in STYLES:
-            count = len(STYLES[kind]) - 1
-            found.append(style(kind, *(int(word) for word in words[:count])))
-            del words[:count]
+        if kind in STYLES:
+            found.append(style(kind, *(int(next(left)) for _ in STYLES[kind][1:])))
         elif kind not in ("buffer", "number"):
-            found.append(int(words.pop(0)))
-    if words:
+            found.append(tables.data_of(next(left)) if kind == "bytes" else int(next(left)))
+    if list(left):
         raise ValueError("a row of %s has more words: %s" % (call, words))
     return tuple(found)
 
 
 def stored():
     """The rows of tools/data/c/rows.tsv, and each row of `quote` turned round."""
-    for line in (TOP / "tools" / "data" / "c" / "rows.tsv").read_text().splitlines():
-        if line.startswith("#"):
-            continue
+    for line in (tables.DATA / "c" / "rows.tsv").read_text().splitlines()[1:]:
         request, text = line.split(" = ")
         call, *words = request.split(" ")
-        if call == "first_difference":
-            yield Case(call, arguments(call, words), result=int(text))
-            continue
-        whole = tables.data_of(text)
-        yield Case(call, arguments(call, words), text=whole)
+        given, whole = arguments(call, words), tables.data_of(text)
+        yield Case(call, given, result=int(text)) if call == "first_difference" else Case(call, given, text=whole)
         if call == "quote":
-            yield Case("unquote", (whole,), text=arguments(call, words)[0])
-            yield Case("unquote_debug", (whole,), text=arguments(call, words)[0])
+            yield from (Case(unquote, (whole,), text=given[0]) for unquote in ("unquote", "unquote_debug"))
         elif call in ("unsigned", "signed"):
-            yield Case("parse_" + call, (whole,), result=0, number=arguments(call, words)[0])
+            yield Case("parse_" + call, (whole,), result=0, number=given[0])
 
 
 TEXTS = {part: [tables.data_of(row) for row in rows] for part, rows in tables.parts("c/texts.txt").items()}
@@ -142,7 +133,7 @@ def converted(text_class, mode, other, data):
 
 def conversions():
     """Each text of a value, in both modes and classes; texts that are none; deep ones; and one with each byte changed."""
-    printed = expected_rows.rows(TOP / "tools" / "expected" / "rows.txt")
+    printed = expected_rows.rows(EXPECTED / "rows.txt")
     given = {"plain": [row.plain.encode() for row in printed], "pretty": [row.pretty.encode() for row in printed]}
     nested = [b"[" * depth + b"1" + b"]" * depth for depth in (1, 20, 255, 256)]
     changed = b'P { x: ("a", [1, -2]) }'
@@ -157,14 +148,14 @@ def conversions():
 
 def as_rustc_printed():
     """The texts that rustc printed, both ways, where a class has the value: the same rows by rustc's own words."""
-    listed = {(reason.row, reason.text_class): reason.outcomes for reason in expected_rows.reasons(TOP / "tools" / "expected" / "reasons")}
-    for row in expected_rows.rows(TOP / "tools" / "expected" / "rows.txt"):
-        for name, text_class in (("token", TOKEN), ("debug", DEBUG)):
-            from_plain, from_pretty = listed.get((row.name, name), ("same", "same"))
-            if from_plain == "same":
-                yield Case("convert", (CLASSES[text_class], MODES["pretty"], row.plain.encode()), text=row.pretty.encode())
-            if from_pretty == "same":
-                yield Case("convert", (CLASSES[text_class], MODES["plain"], row.pretty.encode()), text=row.plain.encode())
+    listed = {(reason.row, reason.text_class): reason.outcomes for reason in expected_rows.reasons(EXPECTED / "reasons")}
+    rows = expected_rows.rows(EXPECTED / "rows.txt")
+    for row, text_class in ((row, text_class) for row in rows for text_class in (TOKEN, DEBUG)):
+        outcomes = listed.get((row.name, "debug" if text_class == DEBUG else "token"), ("same", "same"))
+        texts = row.plain.encode(), row.pretty.encode()
+        for outcome, mode, given, wanted in zip(outcomes, ("pretty", "plain"), texts, texts[::-1]):
+            if outcome == "same":
+                yield Case("convert", (CLASSES[text_class], MODES[mode], given), text=wanted)
 
 
 def valid_up_to(data):
@@ -196,7 +187,8 @@ DEEP = (254, 255, 256, 300)
 
 
 def fields():
-    """The table of fields; lines that are cut, or longer, or have one byte changed; lines with many brackets; names that aren't UTF-8."""
+    """The table of fields; lines that are cut, or longer, or have one byte changed; lines with many brackets; names that aren't
+    UTF-8."""
     table = FIELD_ROW.findall((TOP / "crates" / "ufmt_values" / "src" / "field" / "tests.rt").read_text())
     if len(table) < LEAST_FIELDS:
         raise ValueError("only %d rows of fields" % len(table))
@@ -222,31 +214,22 @@ def fields():
 def refusals():
     """Inputs that aren't UTF-8; options, classes and modes that mean nothing; and sizes of structs that no version had."""
     for data in NOT_TEXTS:
-        place = valid_up_to(data)
-        yield Case("quote", (data,), result=NOT_UTF8, detail=place)
-        yield Case("in_column", (data, style("column", 8, 32, 0)), result=NOT_UTF8, detail=place)
-        for call in ("difference", "first_difference"):
-            yield Case(call, (data, b"a"), result=NOT_UTF8, detail=place)
-            yield Case(call, (b"a", data), result=NOT_UTF8, detail=place)
-            yield Case(call, (data, b"abcdef\xff"), result=NOT_UTF8, detail=place)
-    for pad in (128, 255):
-        yield Case("hexadecimal", (7, style("hex", 4, pad, 0, 0)), result=BAD_OPTION)
-        yield Case("binary", (7, style("hex", 4, pad, 0, 0)), result=BAD_OPTION)
-    for fill, align in ((0xD800, 0), (0xDFFF, 1), (0x110000, 2), (0xFFFFFFFF, 0), (32, 3), (32, 255)):
-        yield Case("in_column", (b"a", style("column", 8, fill, align)), result=BAD_OPTION)
-        yield Case("in_column", (b"\xff", style("column", 8, fill, align)), result=BAD_OPTION)
+        asked = [("quote", data), ("in_column", data, style("column", 8, 32, 0))]
+        pairs = (data, b"a"), (b"a", data), (data, b"abcdef\xff")
+        asked += [(call, *texts) for call in ("difference", "first_difference") for texts in pairs]
+        yield from (Case(call, tuple(its), result=NOT_UTF8, detail=valid_up_to(data)) for call, *its in asked)
+    bad = [(call, 7, style("hex", 4, pad, 0, 0)) for pad in (128, 255) for call in ("hexadecimal", "binary")]
+    bad += [("in_column", data, style("column", 8, fill, align)) for data in (b"a", b"\xff")
+            for fill, align in ((0xD800, 0), (0xDFFF, 1), (0x110000, 2), (0xFFFFFFFF, 0), (32, 3), (32, 255))]
     for size in (0, 1, 8, 16, 20, 23, 25, 31, 33, 40, 48, SIZE_MAX):
-        yield Case("hexadecimal", (7, (size, 4, 32, 0, 0)), result=BAD_OPTION)
-        yield Case("binary", (7, (size, 4, 32, 0, 0)), result=BAD_OPTION)
-        yield Case("dump", (b"abc", (size, 16, 1, 0, 1, 1)), result=BAD_OPTION)
-        yield Case("in_column", (b"a", (size, 8, 32, 0)), result=BAD_OPTION)
-    for text_class, mode in ((2, 0), (0, 2), (2, 2), (255, 1), (1, 256), (2**32 - 1, 0), (1, 2**31)):
-        for data in (b"", b"1", b"[1]"):
-            yield Case("convert", (text_class, mode, data), result=BAD_OPTION)
-            yield Case("is_text", (text_class, mode, data), result=0)
-    for text_class in (2, 3, 255, 256, 2**31, 2**32 - 1):
-        for name in (b"x", b"", b"\xff"):
-            yield Case("field", (text_class, b"S { x: 1 }", name), result=BAD_OPTION)
+        bad += [(call, 7, (size, 4, 32, 0, 0)) for call in ("hexadecimal", "binary")]
+        bad += [("dump", b"abc", (size, 16, 1, 0, 1, 1)), ("in_column", b"a", (size, 8, 32, 0))]
+    bad += [("convert", text_class, mode, data) for data in (b"", b"1", b"[1]")
+            for text_class, mode in ((2, 0), (0, 2), (2, 2), (255, 1), (1, 256), (2**32 - 1, 0), (1, 2**31))]
+    classes = 2, 3, 255, 256, 2**31, 2**32 - 1
+    bad += [("field", text_class, b"S { x: 1 }", name) for text_class in classes for name in (b"x", b"", b"\xff")]
+    yield from (Case(call, tuple(its), result=BAD_OPTION) for call, *its in bad)
+    yield from (Case("is_text", tuple(its), result=0) for call, *its in bad if call == "convert")
     first, second, third = map(int, top.version().split("."))
     yield Case("version", (), result=first * 10_000 + second * 100 + third)
 

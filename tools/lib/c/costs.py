@@ -1,8 +1,8 @@
 """Steps and stack of the library's calls.
 
-A call's steps have a bound by its input, its text and its buffer. The steps of each call at a size and at twice that (sized.py) have
-bounds by tools/data/measured/c.txt (tools/lib/measures.py): they are of the library that is built here. Each call takes at most so many bytes of stack
-on any input, by its machine code, and none recurses.
+A call's steps have a bound by its input, its text and its buffer. The steps of each call at a size and at twice that (sized.py)
+have bounds by tools/data/measured/c.txt (tools/lib/measures.py): they are of the library that is built here. Each call takes at
+most so many bytes of stack on any input, by its machine code, and none recurses.
 """
 import pathlib
 import re
@@ -14,7 +14,8 @@ from lib.bench import frames
 from lib.c import archive, cases, sized
 from lib.c.calling import caller_in_c, here, request, run
 
-# The steps of a counted call at most: to start, and for each byte of its input, its text and its buffer. They take about half as many.
+# The steps of a counted call at most: to start, and for each byte of its input, its text and its buffer. They take about half as
+# many.
 START_STEPS, BYTE_STEPS = 3_000, 150
 # A float's exact value has up to 309 digits before the point and 1,074 after it.
 EXACT_STEPS = 150_000
@@ -62,7 +63,8 @@ def counted_steps(program, counted):
 
 
 def compared_steps(faults, program, counted, table):
-    """Compares the steps of these calls with their bounds, and those of calls at two sizes with what was measured, if there is a table."""
+    """Compares the steps of these calls with their bounds, and those of calls at two sizes with what was measured, if there is a
+    table."""
     measured = list(sized.made()) if table else []
     steps = counted_steps(program, counted + [(case, room) for _, case, room in measured])
     for (case, room), found in zip(counted, map(steps.get, range(len(counted)))):

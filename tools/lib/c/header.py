@@ -1,8 +1,9 @@
-"""The header by each standard of C and C++, what it declares beside what the library exports, and how its structs are laid out: what callers
-are compiled against.
+"""The header by each standard of C and C++, what it declares beside what the library exports, and how its structs are laid out:
+what callers are compiled against.
 
-tools/data/c/interface.txt has that: the lines of the header without its comments, and for each constant its value, for each struct and each
-of its members its place and its size, as gcc has them. A line that changes or goes may break a caller.
+tools/data/c/interface.txt has that: the lines of the header without its comments, and for each constant its value, for each
+struct and each of its members its place and its size, as gcc has them. A line that changes or goes may break a caller. Each call,
+each constant and each member of a struct has its comment.
 """
 import pathlib
 import re
@@ -19,6 +20,11 @@ MORE_STANDARDS = (*(("gcc", "c", name) for name in ("c11", "c2x", "gnu99", "gnu1
                   *(("g++", "c++", name) for name in ("c++14", "c++20", "c++23", "gnu++11", "gnu++17", "gnu++20", "gnu++23")))
 STORED = DATA / "interface.txt"
 TOLD = HEADER.relative_to(TOP)
+# A call or a constant, and a member of a struct.
+DECLARED, MEMBER = re.compile(r"(?:\w+ (?=ufmt_\w+\()|#define (?=UFMT_\w+ +[\d(]))(\w+)"), re.compile(r" {4}\w+ (\w+);")
+# These have the comment of the one above them, or of the member that they are for.
+WITH_ANOTHER = ("ufmt_signed", "ufmt_parse_signed", "ufmt_parse_float", "UFMT_DEBUG", "UFMT_PRETTY",
+                "UFMT_LEFT", "UFMT_CENTER", "UFMT_RIGHT")
 
 
 def laid_out(structs, constants):
@@ -33,6 +39,15 @@ def laid_out(structs, constants):
         file.write_text('#include <stdio.h>\n#include "ufmt.h"\nint main(void) {\n%s\nreturn 0;\n}\n' % "\n".join(lines))
         run(["gcc", "-I", HEADER.parent, file, "-o", program])
         return run([program])
+
+
+def uncommented(lines):
+    """The number and the name of each call or constant without a comment that ends right above it, and of each member without one
+    beside it."""
+    for number, (above, line) in enumerate(zip(["", *lines], lines), 1):
+        declared, member = DECLARED.match(line), MEMBER.match(line)
+        if declared and declared[1] not in WITH_ANOTHER and not above.endswith("*/") or member and not line.endswith("*/"):
+            yield number, (declared or member)[1]
 
 
 def interface():
@@ -52,6 +67,7 @@ def header(faults, library, needed):
     declared = set(re.findall(r"^\w+ (ufmt_\w+)\(", HEADER.read_text(), re.M))
     if interface() != STORED.read_text():
         faults.append("%s:1: not as tools/data/c/interface.txt has it: an old caller may break; `x try c --write` writes it again" % TOLD)
+    faults += ["%s:%d: no comment of %s" % (TOLD, number, name) for number, name in uncommented(HEADER.read_text().splitlines())]
     tried = {"ufmt_" + call for call in cases.CALLS}
     for where, names, told in ((TOLD, declared, "declared"), ("tools/lib/c/cases.py", tried, "tried")):
         faults += ["%s:1: %s: wanted exported and %s, got one of both" % (where, name, told) for name in sorted(exported ^ names)]

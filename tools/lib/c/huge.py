@@ -1,4 +1,5 @@
-"""Cases of the calls of libufmt_c with each option up to the largest number: texts that are longer than any buffer are lists of parts."""
+"""Cases of the calls of libufmt_c with each option up to the largest number: texts that are longer than any buffer are lists of
+parts."""
 from lib.c.cases import FRONT, SIZE_MAX, Case, style
 from lib.c.leaves import FLOATS
 from lib.model import floats

@@ -20,8 +20,8 @@ def matches(pattern, data):
 
 
 def unquoted(call, data):
-    """What a call makes of an input: the text in the quotation marks, or how many bytes at its front some such text begins with, in
-    whole characters."""
+    """What a call makes of an input: the text in the quotation marks, or how many bytes at its front some such text begins with,
+    in whole characters."""
     front, whole = QUOTED[call]
     if not matches(whole, data):
         return Case(call, (data,), result=NO_TEXT, detail=max(n for n in range(len(data) + 1) if matches(front, data[:n])))

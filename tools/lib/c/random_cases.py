@@ -1,4 +1,5 @@
-"""Random cases of every call of libufmt_c, the same ones for each seed. What they expect comes from outside, as in `lib/c/cases.py`."""
+"""Random cases of every call of libufmt_c, the same ones for each seed. What they expect comes from outside, as in
+`lib/c/cases.py`."""
 import random
 import re
 

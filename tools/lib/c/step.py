@@ -1,19 +1,20 @@
 """Calls the library for C from C, Rust and Python, and compares what comes out with tables.
 
-It is built with nothing proved, which takes half a minute and shows what its calls do (archive.py); `--proved` takes that of `rt lib` in
-crates/ufmt_c, which proves the libraries below first if nothing of them is kept, and `--program` one that is built. The calls are those of
-ufmt.h: each public call is made, with buffers that are longer than the text, as long, one byte shorter, half as long and empty, with
-inputs that are no texts and options that mean nothing (cases.py says where what they expect comes from).
+It is built with nothing proved, which takes half a minute and shows what its calls do (archive.py); `--proved` takes that of `rt
+lib` in crates/ufmt_c, which proves the libraries below first if nothing of them is kept, and `--program` one that is built. The
+calls are those of ufmt.h: each public call is made, with buffers that are longer than the text, as long, one byte shorter, half
+as long and empty, with inputs that are no texts and options that mean nothing (cases.py says where what they expect comes from).
 
-- tools/data/c/calls.c makes every call, also with a detail at NULL, and valgrind sees that it touches no byte outside of its arrays.
+- tools/data/c/calls.c makes every call, also with a detail at NULL, and valgrind sees that it touches no byte outside of its
+  arrays.
 - tools/data/c/calls.rs makes them all from Rust, and ctypes from Python, of the same library as a shared object.
 - Random inputs with random options and buffers go through every call, some of them under valgrind (random_cases.py).
 - Each option is tried up to the largest number, with buffers of 0 to 64 bytes. All of these calls together have so many seconds.
 - The steps and the stack of calls have bounds (costs.py).
 - The callers of crates/ufmt_c/examples, in C, Rust and Python, convert texts of each kind (callers.py).
-- ufmt.h is C and C++ without a warning, as is tools/data/c/literals.c, which includes it twice and passes each call string literals. It
-  has each exported call, and declares no other. What it declares, its macros, and how its structs are laid out, are in
-  tools/data/c/interface.txt (header.py).
+- ufmt.h is C and C++ without a warning, as is tools/data/c/literals.c, which includes it twice and passes each call string
+  literals. It has each exported call, and declares no other. What it declares, its macros, and how its structs are laid out, are
+  in tools/data/c/interface.txt (header.py).
 
 With `--write` it writes tools/data/c/rows.tsv again, by rustc and xxd, and interface.txt, and stops.
 """
@@ -22,12 +23,11 @@ import pathlib
 import shutil
 import tempfile
 
-from lib import measures
-from lib.c import archive, callers, cases, costs, header, leaves, library as by_python, stored
-from lib.c import huge as huge_options
-from lib.c.calling import CRATE, DATA, VALGRIND, by_program, caller_in_c, compare, here, rooms, run, under_valgrind, without_detail
+from lib import findings, measures
+from lib.c import archive, callers, cases, costs, header, huge as huge_options, leaves
+from lib.c.calling import (CRATE, DATA, VALGRIND, by_program, by_python, caller_in_c, compare, here, rooms, run, under_valgrind,
+                           without_detail)
 from lib.c.random_cases import RandomCases
-from lib.findings import ended
 
 LEAST_CASES, LEAST_HUGE = 2_000, 5_000
 # What all calls with huge options may take together from C: they take less than one.
@@ -43,7 +43,7 @@ def at_random(faults, program, seed):
     made = RandomCases(seed)
     tried = [(case, room) for case in made.made(RANDOM_CASES) for room in made.rooms(case)]
     if len(tried) < LEAST_RANDOM or {case.call for case, _ in tried} != set(cases.CALLS) - {"version"}:
-        faults.append("only %d random calls, of %d names" % (len(tried), len({case.call for case, _ in tried})))
+        faults.append(findings.case("random calls", "%d, of each name" % LEAST_RANDOM, "%d" % len(tried)))
     by_program(faults, program, tried, how="C, at random")
     some = tried[::RANDOM_EACH]
     if shutil.which("valgrind"):
@@ -73,13 +73,46 @@ def cases_of_tables(faults):
     made, huge = [*cases.all_cases(), *leaves.all_cases()], huge_options.huge_options()
     missing = set(cases.CALLS) - {case.call for case in made}
     if missing or len(made) < LEAST_CASES or len(huge) < LEAST_HUGE:
-        faults.append("only %d cases, %d with huge options, and none of %s" % (len(made), len(huge), sorted(missing)))
+        got = "%d, %d, and none of %s" % (len(made), len(huge), sorted(missing))
+        faults.append(findings.case("cases", "%d, and %d with huge options" % (LEAST_CASES, LEAST_HUGE), got))
     return made, huge, [(case, room) for case in made for room in rooms(case)], [(case, room) for case in huge for room in rooms(case)]
+
+
+def write_rows():
+    with tempfile.TemporaryDirectory() as folder:
+        program = pathlib.Path(folder) / "rows"
+        run(["rustc", "--edition", "2024", "-D", "warnings", "-O", DATA / "rows.rs", "-o", program])
+        said = run(["rustc", "--version"]).strip()
+        rows = run([program]) + "".join(dumps(folder))
+    header.STORED.write_text(header.interface())
+    (DATA / "rows.tsv").write_text("# Printed by %s and by xxd, by x try c --write\n%s" % (said, rows))
+
+
+def escaped(data):
+    return "".join(chr(byte) if 0x20 < byte < 0x7F and byte != 0x25 else "%%%02x" % byte for byte in data) or "%"
+
+
+def dumps(folder):
+    """Rows of dumps, as xxd prints them, and the same with the column of offsets or of texts cut off."""
+    path = pathlib.Path(folder) / "bytes"
+    for data in (b"", b"abc", bytes(range(0x18, 0x40)), b"\x7f\x80~ %\n" * 5, bytes(range(256))[::7]):
+        path.write_bytes(data)
+        for per_row, group, first in ((16, 1, 0), (0, 1, 0), (16, 2, 0), (8, 4, 4096), (5, 3, 255), (16, 0, 0), (3, 1, 0xFFFFFFF0 if len(data) < 9 else 0x10000), (33, 1, 0)):
+            printed = run(["xxd", "-g", group, "-c", per_row, "-o", first, path])
+            width = 2 * (per_row or 16) + ((per_row or 16) - 1) // (group or per_row or 16)
+            for has_offsets, has_text in ((1, 1), (0, 1), (1, 0), (0, 0)):
+                text = "".join(cut(line, width, has_offsets, has_text) + "\n" for line in printed.splitlines())
+                yield "dump %s %d %d %d %d %d = %s\n" % (escaped(data), per_row, group, first, has_offsets, has_text, escaped(text.encode()))
+
+
+def cut(line, width, has_offsets, has_text):
+    offset, rest = line.split(": ", 1)
+    return (offset + ": " if has_offsets else "") + (rest if has_text else rest[:width].rstrip(" "))
 
 
 def main(given):
     if given.write:
-        stored.write_rows()
+        write_rows()
         return 0
     faults, is_ours = [], not given.proved and not given.program
     made, huge, tried, tried_huge = cases_of_tables(faults)
@@ -103,8 +136,8 @@ def main(given):
         from_rust = by_rust(faults, room, library, tried)
         by_valgrind = under_valgrind(faults, program, made + huge)
         loaded = ctypes.CDLL(str(shared))
-        compare(faults, "Python", tried, (by_python.make(loaded, case, size) for case, size in tried))
+        compare(faults, "Python", tried, (by_python(loaded, case, size) for case, size in tried))
         by_pages = callers.by_callers(faults, room, library, shared, made)
     counts = len(made) + len(huge), len(cases.CALLS), by_all, from_rust, by_valgrind + len(some), randomly, steps, by_pages
-    return ended((fault[:600] for fault in faults), "%d cases of %d calls: %d calls from C and as many from Python, %d from Rust, %d under valgrind, %d at random, "
-                 "the steps of %d, %d by the page's callers" % counts)
+    return findings.ended((fault[:600] for fault in faults), "%d cases of %d calls: %d calls from C and as many from Python, %d from Rust, "
+                          "%d under valgrind, %d at random, the steps of %d, %d by the page's callers" % counts)

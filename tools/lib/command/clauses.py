@@ -4,6 +4,7 @@ It prints each public function of REVISION that is gone; each `ensures` that isn
 has its name now; and each `requires` that is new. So a reader sees what to judge: whether a clause became weaker, no tool can say.
 A function that moved to another module or crate is found by its name and its type's. The last line has the counts. The status is 0.
 """
+import collections
 import pathlib
 import subprocess
 import tempfile
@@ -22,6 +23,13 @@ class Tree:
                 key = (function.owner_name() if function.owner else "", function.name)
                 self.functions.setdefault(key, []).append((sources.parent.name, function))
 
+    def placed(self, key):
+        """The functions of this name, each with its place among those of its crate."""
+        seen = collections.Counter()
+        for crate, function in self.functions[key]:
+            yield seen[crate], (crate, function)
+            seen[crate] += 1
+
     def like(self, key, crate, place):
         """The function of this name in the crate, or else in another one: the one at this place of several."""
         found = self.functions.get(key, [])
@@ -31,29 +39,24 @@ class Tree:
 
 def changes(old, new):
     """What is said of one function: clauses that are gone, and what is asked for that was not."""
+    before, after = ({(kind, text) for kind, _, text in its.texts} for its in (old, new))
     for kind, name, text in old.texts:
-        if kind == "ensures" and (kind, text) not in [(other, now) for other, _, now in new.texts]:
+        if kind == "ensures" and (kind, text) not in after:
             yield "ensures %s was %s" % (name, text)
-            for other, now_name, now in new.texts:
-                if other == "ensures" and now_name == name:
-                    yield "    is now %s" % now
-    for kind, name, text in new.texts:
-        if kind == "requires" and (kind, text) not in [(other, was) for other, _, was in old.texts]:
-            yield "requires %s, new: %s" % (name, text)
+            yield from ("    is now %s" % now for other, its, now in new.texts if (other, its) == ("ensures", name))
+    asked = [(name, text) for kind, name, text in new.texts if kind == "requires" and (kind, text) not in before]
+    yield from ("requires %s, new: %s" % it for it in asked)
 
 
 def compared(old, new):
+    """Prints what changed, and returns how many functions are gone and how many have changed."""
     gone, changed = 0, 0
-    for key in sorted(old.functions):
-        seen = {}
-        for crate, function in old.functions[key]:
-            place = seen[crate] = seen.get(crate, -1) + 1
-            told = "%s::%s" % (crate, "::".join(word for word in key if word))
-            now = new.like(key, crate, place)
-            lines = list(changes(function, now)) if now else ["is gone"]
-            gone, changed = gone + (not now), changed + bool(now and lines)
-            for line in lines:
-                print("%s: %s" % (told, line))
+    for key, place, crate, function in ((key, place, *its) for key in sorted(old.functions) for place, its in old.placed(key)):
+        now = new.like(key, crate, place)
+        lines = list(changes(function, now)) if now else ["is gone"]
+        gone, changed = gone + (not now), changed + bool(now and lines)
+        for line in lines:
+            print("%s::%s: %s" % (crate, "::".join(filter(None, key)), line))
     return gone, changed
 
 

@@ -21,7 +21,7 @@ def add_arguments(parser):
 
 
 def main(given):
-    from lib.packaging import building, folder
+    from lib.packaging import folder
 
     to = given.folder.resolve()
     if to.exists() and (not to.is_dir() or any(to.iterdir())):
@@ -30,7 +30,7 @@ def main(given):
     running.heartbeat("x dist")
     with tempfile.TemporaryDirectory(prefix="x-dist-") as room:
         try:
-            programs, library = building.proved() if given.proved else building.unproved(pathlib.Path(room))
+            programs, library = folder.proved() if given.proved else folder.unproved(pathlib.Path(room))
         except subprocess.CalledProcessError as error:
             sys.exit("x dist: status %d of %s" % (error.returncode, " ".join(map(str, error.cmd))))
         folder.made(to, programs, library, given.proved)

@@ -23,6 +23,7 @@ import shutil
 import subprocess
 import tempfile
 
+from lib.bench import build
 from lib.command.arguments import add_names
 from lib.findings import ended
 from lib.top import TOP, closure, listed
@@ -36,14 +37,8 @@ KEPT = ("src", "specs", "proofs", "out/incremental", "out/rlib")
 class Form:
     def __init__(self, path):
         self.path, self.name = path, path.name.removesuffix(".rt.txt")
-        self.says, self.uses, self.command = [], [], "check"
-        for key, value in HEAD.findall(path.read_text()):
-            if key == "says":
-                self.says.append(value)
-            elif key == "uses":
-                self.uses = value.split()
-            else:
-                self.command = value
+        said = {key: [value for other, value in HEAD.findall(path.read_text()) if other == key] for key in ("says", "uses", "by")}
+        self.says, self.uses, self.command = said["says"], " ".join(said["uses"]).split(), (said["by"] or ["check"])[0]
 
     def write(self, room):
         crate = room / "crates" / self.name
@@ -58,23 +53,18 @@ class Form:
         if not self.says:
             return "no line `//! says:`"
         ran = subprocess.run(["rt", self.command, "--jobs", "1"], cwd=room / "crates" / self.name, stdin=subprocess.DEVNULL,
-                             stdout=subprocess.PIPE, stderr=subprocess.STDOUT)
-        said = ran.stdout.decode(errors="replace")
+                             stdout=subprocess.PIPE, stderr=subprocess.STDOUT, text=True, errors="replace")
         if ran.returncode == 0:
             return "not refused"
-        missing = [words for words in self.says if words not in said]
-        if missing:
-            return "nothing says `%s`; last was said:\n%s" % (missing[0], "\n".join(said.splitlines()[-20:]))
-        return None
+        last = "\n".join(ran.stdout.splitlines()[-20:])
+        missing = [words for words in self.says if words not in ran.stdout]
+        return "nothing says `%s`; last was said:\n%s" % (missing[0], last) if missing else None
 
 
 def make_room(room, forms):
     lines = listed()
     crates = closure([crate for form in forms for crate in form.uses if crate in lines], lines)
-    for crate in crates:
-        for part in KEPT:
-            if (TOP / "crates" / crate / part).is_dir():
-                shutil.copytree(TOP / "crates" / crate / part, room / "crates" / crate / part, symlinks=True)
+    build.copied(TOP, room, crates, KEPT)
     rows = {**{crate: lines[crate] for crate in crates}, **{form.name: form.uses for form in forms}}
     (room / "crates.txt").write_text("".join("%s: %s\n" % (crate, " ".join(below)) for crate, below in rows.items()))
     for form in forms:
@@ -85,10 +75,8 @@ def page_faults(forms):
     """Forms without an entry on the page, and entries without a form."""
     names = {form.name for form in forms}
     on_page = set(re.findall(r"\(forms/(\w+)\.(?:rt|antt)\.txt\)", PAGE.read_text()))
-    for name in sorted(names - on_page):
-        yield "%s: docs/DECISIONS.md has no link to it" % name
-    for name in sorted(on_page - names):
-        yield "%s: docs/DECISIONS.md names it, and it isn't in docs/forms" % name
+    yield from ("docs/forms/%s.rt.txt:1: docs/DECISIONS.md has no link to it" % name for name in sorted(names - on_page))
+    yield from ("docs/DECISIONS.md:1: names %s, which isn't in docs/forms" % name for name in sorted(on_page - names))
 
 
 def add_arguments(parser):
@@ -109,5 +97,5 @@ def main(given):
             fault = form.fault(room)
             print("%d of %d: %s: %s" % (number, len(tried), form.name, "another answer" if fault else "refused"), flush=True)
             refused += fault is None
-            faults += ["%s: %s" % (form.name, fault)] if fault else []
+            faults += ["%s:1: %s" % (form.path.relative_to(TOP), fault)] if fault else []
     return ended(faults, "%d forms: %d tried, %d refused as they say" % (len(forms), len(tried), refused))

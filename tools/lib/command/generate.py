@@ -10,10 +10,10 @@ def add_arguments(parser):
 
 
 def main(given):
+    from lib import generated
     from lib.api import page as calls
     from lib.by_count import step as by_count
     from lib.promises import page as promises
 
-    if given.check:
-        return max(part.main(given) for part in (by_count, calls, promises))
-    return max(part.write() for part in (by_count, calls, promises))
+    parts = by_count, calls, promises
+    return max(part.main(given) if given.check else generated.write(part.files()) for part in parts)

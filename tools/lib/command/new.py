@@ -14,9 +14,15 @@ import re
 import sys
 
 from lib import top
+from lib.copies import copying
+from lib.data import DATA
 
 # What the line of a crate has for each, and the folder of a library of this repository.
-NEEDS = {"parse": ("ufmt_parse", "ufmt", "ufmt_core"), "values": ("ufmt_values", "ufmt"), "snapshot": ("ufmt_snapshot", "ufmt"), "doc": ("ufmt_doc", "ufmt")}
+NEEDS = {"parse": ("ufmt_parse", "ufmt", "ufmt_core"), "values": ("ufmt_values", "ufmt"), "snapshot": ("ufmt_snapshot", "ufmt"),
+         "doc": ("ufmt_doc", "ufmt")}
+# A line of a first file in tools/data/new begins a part, which is taken if the crate does each of these words, or not what has
+# a `-` before it.
+PART = re.compile(r"// \[(.*)\]$")
 
 
 def features(text):
@@ -44,9 +50,32 @@ def refuse(name, repository):
         sys.exit("x new: %s is a crate of the library" % name)
 
 
-def main(given):
-    from lib.copies import copying, first
+def text_of(name, words):
+    """The first file for a crate that does this."""
+    lines, is_taken = [], True
+    for line in (DATA / "new" / name).read_text().splitlines():
+        part = PART.match(line)
+        if part:
+            is_taken = all((word.lstrip("-") in words) != word.startswith("-") for word in part[1].split())
+        elif is_taken:
+            lines.append(line + "\n")
+    return "".join(lines)
 
+
+def write_first(repository, crate, features, is_program):
+    """Writes the first file, and a .gitignore if there is none. A crate that has a root file is left as it is. Returns what was written."""
+    if any((crate / "src" / name).exists() for name in ("lib.rt", "main.rt")):
+        return []
+    files = {crate / "src" / ("main.rt" if is_program else "lib.rt"): text_of("main.rt.txt" if is_program else "lib.rt.txt", features),
+             repository / ".gitignore": "out/\n"}
+    written = [path for path in files if not path.exists()]
+    for path in written:
+        path.parent.mkdir(parents=True, exist_ok=True)
+        path.write_text(files[path])
+    return written
+
+
+def main(given):
     repository = copying.repository_here("new")
     refuse(given.name, repository)
     copies, is_here = copying.Copies(repository), repository == top.TOP
@@ -59,7 +88,7 @@ def main(given):
         copies.take(top.closure(line_of(given.features)), given.name)
     if line != there:
         copies.lines.put(given.name, line)
-    written = first.write(repository, copies.crates / given.name, given.features, given.program)
+    written = write_first(repository, copies.crates / given.name, given.features, given.program)
     if is_here:
         copies.lines.write()
     else:

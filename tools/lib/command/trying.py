@@ -19,10 +19,8 @@ KINDS = (steps.SOURCES, steps.UNPROVED, steps.BUILT)
 def epilog():
     lines = []
     for kind in KINDS:
-        lines += ["", "Of %s:" % kind]
-        for step in sorted(steps.STEPS):
-            if step.kind == kind:
-                lines.append("  %-10s %s" % (step.name, step.told))
+        its = [step for step in sorted(steps.STEPS) if step.kind == kind]
+        lines += ["", "Of %s:" % kind, *("  %-10s %s" % (step.name, step.told) for step in its)]
     return "\n".join(lines).strip() + "\n\nBuilt programs are those that `rt ci` leaves, or `rt run` in each program's crate."
 
 
@@ -41,20 +39,17 @@ def add_arguments(parser):
 
 def words_of(given):
     """The options for a step that runs by itself."""
-    words = ["--seed", given.seed]
-    words += ["--count", given.count] if given.count is not None else []
-    words += ["--every-f32", given.every_f32] if given.every_f32 is not None else []
-    words += ["--program", given.program] if given.program else []
+    valued = {"--seed": given.seed, "--count": given.count, "--every-f32": given.every_f32, "--program": given.program}
+    words = [word for pair in valued.items() if pair[1] is not None for word in pair]
     return words + ["--%s" % word for word in ("full", "proved", "write") if getattr(given, word)]
 
 
 def say_missing(tried):
     """Says which programs this machine hasn't, and what isn't tried for want of each."""
     for name in needs.missing(sorted({name for step in tried for name in (*step.needs, *step.uses)})):
-        skipped = [step.name for step in tried if name in step.needs]
-        less = [step.name for step in tried if name in step.uses]
-        said = (["skipped: %s" % ", ".join(skipped)] if skipped else []) + (["in part: %s" % ", ".join(less)] if less else [])
-        say("%s: %s" % (needs.told(name), "; ".join(said)))
+        kinds = {"skipped": [step.name for step in tried if name in step.needs],
+                 "in part": [step.name for step in tried if name in step.uses]}
+        say("%s: %s" % (needs.told(name), "; ".join("%s: %s" % (kind, ", ".join(its)) for kind, its in kinds.items() if its)))
 
 
 class Result(NamedTuple):

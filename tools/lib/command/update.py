@@ -6,6 +6,7 @@ was changed there stays as it is, and is said.
 import sys
 
 from lib import top
+from lib.copies import copying
 
 
 def add_arguments(_parser):
@@ -13,8 +14,6 @@ def add_arguments(_parser):
 
 
 def main(_given):
-    from lib.copies import copying
-
     copies = copying.Copies(copying.repository_here("update"))
     if copies.repository == top.TOP or not copies.names():
         sys.exit("x update: nothing was copied to %s: `x new NAME` does that" % copies.repository)

@@ -1,23 +1,24 @@
 """The functions of a source file with their clauses, and which of them other crates can call."""
 import re
-from typing import NamedTuple
 
-from lib.contracts.source import closing, end_of, find, joined, name_at, sources, tokens_of
+from lib.contracts.source import Source, closing, sources
 
 CLAUSES = ("ensures", "requires")
 # What may be before an item. `extern "C"` has a text.
-MODIFIERS = ("pub", "const", "unsafe", "extern", '""')
+MODIFIERS = ("pub", "const", "unsafe", "extern", '"C"')
 ITEMS = ("struct", "enum", "union", "trait", "type")
 
 
 class Function:
-    """A function with the `impl` or trait that it is in, the words before it, as `pub` and `const`, and its clauses."""
+    """The function at a word `fn`, with its `impl` or trait, the words before it, as `pub` and `const`, and its clauses."""
 
-    def __init__(self, path, line, owner, name, before, clauses):
-        self.path, self.line, self.owner, self.name, self.before = path, line, owner, name, before
-        self.clauses = {name for clause in clauses for name in clause.names}
-        self.identifiers = {token.name for clause in clauses for token in clause.tokens}
-        self.texts = [(clause.kind, " ".join(clause.names), joined(clause.tokens)) for clause in clauses]
+    def __init__(self, source, at, owner):
+        clauses = list(clauses_of(source, at))
+        self.path, self.line, self.owner, self.name = source.path, source.line(at + 1), owner, source.name(at + 1)
+        self.before = words_before(source, at)
+        self.clauses = {name for _, names, _, _ in clauses for name in names}
+        self.identifiers = {token.name for _, _, start, end in clauses for token in source.tokens[start:end]}
+        self.texts = [(kind, " ".join(names), source.joined(start, end)) for kind, names, start, end in clauses]
         self.requires = [" ".join([name, text]).strip() for kind, name, text in self.texts if kind == "requires"]
 
     def is_of_trait(self):
@@ -28,56 +29,44 @@ class Function:
         return type_name(self.owner)
 
 
-class Clause(NamedTuple):
-    kind: str
-    names: list
-    tokens: list
-
-
 def functions_of(path):
-    tokens = tokens_of(path.read_text())
-    owners = []
-    for at, token in enumerate(tokens):
+    source, owners = Source(path), []
+    for at, token in enumerate(source.tokens):
         if token.name in ("impl", "trait"):
-            brace = find(tokens, at, ["{", ";"])
-            owners.append((brace, end_of(tokens, brace), joined(tokens[at:brace])))
-        if token.name == "fn" and re.fullmatch(r"\w+", name_at(tokens, at + 1)):
+            brace = source.find(at, ["{", ";"])
+            end = source.tokens[brace].pair if source.name(brace) == "{" else brace
+            owners.append((brace, end, source.joined(at, brace)))
+        if token.name == "fn" and source.is_word(at + 1):
             owner = [head for start, end, head in owners if start < at < end]
-            name = tokens[at + 1]
-            yield Function(path, name.line, owner[-1] if owner else "", name.name, words_before(tokens, at), clauses_of(tokens, at))
+            yield Function(source, at, owner[-1] if owner else "")
 
 
-def words_before(tokens, at):
+def words_before(source, at):
     """The words before the item at `at`, as `pub` and `const`. Of `pub(crate)` there is none."""
     start = at
-    while name_at(tokens, start - 1) in MODIFIERS:
+    while source.name(start - 1) in MODIFIERS:
         start -= 1
-    return {token.name for token in tokens[start:at]}
+    return {token.name for token in source.tokens[start:at]}
 
 
-def is_pub(tokens, at):
-    return "pub" in words_before(tokens, at)
+def is_pub(source, at):
+    return "pub" in words_before(source, at)
 
 
-def clauses_of(tokens, at):
-    """The clauses of the function at `at`, up to its body."""
-    clauses, depth = [], 0
-    while at < len(tokens):
-        name = tokens[at].name
-        if name in CLAUSES and depth == 0:
-            brace = find(tokens, at, ["{"])
-            end = end_of(tokens, brace)
-            clauses.append(Clause(name, [token.name for token in tokens[at + 1 : brace]], tokens[brace : end + 1]))
+def clauses_of(source, at):
+    """The clauses of the function at `at`, up to its body: the kind of each, its names, and where its tokens begin and end."""
+    while source.name(at) not in ("", "{", ";"):
+        if source.name(at) in CLAUSES:
+            brace = source.find(at, ["{"])
+            end = source.tokens[brace].pair
+            yield source.name(at), [token.name for token in source.tokens[at + 1 : brace]], brace, end + 1
             at = end
-        elif name == "ghost" and depth == 0:
+        elif source.name(at) == "ghost":
             # A parameter that only proofs have, with its type in braces.
-            at = end_of(tokens, find(tokens, at, ["{"]))
-        elif name in ("{", ";") and depth == 0:
-            break
-        else:
-            depth += (name in "([") - (name in ")]")
+            at = source.tokens[source.find(at, ["{"])].pair
+        elif source.name(at) in ("(", "["):
+            at = source.tokens[at].pair
         at += 1
-    return clauses
 
 
 def type_name(head):
@@ -93,7 +82,7 @@ class Exports:
 
     def __init__(self, sources):
         self.sources = sources
-        self.files = {module_of(sources, path): tokens_of(path.read_text()) for path in sorted(sources.rglob("*.rt"))}
+        self.files = {module_of(sources, path): Source(path) for path in sorted(sources.rglob("*.rt"))}
         self.names, self.modules = set(), set()
         # A name that a public module re-exports may be a module that re-exports others.
         while self.grows():
@@ -111,20 +100,21 @@ class Exports:
         """Whether the module is public as far as is known."""
         if not module:
             return True
-        outer, name = module[:-1], module[-1]
-        tokens = self.files.get(outer, [])
-        declared = any(tokens[at].name == "mod" and name_at(tokens, at + 1) == name and is_pub(tokens, at) for at in range(len(tokens)))
-        return declared and (outer in self.modules or name in self.names)
+        *outer, name = module
+        source = self.files.get(tuple(outer))
+        declared = source and any(source.name(at + 1) == name and is_pub(source, at) for at in source.all("mod"))
+        return bool(declared) and (tuple(outer) in self.modules or name in self.names)
 
     def public_types(self):
         """The names of types and traits, also those of which a public name is an alias."""
         found = set()
-        for module, tokens in self.files.items():
-            for at in range(len(tokens)):
-                if tokens[at].name in ITEMS and is_pub(tokens, at) and (module in self.modules or name_at(tokens, at + 1) in self.names):
-                    found.add(name_at(tokens, at + 1))
-                    if tokens[at].name == "type":
-                        found |= {token.name for token in tokens[find(tokens, at, ["=", ";"]) : find(tokens, at, [";"])]}
+        for module, source in self.files.items():
+            for at in source.all(*ITEMS):
+                if is_pub(source, at) and (module in self.modules or source.name(at + 1) in self.names):
+                    found.add(source.name(at + 1))
+                    if source.name(at) == "type":
+                        aliased = source.tokens[source.find(at, ["=", ";"]) : source.find(at, [";"])]
+                        found |= {token.name for token in aliased}
         return found
 
     def has(self, function):
@@ -139,8 +129,8 @@ class Exports:
 
     def name_of(self, function):
         """The function's name with its modules and its type, as `list::Builder::entry`."""
-        words = list(module_of(self.sources, function.path)) + [function.owner_name() if function.owner else "", function.name]
-        return "::".join(word for word in words if word)
+        words = [*module_of(self.sources, function.path), function.owner_name() if function.owner else "", function.name]
+        return "::".join(filter(None, words))
 
 
 def public_functions(folder):
@@ -155,10 +145,9 @@ def module_of(sources, path):
     return () if words in (("lib",), ("main",)) else words
 
 
-def re_exported(tokens):
+def re_exported(source):
     """The names that a file's `pub use` items bring in from its own crate."""
-    for at in range(len(tokens)):
-        if tokens[at].name == "use" and is_pub(tokens, at) and not name_at(tokens, at + 1).startswith("ufmt"):
-            for one in range(at + 1, find(tokens, at, [";"])):
-                if name_at(tokens, one + 1) in (",", "}", ";", "as"):
-                    yield tokens[one].name
+    for at in source.all("use"):
+        if is_pub(source, at) and not source.name(at + 1).startswith("ufmt"):
+            names = range(at + 1, source.find(at, [";"]))
+            yield from (source.name(one) for one in names if source.name(one + 1) in (",", "}", ";", "as"))

@@ -1,13 +1,20 @@
-"""Copies crates of this repository into a user's repository, and brings what was copied up to date."""
+"""Copies crates of this repository into a user's repository, and brings what was copied up to date.
+
+What `x new` and `x update` copied is kept there in a file of the crate ufmt. A file of the repository is *ours* while it has the
+sum that is kept of it. Then it may be replaced; any other file stays as it is.
+"""
+import hashlib
 import os
 import pathlib
+import re
 import shutil
 import sys
 
 from lib import top
-from lib.copies.crates_txt import CratesTxt
-from lib.copies.kept import COPIED, Kept, sum_of
 
+COPIED = "ufmt/COPIED"
+HEAD = ("# What `x new` and `x update` copied here: lines of crates.txt, and files by their SHA-256. A file that was changed since "
+        "is never replaced.\n")
 # What a user needs of a crate. Wrong bodies and what tells of them stay here.
 PARTS = ("src", "specs", "proofs", "CALLING.md")
 LICENCES = ("LICENSE-APACHE", "LICENSE-MIT")
@@ -24,6 +31,68 @@ def files_of(crate):
     if crate == "ufmt":
         found.update(("ufmt/" + name, top.TOP / name) for name in LICENCES)
     return found
+
+
+def sum_of(path):
+    return hashlib.sha256(path.read_bytes()).hexdigest()
+
+
+class Kept:
+    """The file in this folder of crates. `sums` has each file's sum by its path below the folder, `lines` what each crate stands
+    on."""
+
+    def __init__(self, crates):
+        self.path = crates / COPIED
+        self.version, self.sums, self.lines = "", {}, {}
+        for line in self.path.read_text().splitlines() if self.path.is_file() else []:
+            kind, _, rest = line.partition(" ")
+            if kind == "version":
+                self.version = rest
+            elif kind == "line":
+                name, _, below = rest.partition(":")
+                self.lines[name] = below.split()
+            elif kind != "#":
+                self.sums[rest] = kind
+
+    def is_ours(self, crates, file):
+        return self.sums.get(file) == sum_of(crates / file)
+
+    def write(self):
+        rows = [HEAD, "version %s\n" % self.version]
+        rows += ["line %s: %s\n" % (name, " ".join(below)) for name, below in sorted(self.lines.items())]
+        rows += ["%s %s\n" % (found, file) for file, found in sorted(self.sums.items())]
+        self.path.write_text("".join(rows))
+
+
+class CratesTxt:
+    """The file crates.txt of a user's repository, changed line by line: comments and all other lines stay."""
+
+    def __init__(self, repository):
+        self.path = repository / "crates.txt"
+        self.rows = self.path.read_text().splitlines() if self.path.exists() else []
+
+    def at(self, name):
+        """The place of a crate's line, or None."""
+        return next((at for at, row in enumerate(self.rows) if re.match(r"%s(\s+\w+)?\s*:" % re.escape(name), row)), None)
+
+    def below(self, name):
+        """What a crate stands on, by its line, or None."""
+        at = self.at(name)
+        return None if at is None else self.rows[at].partition("#")[0].partition(":")[2].split()
+
+    def put(self, name, below, before=None):
+        """Writes a crate's line: where it is, or before another crate's, or at the end."""
+        row, at = "%s: %s" % (name, " ".join(below)), self.at(name)
+        if at is not None:
+            _, sign, told = self.rows[at].partition("#")
+            self.rows[at] = row + ("  #" + told if sign else "")
+        elif before is not None and self.at(before) is not None:
+            self.rows.insert(self.at(before), row)
+        else:
+            self.rows.append(row)
+
+    def write(self):
+        self.path.write_text("".join(row + "\n" for row in self.rows))
 
 
 class Copies:
@@ -118,17 +187,12 @@ class Copies:
 
 def version():
     """The version of all crates, and the commit."""
-    from lib.packaging import folder
-
-    return "%s, commit %s" % (top.version(), folder.commit())
+    return "%s, commit %s" % (top.version(), top.commit())
 
 
 def repository_here(command):
     """The repository in which the command is called: the nearest with a crates.txt, or this folder."""
-    found = top.nearest()
-    if found is None:
-        here = pathlib.Path.cwd()
-        if any((here / name).exists() for name in ("BUILD.bazel", "MODULE.bazel")):
-            sys.exit("x %s: the crates of %s are listed in BUILD.bazel: move their lines to a crates.txt first" % (command, here))
-        return here
-    return found
+    found, here = top.nearest(), pathlib.Path.cwd()
+    if not found and any((here / name).exists() for name in ("BUILD.bazel", "MODULE.bazel")):
+        sys.exit("x %s: the crates of %s are listed in BUILD.bazel: move their lines to a crates.txt first" % (command, here))
+    return found or here

@@ -1,5 +1,5 @@
-"""Makes crates by `x new` in folders of each kind and updates them by `x update`, over a small library, and looks at what they write and copy of
-this one."""
+"""Makes crates by `x new` in folders of each kind and updates them by `x update`, over a small library, and looks at what they
+write and copy of this one."""
 import argparse
 import contextlib
 import io
@@ -13,7 +13,7 @@ from unittest import mock
 
 from lib import top
 from lib.command import new, update
-from lib.copies import copying, first
+from lib.copies import copying
 from lib.findings import of_tests
 
 LIBRARY = {"ufmt_core": [], "ufmt_scan": ["ufmt_core"], "ufmt": ["ufmt_core"], "ufmt_parse": ["ufmt_scan", "ufmt"], "ufmt_values": ["ufmt_scan", "ufmt", "core"],
@@ -147,7 +147,7 @@ class Library(unittest.TestCase):
     def test_first_files_use_what_their_crates_list(self):
         for name in ("lib.rt.txt", "main.rt.txt"):
             for features in ([], *([feature] for feature in new.NEEDS), list(new.NEEDS)):
-                text = first.text_of(name, features)
+                text = new.text_of(name, features)
                 used = set(re.findall(r"^\s*(?:ghost )?use (?:Rattle\.)?(ufmt\w*)", text, re.M))
                 self.assertLessEqual(used, set(new.line_of(features)), (name, features))
                 self.assertEqual([], re.findall(r"// \[", text))

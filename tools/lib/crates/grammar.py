@@ -1,8 +1,8 @@
 """Writes the tests of each form of each macro: every kind of piece in each place, and many numbers of fields, with and
 without the comma at the end. The texts are written here, as core::fmt has them.
 
-Where the macros are called, `Result`, `Ok` and their like are names of other things, and what a macro names of the libraries has no
-name of its own: tools/data/crates/grammar has the file's head, and each kind of piece with its text."""
+Where the macros are called, `Result`, `Ok` and their like are names of other things, and what a macro names of the libraries has
+no name of its own: tools/data/crates/grammar has the file's head, and each kind of piece with its text."""
 from lib import data
 
 COUNTS = (0, 1, 2, 3, 12, 13, 14, 24, 25)
@@ -203,8 +203,8 @@ class Variant:
 
 
 def enum_test(name, members, inner, outer):
-    """An enum with these variants, each of which is parsed. Further texts are no variant's. `inner` also says whether the fields of each
-    variant end in a comma."""
+    """An enum with these variants, each of which is parsed. Further texts are no variant's. `inner` also says whether the fields
+    of each variant end in a comma."""
     yield "\n#[derive(Drop)]\nenum %s\n" % braced(name, [one.declared() for one in members])
     function, variants = "parse_%s" % name.lower(), listed([one.written(inner) for one in members], inner)
     yield parse_function(function, name, "parse_variants!((), &mut parser, %s { %s }%s)" % (name, variants, "," if outer else ""))

@@ -6,7 +6,8 @@ each of which must give just these messages. After a blank line new messages or 
 """
 import re
 
-from lib.crates import tried
+from lib import findings
+from lib.crates import tests
 
 # The compiler shows no more errors than this.
 SHOWN = 20
@@ -46,38 +47,35 @@ class Refused:
                 text += snippet.items
             text += "\nfn snippet_%d%s {\n    %s\n}\n" % (number, snippet.function, snippet.code)
             self.lines[text.count("\n") - 1] = snippet
-        tried.write(room, name, {"main.rt": text + MAIN})
+        tests.write(room, name, {"main.rt": text + MAIN})
 
     def faults(self):
-        said = tried.run(self.room, self.name, [])
+        said = tests.run(self.room, self.name, [])
         given = {}
         for line, message in ERROR.findall(said):
             given.setdefault(int(line), []).append(message)
         found = [fault for line in sorted({*given, *self.lines}) for fault in self.compare(line, given.get(line, []))]
         if not given:
-            found.append("%s gave no message:\n%s" % (self.name, said))
+            found.append(findings.case(self.name, "messages", "none:\n" + said))
         if MORE.search(said):
-            found.append("%s gave more messages than the compiler shows" % self.name)
+            found.append(findings.case(self.name, "as many messages as the compiler shows", "more"))
         return found
 
     def compare(self, line, messages):
-        if line not in self.lines:
-            yield "line %d of %s gave\n%s" % (line, self.name, "\n".join(messages))
-            return
-        snippet = self.lines[line]
-        if sorted(messages) != snippet.messages:
-            yield "%s: `%s` gave\n%s\nand must give\n%s" % (
-                snippet.place, snippet.code, "\n".join(messages) or "no message", "\n".join(snippet.messages))
+        snippet = self.lines.get(line)
+        if snippet is None:
+            yield findings.case("line %d of %s" % (line, self.name), "no message", "\n".join(messages))
+        elif sorted(messages) != snippet.messages:
+            wanted, got = ("\n%s\n" % "\n".join(it) for it in (snippet.messages, messages or ["no message"]))
+            yield findings.case("%s: `%s`" % (snippet.place, snippet.code), wanted, got)
 
 
 def crates(room, paths, name="refused"):
     """As few crates as can show all messages. A file's items stand once in a crate, so no two files share names."""
-    taken, count, made = [], 0, []
+    groups, count = [[]], 0
     for snippet in [snippet for path in paths for snippet in snippets_in(path)]:
         if count + len(snippet.messages) > SHOWN:
-            made.append(Refused(room, "%s_%d" % (name, len(made)), taken))
-            taken, count = [], 0
-        taken.append(snippet)
+            groups, count = [*groups, []], 0
+        groups[-1].append(snippet)
         count += len(snippet.messages)
-    made.append(Refused(room, "%s_%d" % (name, len(made)), taken))
-    return made
+    return [Refused(room, "%s_%d" % (name, number), group) for number, group in enumerate(groups)]

@@ -13,26 +13,24 @@ so they are in several crates; those in its folder `last` are in a crate of thei
 only where it has found no others. With `--full` it also tries tools/data/crates/refused/more, and each number of fields up to 25.
 """
 import pathlib
-import shutil
 import sys
 import tempfile
 from concurrent.futures import ThreadPoolExecutor
 
-from lib.crates import grammar, printers, refused, tests, tried
+from lib.bench import build
+from lib.crates import grammar, printers, refused, tests
 from lib.findings import ended
 from lib.top import TOP
 
 CRATES = TOP / "tools" / "data" / "crates"
+TESTS = "tools/data/crates/tests:1"
 
 
 def make_room(room):
     """Copies the libraries, without their work."""
     lines = (TOP / "crates.txt").read_text().splitlines()
-    (room / "crates.txt").write_text("".join(line + "\n" for line in lines if line.split(":")[0] in tried.LIBRARIES))
-    for crate in tried.LIBRARIES:
-        for part in ("src", "specs", "proofs"):
-            if (TOP / "crates" / crate / part).is_dir():
-                shutil.copytree(TOP / "crates" / crate / part, room / "crates" / crate / part)
+    (room / "crates.txt").write_text("".join(line + "\n" for line in lines if line.split(":")[0] in tests.LIBRARIES))
+    build.copied(TOP, room, tests.LIBRARIES, ("src", "specs", "proofs"))
 
 
 def missing_rows(files):
@@ -41,11 +39,11 @@ def missing_rows(files):
     named = set(printers.named_in(text))
     found = printers.printers(TOP)
     for name in sorted(found - named):
-        yield "no row of tools/data/crates/tests says how often %s prints a value" % name
+        yield "%s: no row says how often %s prints a value" % (TESTS, name)
     for name in sorted(named - found):
-        yield "a row of tools/data/crates/tests names %s, which prints no value or isn't there" % name
+        yield "%s: a row names %s, which prints no value or isn't there" % (TESTS, name)
     if not found:
-        yield "no implementation was found that prints another type's value"
+        yield "crates:1: no implementation was found that prints another type's value"
 
 
 def main(given):

@@ -12,7 +12,8 @@ FORMATS = {64: (52, 11), 32: (23, 8)}
 
 
 def round_numbers():
-    """Whole numbers of Ryu's tests: those of the first digits, ten to a power and a lower one, powers of two, and a thousand of these."""
+    """Whole numbers of Ryu's tests: those of the first digits, ten to a power and a lower one, powers of two, and a thousand of
+    these."""
     yield from (int("123456789012345678"[:count]) for count in range(1, 17))
     yield from (10**15 + 10**power for power in range(15))
     for power in range(16):
@@ -58,8 +59,8 @@ def stress_pairs():
 
 
 def middles(width):
-    """Floats with a number of decimals at which they are in the middle between two texts, and the floats beside them; then the stress
-    cases, each with the decimals at which it is almost there."""
+    """Floats with a number of decimals at which they are in the middle between two texts, and the floats beside them; then the
+    stress cases, each with the decimals at which it is almost there."""
     fraction, exponent = FORMATS[width]
     for places in range(1, (1 << (exponent - 1)) + fraction - 1):
         for odd in (1, 3, 5, (1 << fraction) - 1):
@@ -91,8 +92,8 @@ def plain_lines(width, count, seed):
 
 
 def fixed_lines(width, count, seed):
-    """Of each pattern, and of halves between two numbers with so many decimals, the bits and a number of decimals. More than 60 are
-    tried for one pattern of ten."""
+    """Of each pattern, and of halves between two numbers with so many decimals, the bits and a number of decimals. More than 60
+    are tried for one pattern of ten."""
     dice = random.Random(seed * 100 + width + 1)
     ties = [bits_of("%de-%d" % (number * 10**places // 2**places, places), width) for places in range(1, 9) for number in range(1, 2**places, 2)]
     for bits, decimals in middles(width):

@@ -1,40 +1,26 @@
-"""The programs that print floats: over ufmt_float and ufmt_fixed, by rustc, and over the kit's ryu."""
-import shutil
+"""The programs that print floats: over ufmt_float and ufmt_fixed, over ufmt, by rustc, and over the kit's ryu."""
+import functools
 import subprocess
 
 from lib.bench import build
-from lib.top import TOP
-
-DATA = TOP / "tools" / "data" / "floats"
+from lib.data import DATA
 
 
-def built(room, name, below):
-    """Built of tools/data/floats/NAME.rt.txt over these libraries, with nothing proved."""
-    build.copied(TOP, room, below)
-    source = room / "crates" / name / "src" / "main.rt"
-    source.parent.mkdir(parents=True)
-    shutil.copy(DATA / (name + ".rt.txt"), source)
-    return build.program(room, name, below)
+def built(name, libraries, room):
+    """Built of tools/data/floats/NAME.rt.txt over copies of these libraries and of what is below them, with nothing proved."""
+    return build.over_copies(room, name, libraries, "floats")
 
 
-def ours(room):
-    """Over copies of ufmt_float, ufmt_fixed and what is below them."""
-    return built(room, "floats", build.libraries(TOP, ["ufmt_fixed"]))
-
-
-def by_ufmt(room):
-    """Over copies of ufmt and what is below it, to count what its calls take."""
-    return built(room, "by_ufmt", build.libraries(TOP, ["ufmt"]))
-
-
-def ryu(room):
-    """Over the kit's ryu, which prints an exponent or a point by rules of its own."""
-    return built(room, "ryu_floats", {"ryu": []})
+ours = functools.partial(built, "floats", ["ufmt_fixed"])
+# What its calls take is counted.
+by_ufmt = functools.partial(built, "by_ufmt", ["ufmt"])
+# It prints an exponent or a point by rules of its own.
+ryu = functools.partial(built, "ryu_floats", ["ryu"])
 
 
 def theirs(room):
     """Built by rustc."""
     room.mkdir(exist_ok=True)
     made = room / "rustc-floats"
-    subprocess.run(["rustc", "-O", "-o", made, DATA / "floats.rs"], check=True)
+    subprocess.run(["rustc", "-O", "-o", made, DATA / "floats" / "floats.rs"], check=True)
     return made

@@ -36,21 +36,10 @@ FILES = {"ufmt_float": (HEAD % ("", "`{:?}` and `{}`"), "&str, &str", plain),
 
 
 def made(program):
-    """The text of each file, by its path."""
+    """The text of each file, by its path, by the program that rustc built."""
     for crate, (head, kinds, rows_of) in FILES.items():
         lines = [head]
-        for width in (64, 32):
-            rows = rows_of(program, width)
-            lines += ["pub(super) const ROWS_%d: [(u%d, %s); %d] = [" % (width, width, kinds, len(rows)), *(line for words in rows for line in row(words)), "];", ""]
+        for width, rows in ((width, rows_of(program, width)) for width in (64, 32)):
+            declared = "pub(super) const ROWS_%d: [(u%d, %s); %d] = [" % (width, width, kinds, len(rows))
+            lines += [declared, *(line for words in rows for line in row(words)), "];", ""]
         yield TOP / "crates" / crate / "src" / "tests" / "rows.rt", "\n".join(lines[:-1]) + "\n"
-
-
-def write(rustc):
-    """Writes both files, by the program that rustc built."""
-    for path, text in made(rustc):
-        path.write_text(text)
-
-
-def wrong(rustc):
-    """The files that aren't as rustc prints."""
-    return [path for path, text in made(rustc) if path.read_text() != text]

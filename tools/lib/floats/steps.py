@@ -1,14 +1,15 @@
-"""What ufmt takes to print a float, and one with a number of decimals: tools/data/measured/floats.txt.
+"""What ufmt takes to print a float, and one with a number of decimals: steps, and bytes of stack by the machine code.
 
-Its rows are usual floats; decimals that binary fractions have; the ends of the ranges that crates/ufmt_float/CALLING.md and
-crates/ufmt_fixed/CALLING.md name, and what lies in them.
+The rows of tools/data/measured/floats.txt are usual floats; decimals that binary fractions have; the ends of the ranges that
+crates/ufmt_float/CALLING.md and crates/ufmt_fixed/CALLING.md name, and what lies in them. The bounds of stack are in stack.txt
+there.
 """
 import pathlib
 import shutil
 import tempfile
 
-from lib import measures, needs
-from lib.bench import floats
+from lib import findings, measures, needs
+from lib.bench import floats, frames
 from lib.floats import programs
 
 TOLD = "Of `x try floats`: steps of a `{:?}` and the loop around it, and after a colon of one with decimals"
@@ -16,14 +17,20 @@ TOLD = "Of `x try floats`: steps of a `{:?}` and the loop around it, and after a
 
 def counted(program):
     """What each call of the program takes. None is counted without valgrind."""
-    if not shutil.which("valgrind"):
-        return {}
-    return {value: [("steps", floats.instructions(program, value))] for value in measures.Table("floats").rows}
+    rows = measures.Table("floats").rows if shutil.which("valgrind") else ()
+    return {value: [("steps", floats.instructions(program, value))] for value in rows}
 
 
-def faults(counts):
-    """A line for each call that takes more than its bound."""
-    return list(measures.Table("floats").faults(counts)) if counts else []
+def faults(program, counts):
+    """A line for each call that takes more steps than its bound, and for each function that is past a bound of stack, where there
+    is objdump."""
+    past = list(measures.Table("floats").faults(counts)) if counts else []
+    known = frames.Frames(program) if shutil.which("objdump") else None
+    for name, (most, own) in measures.Table("stack").of("float").items() if known else ():
+        taken = known.most("by_ufmt::" + name).size, known.frame_of("by_ufmt::" + name).size
+        past += [findings.most(what, bound, size, "bytes of stack")
+                 for what, bound, size in zip((name, "the frame of %s" % name), (most, own), taken) if size > bound]
+    return past
 
 
 def measured_again(is_written):

@@ -1,7 +1,8 @@
-"""Runs `x dist` where others stand in the place of its builds, which take minutes and are made by other steps: of the compiler's, the
-archive's and the kit.
+"""Runs `x dist` where others stand in the place of its builds, which take minutes and are made by other steps: of the compiler's,
+the archive's and the kit.
 
-What is tried is what it asks of them, where it puts what they leave, what it says, what is left where one fails, and what is in the folder.
+What is tried is what it asks of them, where it puts what they leave, what it says, what is left where one fails, and what is in
+the folder.
 """
 import argparse
 import ast
@@ -13,9 +14,9 @@ import shutil
 import sys
 from unittest import mock
 
-from lib import needs
+from lib import needs, top
 from lib.command import dist
-from lib.packaging import building, folder
+from lib.packaging import folder
 from lib.programs.cases import run
 from lib.top import TOP, X, version
 
@@ -23,7 +24,12 @@ from lib.top import TOP, X, version
 FAILING_KIT = '#!/bin/sh\n[ "$1" != %s ]\n'
 # A kit that proves all. It keeps where it is called, its words, and how many bytes it can read.
 KEEPING_KIT = '#!/bin/sh\necho "$PWD: $*, $(wc -c)" >>"$0.asked"\n'
-PROVED = "import sys; sys.path.insert(0, %r); from lib.packaging import building; programs, library = building.proved(); print(*programs, library)"
+PROVED = ("import sys; sys.path.insert(0, %r); from lib.packaging import folder; programs, library = folder.proved(); "
+          "print(*programs, library)")
+HEAD = "HEAD"
+# The commits that BUILD has, one after another: of a copy without git, of a tree, of one with a changed file, with a new one, of
+# another tree of the same repository, and of a folder in one.
+COMMITS = ["unknown", HEAD, HEAD + " with changes", HEAD + " with changes", HEAD, "unknown"]
 
 
 def ran(to, is_proved):
@@ -36,21 +42,20 @@ def ran(to, is_proved):
 def say_how(trial, programs, library):
     """What is put into a folder says whether it was proved. A folder that is there and empty does as well."""
     (trial.room / "said-no").mkdir()
-    for is_proved, word in ((False, "no"), (True, "yes")):
+    for builds, word in (("unproved", "no"), ("proved", "yes")):
         to = trial.room / ("said-" + word)
-        builds = {"proved": None, "unproved": None, "proved" if is_proved else "unproved": lambda *_room: (programs, library)}
-        with mock.patch.multiple(building, **builds):
-            printed = ran(to, is_proved)
+        with mock.patch.multiple(folder, **{"proved": None, "unproved": None, builds: lambda *_room: (programs, library)}):
+            printed = ran(to, builds == "proved")
         told, page = (to / "BUILD").read_text(), (to / "lib" / "pkgconfig" / "ufmt_c.pc").read_text()
         trial.same("BUILD, proved: %s" % word, (told, True, True), (printed, "proved: %s\n" % word in told, "proved=%s\n" % word in page))
     told = dict(line.split(": ", 1) for line in (trial.built / "BUILD").read_text().splitlines())
     made_by = run(["rt", "version"]).output.decode().strip()
-    trial.same("BUILD", {"version": version(), "kit": made_by, "commit": folder.commit(), "proved": "no"}, told)
+    trial.same("BUILD", {"version": version(), "kit": made_by, "commit": top.commit(), "proved": "no"}, told)
 
 
 def build_each(trial, programs, library):
-    """Without --proved each program is built by its own sources and those below it, as fast code, and what is built lies in a folder that
-    is removed."""
+    """Without --proved each program is built by its own sources and those below it, as fast code, and what is built lies in a
+    folder that is removed."""
     asked, places, before = [], [], os.getcwd()
 
     def kept(place, made):
@@ -64,11 +69,12 @@ def build_each(trial, programs, library):
 
     os.chdir(trial.room)
     try:
-        with mock.patch.multiple(building.build, program=program, quick_program=None), mock.patch.object(building.archive, "unproved", lambda place: kept(place, library)):
+        with mock.patch.multiple(folder.build, program=program, quick_program=None), \
+                mock.patch.object(folder.archive, "unproved", lambda place: kept(place, library)):
             ran("from here/built", False)
     finally:
         os.chdir(before)
-    wanted = [(name, True, sorted(building.build.libraries(TOP, [name]).keys() - {name})) for name in sorted(folder.PROGRAMS)]
+    wanted = [(name, True, sorted(folder.build.libraries(TOP, [name]).keys() - {name})) for name in sorted(folder.PROGRAMS)]
     trial.same("the builds of x dist", wanted, sorted(asked))
     for path in [*programs, library]:
         made = trial.room / "from here" / "built" / ("lib" if path == library else "bin") / path.name
@@ -86,12 +92,13 @@ def kit(trial, script):
 
 
 def prove_each(trial):
-    """With --proved each program is run by `rt`, and the library is made, in their crates and with no input. What these leave is taken."""
+    """With --proved each program is run by `rt`, and the library is made, in their crates and with no input. What these leave is
+    taken."""
     said = run(["env", kit(trial, KEEPING_KIT), sys.executable, "-c", PROVED % str(TOP / "tools")], b"an input")
-    words = {"ufmt_conv": "run -- lengths", "ufmt_lines": "run -- --version", "ufmt_c": "lib"}
-    trial.same("x dist --proved asks of rt", ["%s: %s, 0" % (TOP / "crates" / name, its) for name, its in words.items()],
-               (trial.room / "kit" / "rt.asked").read_text().splitlines())
-    made = [TOP / "crates" / name / "out" / (name if name in folder.PROGRAMS else "libufmt_c.a") for name in words]
+    crates, words = TOP / "crates", {"ufmt_conv": "run -- lengths", "ufmt_lines": "run -- --version", "ufmt_c": "lib"}
+    asked = (trial.room / "kit" / "rt.asked").read_text().splitlines()
+    trial.same("x dist --proved asks of rt", ["%s: %s, 0" % (crates / name, its) for name, its in words.items()], asked)
+    made = [crates / name / "out" / (name if name in folder.PROGRAMS else "libufmt_c.a") for name in words]
     trial.same("x dist --proved takes", " ".join(map(str, made)), said.output.decode().strip())
 
 
@@ -113,29 +120,28 @@ def go_wrong(trial):
 
 
 def look_into_library(trial, archived):
-    """The shared library's name for the loader, and what is seen of it, if the archive has a function more. Programs can be started, and links
-    lead to the same file after the folder is moved."""
-    more, made = trial.room / "more", trial.room / "shared"
+    """The shared library's name for the loader, and what is seen of it, if the archive has a function more. Programs can be
+    started, and links lead to the same file after the folder is moved."""
+    source, compiled, more = (trial.room / ("more." + end) for end in "coa")
+    made = trial.room / "shared"
     made.mkdir()
-    more.with_suffix(".c").write_text("int not_a_call(void);\nint not_a_call(void) { return 1; }\n")
-    shutil.copy(archived, more.with_suffix(".a"))
-    for words in (["gcc", "-c", "-fPIC", more.with_suffix(".c"), "-o", more.with_suffix(".o")], ["ar", "r", more.with_suffix(".a"), more.with_suffix(".o")]):
+    source.write_text("int not_a_call(void);\nint not_a_call(void) { return 1; }\n")
+    shutil.copy(archived, more)
+    for words in (["gcc", "-c", "-fPIC", source, "-o", compiled], ["ar", "r", more, compiled]):
         trial.same(words[0], 0, run(words).status)
-    folder.share(more.with_suffix(".a"), made)
-    library = made / ("libufmt_c.so." + version())
-    name = "Library soname: [libufmt_c.so.%s]" % ".".join(version().split(".")[:2])
+    folder.share(more, made)
+    library, name = made / ("libufmt_c.so." + version()), "Library soname: [libufmt_c.so.%s]" % ".".join(version().split(".")[:2])
     trial.same("the shared library's name", True, name in run(["readelf", "-d", library]).output.decode())
     seen = [line.split()[-1] for line in run(["nm", "-D", "--defined-only", library]).output.decode().splitlines()]
     trial.same("what the shared library shows", (True, []), (bool(seen), [one for one in seen if not one.startswith("ufmt_")]))
     trial.same("programs that can be started", [True, True], [os.access(trial.built / "bin" / one, os.X_OK) for one in folder.PROGRAMS])
-    trial.same("links that lead elsewhere", [], [path.name for path in (trial.built / "lib").iterdir() if path.is_symlink() and "/" in os.readlink(path)])
+    links = [path for path in (trial.built / "lib").iterdir() if path.is_symlink()]
+    trial.same("links that lead elsewhere", [], [path.name for path in links if "/" in os.readlink(path)])
 
 
 def tell_commits(trial):
-    """A copy without git has no commit. A tree has its own, and a changed file is said, and a new one; also beside another tree of the same
-    repository, and in one."""
-    if needs.missing(["git"]):
-        print("%s: what BUILD says of a commit isn't tried" % needs.told("git"))
+    for name in needs.missing(["git"]):
+        print("%s: what BUILD says of a commit isn't tried" % needs.told(name))
         return
     tree, beside = trial.room / "tree", trial.room / "beside"
     (tree / "copy").mkdir(parents=True)
@@ -144,15 +150,15 @@ def tell_commits(trial):
     def told(where=tree, **files):
         for file, text in files.items():
             (tree / file).write_text(text)
-        with mock.patch.object(folder, "TOP", where):
-            return folder.commit()
+        with mock.patch.object(top, "TOP", where):
+            return top.commit()
 
     found = [told(file="first")]
-    for words in (["init", "--quiet"], ["add", "."], ["commit", "--quiet", "--message=first"], ["worktree", "add", "--quiet", "--detach", beside]):
-        trial.same("git " + words[0], 0, run([*git, *words]).status)
+    for words in ("init --quiet", "add .", "commit --quiet --message=first", "worktree add --quiet --detach %s" % beside):
+        trial.same("git " + words, 0, run([*git, *words.split(" ")]).status)
     head = run([*git, "rev-parse", "HEAD"]).output.decode().strip()
     found += [told(), told(file="second"), told(file="first", another="first"), told(beside), told(tree / "copy")]
-    trial.same("commits in BUILD", ["unknown", head, head + " with changes", head + " with changes", head, "unknown"], found)
+    trial.same("commits in BUILD", COMMITS, [one.replace(head, HEAD) for one in found])
 
 
 def be_of_python(trial):
@@ -165,10 +171,8 @@ def be_of_python(trial):
 
 
 def tried(trial, programs, library):
-    say_how(trial, programs, library)
-    build_each(trial, programs, library)
-    prove_each(trial)
-    go_wrong(trial)
+    for part in (say_how, build_each):
+        part(trial, programs, library)
     look_into_library(trial, library)
-    tell_commits(trial)
-    be_of_python(trial)
+    for part in (prove_each, go_wrong, tell_commits, be_of_python):
+        part(trial)

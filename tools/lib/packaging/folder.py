@@ -1,83 +1,71 @@
-"""The folder that x dist leaves: laid out as a prefix, with the programs, the library for C in both forms, and what says how
-they were built."""
+"""The folder that `x dist` leaves, laid out as a prefix: the programs, the library for C in both forms, and what says how they
+were built. They are built with nothing proved, or as `rt` proves and builds them."""
 import shutil
 import subprocess
+from concurrent.futures import ThreadPoolExecutor
 
+from lib.bench import build
+from lib.c import archive
+from lib.data import DATA
 from lib.running import output_of
-from lib.top import TOP, version
+from lib.top import TOP, commit, version
 
 CRATE = TOP / "crates" / "ufmt_c"
-PROGRAMS = ("ufmt_conv", "ufmt_lines")
-LICENCES = ("LICENSE-APACHE", "LICENSE-MIT")
+# With such a word a program ends with 0, of an input without a byte.
+PROGRAMS = {"ufmt_conv": "lengths", "ufmt_lines": "--version"}
 LIBRARY = "libufmt_c"
 # Only the calls of the header are seen from outside of the shared library.
 EXPORTS = "{ global: ufmt_*; local: *; };\n"
-# The prefix is found from where the file lies, so the folder can be moved and installed.
-PKG_CONFIG = """prefix=${pcfiledir}/../..
-libdir=${prefix}/lib
-includedir=${prefix}/include
-kit=%(kit)s
-commit=%(commit)s
-proved=%(proved)s
-
-Name: ufmt_c
-Description: Texts of values, converted, printed and compared, without memory
-Version: %(version)s
-Libs: -L${libdir} -lufmt_c
-Cflags: -I${includedir}
-"""
 
 
-def said(*words):
-    return output_of(words, cwd=TOP).strip()
+def unproved(room):
+    """The programs and the archive, built side by side in this folder with nothing proved."""
+    places = [room / name for name in (*PROGRAMS, LIBRARY)]
+    for place in places:
+        place.mkdir()
+    with ThreadPoolExecutor(len(places)) as pool:
+        programs = [pool.submit(build.program, place, place.name, build.of_sources(place, place.name)) for place in places[:-1]]
+        library = pool.submit(archive.unproved, places[-1])
+        return [it.result() for it in programs], library.result()
 
 
-def commit():
-    """The commit of this tree, and whether files of it are changed. A tree without git has none."""
-    if not (TOP / ".git").exists():
-        return "unknown"
-    return said("git", "rev-parse", "HEAD") + (" with changes" if said("git", "status", "--porcelain") else "")
+def proved():
+    """The programs and the archive, as `rt` proves and builds them in their crates."""
+    # If one isn't proved, `rt run` fails, and leaves in out/ what an earlier run built.
+    for name, words in (*((name, ["run", "--", word]) for name, word in PROGRAMS.items()), (CRATE.name, ["lib"])):
+        subprocess.run(["rt", *words], cwd=TOP / "crates" / name, stdin=subprocess.DEVNULL, check=True)
+    return [TOP / "crates" / name / "out" / name for name in PROGRAMS], CRATE / "out" / (LIBRARY + ".a")
 
 
-def facts(is_proved):
-    return {"version": version(), "kit": said("rt", "version"), "commit": commit(), "proved": "yes" if is_proved else "no"}
-
-
-def share(archive, folder):
+def share(library, folder):
     """Links the archive as a shared library. A version before 1.0 may change a call with its second number, so the name for the
     loader has both."""
-    whole = version()
-    name = "%s.so.%s" % (LIBRARY, ".".join(whole.split(".")[:2]))
-    made = folder / ("%s.so.%s" % (LIBRARY, whole))
-    exports = folder / "exports"
+    name = "%s.so.%s" % (LIBRARY, ".".join(version().split(".")[:2]))
+    made, exports = folder / ("%s.so.%s" % (LIBRARY, version())), folder / "exports"
     exports.write_text(EXPORTS)
     try:
         subprocess.run(["gcc", "-shared", "-nostdlib", "-Wl,-soname," + name, "-Wl,--version-script=%s" % exports, "-Wl,--whole-archive",
-                        archive, "-Wl,--no-whole-archive", "-Wl,-z,relro,-z,now", "-lc", "-lgcc", "-o", made], check=True)
+                        library, "-Wl,--no-whole-archive", "-Wl,-z,relro,-z,now", "-lc", "-lgcc", "-o", made], check=True)
     finally:
         exports.unlink()
     for link in (name, LIBRARY + ".so"):
         (folder / link).symlink_to(made.name)
 
 
-def put(source, to, mode):
-    to.parent.mkdir(parents=True, exist_ok=True)
-    shutil.copyfile(source, to)
-    to.chmod(mode)
-
-
-def made(folder, programs, archive, is_proved):
+def made(folder, programs, library, is_proved):
     """Puts the built programs, the archive and what belongs to them into the folder, which is empty or not there."""
-    told = facts(is_proved)
+    told = {"version": version(), "kit": output_of(["rt", "version"]).strip(), "commit": commit(),
+            "proved": "yes" if is_proved else "no"}
+    copied = {"lib/%s.a" % LIBRARY: library, "include/ufmt.h": CRATE / "include" / "ufmt.h"}
+    copied.update(("share/doc/ufmt/" + licence, TOP / licence) for licence in ("LICENSE-APACHE", "LICENSE-MIT"))
     for program in programs:
-        put(program, folder / "bin" / program.name, 0o755)
-        put(TOP / "tools" / "data" / "man" / (program.name + ".1"), folder / "share" / "man" / "man1" / (program.name + ".1"), 0o644)
-    put(archive, folder / "lib" / (LIBRARY + ".a"), 0o644)
-    share(archive, folder / "lib")
-    put(CRATE / "include" / "ufmt.h", folder / "include" / "ufmt.h", 0o644)
-    for licence in LICENCES:
-        put(TOP / licence, folder / "share" / "doc" / "ufmt" / licence, 0o644)
-    page = folder / "lib" / "pkgconfig" / "ufmt_c.pc"
-    page.parent.mkdir()
-    page.write_text(PKG_CONFIG % told)
+        page = program.name + ".1"
+        copied.update({"bin/" + program.name: program, "share/man/man1/" + page: DATA / "man" / page})
+    for name, source in copied.items():
+        (folder / name).parent.mkdir(parents=True, exist_ok=True)
+        shutil.copyfile(source, folder / name)
+        (folder / name).chmod(0o755 if name.startswith("bin/") else 0o644)
+    share(library, folder / "lib")
+    (folder / "lib" / "pkgconfig").mkdir()
+    (folder / "lib" / "pkgconfig" / "ufmt_c.pc").write_text((DATA / "packaging" / "ufmt_c.pc").read_text() % told)
     (folder / "BUILD").write_text("".join("%s: %s\n" % it for it in told.items()))

@@ -1,22 +1,23 @@
 """Installs what `x dist` leaves, as a packager would.
 
-The programs are those in out/ of their crates, which `rt ci` built; the archive is built here with nothing proved. They are put into a
-folder, and from there installed into a prefix, each with a space in its name. There the programs run, their manual pages are compared
-with them, and callers of the library are built (callers.py). Then a second version is installed over the first, and the ways in which an
-installation goes wrong are tried, and so is `x dist` (dist_trial.py).
+The programs are those in out/ of their crates, which `rt ci` built; the archive is built here with nothing proved. They are put
+into a folder, and from there installed into a prefix, each with a space in its name. There the programs run, their manual pages
+are compared with them, and callers of the library are built: crates/ufmt_c/examples/convert.c by pkg-config, with the archive and
+with the shared library, and convert.rs by cargo with build.rs. Then a second version is installed over the first, and the ways in
+which an installation goes wrong are tried, and so is `x dist` (dist_trial.py).
 """
 import os
 import pathlib
+import shlex
 import shutil
 import stat
 import tempfile
 
 from lib import findings, needs
 from lib.c import archive
-from lib.packaging import callers, dist_trial, folder, installing
-from lib.programs import installed
+from lib.packaging import dist_trial, folder, installing, manual
 from lib.programs.cases import run
-from lib.top import X
+from lib.top import X, version
 
 # Each file below the prefix with its mode, and each link with where it leads.
 LINKS = {"lib/libufmt_c.so": "libufmt_c.so.0.4.0", "lib/libufmt_c.so.0.4": "libufmt_c.so.0.4.0"}
@@ -24,6 +25,10 @@ PROGRAMS = ("bin/ufmt_conv", "bin/ufmt_lines", "lib/libufmt_c.so.0.4.0")
 OTHERS = ("include/ufmt.h", "lib/libufmt_c.a", "lib/pkgconfig/ufmt_c.pc", "share/doc/ufmt/BUILD", "share/doc/ufmt/FILES", "share/doc/ufmt/LICENSE-APACHE",
           "share/doc/ufmt/LICENSE-MIT", "share/man/man1/ufmt_conv.1", "share/man/man1/ufmt_lines.1")
 FILES = {**LINKS, **dict.fromkeys(PROGRAMS, 0o755), **dict.fromkeys(OTHERS, 0o644)}
+EXAMPLES = folder.CRATE / "examples"
+WARNINGS = ["-std=c99", "-Wall", "-Wextra", "-Wconversion", "-Wpedantic", "-Werror"]
+TEXT, OUTPUT = "[Pair { x: 1, y: -2 }]", b"[\n    Pair {\n        x: 1,\n        y: -2,\n    },\n]\n"
+CARGO = '[package]\nname = "convert"\nversion = "0.1.0"\nedition = "2024"\n'
 # The first version has these files, too.
 GONE = ("bin/ufmt_gone", "share/man/man1/ufmt_gone.1", "share/doc/ufmt/a note")
 # A number of a user who isn't there, and a time long ago: of a build of somebody else.
@@ -49,13 +54,12 @@ class Trial:
 
     def has_all(self, prefix, mask=None):
         """The prefix has the files of the table, and folders as the mask makes them."""
-        paths = [path for path in sorted(prefix.rglob("*")) if path.is_symlink() or not path.is_dir()]
-        found = {str(path.relative_to(prefix)): os.readlink(path) if path.is_symlink() else stat.S_IMODE(path.stat().st_mode) for path in paths}
-        self.same("what is installed in %s" % prefix.name, sorted(FILES.items()), sorted(found.items()))
-        before = os.umask(0)
+        paths, before = sorted(prefix.rglob("*")), os.umask(0)
         os.umask(before)
-        modes = {stat.S_IMODE(path.stat().st_mode) for path in prefix.rglob("*") if path.is_dir() and not path.is_symlink()}
-        self.same("the modes of folders", {0o777 & ~(before if mask is None else mask)}, modes)
+        found = {str(path.relative_to(prefix)): os.readlink(path) if path.is_symlink() else stat.S_IMODE(path.stat().st_mode) for path in paths}
+        files, folders = {name: found.pop(name) for name in list(found) if not (prefix / name).is_dir()}, set(found.values())
+        self.same("what is installed in %s" % prefix.name, sorted(FILES.items()), sorted(files.items()))
+        self.same("the modes of folders", {0o777 & ~(before if mask is None else mask)}, folders)
 
     def installs(self, what, status, *words, command="install", error=None, before=(), **variables):
         said = run(["env", "-C", self.room, *("%s=%s" % it for it in variables.items()), *before, X, command, *words])
@@ -138,8 +142,8 @@ class Trial:
         self.installs("without room", 1, self.built, self.room / "short", before=("bash", "-c", WITHOUT_ROOM, "bash"))
 
     def remove(self):
-        """A file that can't be removed is a fault. What is listed is removed, as by a later version of the tool, and nothing else; the
-        folders stay."""
+        """A file that can't be removed is a fault. What is listed is removed, as by a later version of the tool, and nothing
+        else; the folders stay."""
         own, program, more = (self.prefix / "bin" / name for name in ("ufmt_own", "ufmt_conv", "ufmt_more"))
         own.write_text("mine")
         program.unlink()
@@ -153,6 +157,45 @@ class Trial:
         self.same("left in the prefix", [own], [path for path in self.prefix.rglob("*") if not path.is_dir()])
         self.same("folders that stay", True, all((self.prefix / file).parent.is_dir() for file in FILES))
 
+    def pkg_config(self, *words):
+        said = run(["env", "PKG_CONFIG_PATH=%s" % (self.prefix / "lib" / "pkgconfig"), "pkg-config", *words, "ufmt_c"])
+        self.ends("pkg-config " + " ".join(words), said, 0)
+        return shlex.split(said.output.decode())
+
+    def call_from_c(self):
+        """convert.c, by the words of the page."""
+        words, made = self.pkg_config("--cflags", "--libs"), self.room / "convert_c"
+        self.same("ufmt_c.pc", (["no"], [version()]), (self.pkg_config("--variable=proved"), self.pkg_config("--modversion")))
+        for name, flags in {"shared": words, "static": [word.replace("-lufmt_c", "-l:libufmt_c.a") for word in words]}.items():
+            self.ends("gcc, " + name, run(["gcc", *WARNINGS, EXAMPLES / "convert.c", *flags, "-o", made]), 0)
+            where = ["env", "LD_LIBRARY_PATH=%s" % (self.prefix / "lib")] if name == "shared" else []
+            self.same("convert.c, " + name, (0, OUTPUT), run([*where, made, TEXT])[:2])
+
+    def call_by_cargo(self):
+        """convert.rs in a package of its own, with build.rs."""
+        package, nowhere = self.room / "convert", self.room / "nowhere"
+        words = ["cargo", "build", "--offline", "--quiet", "--manifest-path", package / "Cargo.toml"]
+        (package / "src").mkdir(parents=True)
+        nowhere.mkdir()
+        (package / "Cargo.toml").write_text(CARGO)
+        shutil.copy(EXAMPLES / "build.rs", package)
+        shutil.copy(EXAMPLES / "convert.rs", package / "src" / "main.rs")
+        self.ends("cargo", run(["env", "PKG_CONFIG_PATH=%s" % (self.prefix / "lib" / "pkgconfig"), *words]), 0)
+        self.same("convert.rs", (0, OUTPUT), run([package / "target" / "debug" / "convert", TEXT])[:2])
+        # The package was built: cargo must see that the path is another, and says what isn't found.
+        said = run(["env", "PKG_CONFIG_LIBDIR=", "PKG_CONFIG_PATH=%s" % nowhere, *words])
+        found = b"pkg-config finds no ufmt_c: set PKG_CONFIG_PATH" in said.error
+        self.same("cargo, without the library", (101, True), (said.status, found))
+
+    def call(self):
+        """Builds callers over the installed library."""
+        for called, programs in ((self.call_from_c, ("pkg-config", "gcc")), (self.call_by_cargo, ("pkg-config", "gcc", "cargo"))):
+            missing = needs.missing(programs)
+            if missing:
+                print("%s: no caller is built over the installed library" % needs.told(missing[0]))
+                return
+            called()
+
 
 def main(_given):
     programs = list(map(needs.built, folder.PROGRAMS))
@@ -163,9 +206,8 @@ def main(_given):
         folder.made(trial.built, programs, library, False)
         dist_trial.tried(trial, programs, library)
         trial.install_and_remove()
-        for name in installed.PROGRAMS:
-            trial.faults += installed.faults_of(trial.prefix, name)
-        callers.tried(trial)
-        for part in (trial.upgrade, trial.go_wrong, trial.remove):
+        for name in manual.PROGRAMS:
+            manual.tried(trial, name)
+        for part in (trial.call, trial.upgrade, trial.go_wrong, trial.remove):
             part()
     return findings.ended(trial.faults, "%d files installed" % len(FILES))

@@ -1,9 +1,9 @@
 """Each promise of docs/PROMISES.md with the edits that guard it.
 
-An edit is a wrong body that the check must refuse. crates/CRATE/more-edits.txt has the crate's edits, an empty line between two: the
-edit's name, a line `guards:` for each promise that it guards, with the first words of the promise, and then `file:`, `old:` and
-`new:` as in a file of must-fail/. An edit without these three lines is in must-fail/NAME.edit, which the gate tries. `guards: none`
-and a reason stand for an edit that guards no promise.
+An edit is a wrong body that the check must refuse. crates/CRATE/more-edits.txt has the crate's edits, an empty line between two:
+the edit's name, a line `guards:` for each promise that it guards, with the first words of the promise, and then `file:`, `old:`
+and `new:` as in a file of must-fail/. An edit without these three lines is in must-fail/NAME.edit, which the gate tries. `guards:
+none` and a reason stand for an edit that guards no promise.
 
 Each edit guards a promise that is there and is the only one with these first words, and the texts that it replaces stand once in
 its file; else that is a fault. `x list edits` prints each promise with its edits.
@@ -18,92 +18,87 @@ NONE = "none: "
 
 
 class Edit:
-    """A wrong body: its crate and name, the first words of the promises that it guards, and the lines that say what it changes."""
+    """A wrong body: its crate and name, the first words of the promises that it guards, and the lines that say what it
+    changes."""
 
-    def __init__(self, crate, lines):
-        self.crate, self.name = crate, lines[0]
+    def __init__(self, listed, number, lines):
+        self.crate, self.name = listed.parent, lines[0]
+        self.place = "%s:%d: %s" % (listed.relative_to(TOP), number, self.name)
         self.guards = [line[len("guards: ") :] for line in lines if line.startswith("guards: ")]
         self.change = [line for line in lines[1:] if not line.startswith("guards: ")]
-        self.is_in_gate = not self.change
-        if self.is_in_gate and self.path().is_file():
-            self.change = self.path().read_text().rstrip("\n").split("\n")
+        self.path, self.is_in_gate = self.crate / "must-fail" / (self.name + ".edit"), not self.change
+        if self.is_in_gate and self.path.is_file():
+            self.change = self.path.read_text().rstrip("\n").split("\n")
 
-    def path(self):
-        return TOP / "crates" / self.crate / "must-fail" / (self.name + ".edit")
+    def shown(self):
+        change = map(str.strip, next(self.pairs(), ("", "", "")))
+        return "%s/%s: %s: `%s` becomes `%s`" % (self.crate.name, self.name, *change)
 
-    def told(self):
-        return "%s/%s: %s: `%s` becomes `%s`" % (self.crate, self.name, *(text.strip() for text in next(self.pairs(), ("", "", ""))))
-
-    def faults(self):
-        name = "%s/%s" % (self.crate, self.name)
+    def faults(self, promises):
         if not self.guards:
-            yield "%s guards no promise" % name
+            yield "guards no promise"
         if not self.change:
-            yield "%s changes nothing, and there is no %s" % (name, self.path().relative_to(TOP))
-            return
+            yield "changes nothing, and there is no %s" % self.path.relative_to(TOP)
+        for words in self.guards:
+            found = [promise for promise in promises if promise.startswith(words)]
+            if len(found) != 1 and not words.startswith(NONE):
+                yield "%d promises begin with: %s" % (len(found), words)
         texts = {}
         for file, old, new in self.pairs():
-            source = TOP / "crates" / self.crate / file
+            source = self.crate / file
             text = texts.get(file, source.read_text() if source.is_file() else "")
             if text.count(old) != 1:
-                yield "%s: %s has this %d times: %s" % (name, source.relative_to(TOP), text.count(old), old)
+                yield "%s has this %d times: %s" % (source.relative_to(TOP), text.count(old), old)
             texts[file] = text.replace(old, new)
 
     def pairs(self):
         """Each text that is replaced, with its file and what comes in its place."""
         said = {"file": "", "old": ""}
         for line in self.change:
-            kind, _, text = line.partition(": ")
-            said[kind] = text
+            kind, _, said[kind] = line.partition(": ")
             if kind == "new":
-                yield said["file"], said["old"], text
+                yield said["file"], said["old"], said["new"]
 
 
-def edits_of(path):
+def edits_of(listed):
     """The edits of a file. Lines that begin with `#` say what it is."""
-    lines = [line for line in path.read_text().split("\n") if not line.startswith("#")]
-    for block in re.split(r"\n{2,}", "\n".join(lines).strip("\n")):
-        yield Edit(path.parent.name, block.split("\n"))
+    text = listed.read_text()
+    for block in re.finditer(r"(?m)(?:^.+\n?)+", text):
+        lines = [line for line in block[0].splitlines() if not line.startswith("#")]
+        if lines:
+            yield Edit(listed, text.count("\n", 0, block.start()) + 1, lines)
 
 
-def faults_of(edits, rows):
-    for edit in edits:
-        yield from edit.faults()
-        for words in edit.guards:
-            found = [row for row in rows if row.startswith(words)]
-            if len(found) != 1 and not words.startswith(NONE):
-                yield "%s/%s: %d promises begin with: %s" % (edit.crate, edit.name, len(found), words)
-    named = {edit.path() for edit in edits}
-    for path in sorted(TOP.glob("crates/*/must-fail/*.edit")):
-        if path not in named:
-            yield "%s isn't named in %s" % (path.relative_to(TOP), (path.parent.parent / "more-edits.txt").relative_to(TOP))
+def all_edits():
+    return [edit for listed in sorted(TOP.glob("crates/*/more-edits.txt")) for edit in edits_of(listed)]
 
 
-def show(edits, rows):
-    for row in rows:
-        print("\n" + row)
-        for edit in edits:
-            if any(row.startswith(words) for words in edit.guards):
-                print("  " + edit.told())
+def faults_of(edits, promises):
+    yield from ("%s: %s" % (edit.place, fault) for edit in edits for fault in edit.faults(promises))
+    for path in sorted(set(TOP.glob("crates/*/must-fail/*.edit")) - {edit.path for edit in edits}):
+        yield "%s:1: isn't named in %s" % (path.relative_to(TOP), (path.parent.parent / "more-edits.txt").relative_to(TOP))
+
+
+def show(edits, promises):
+    for promise in promises:
+        its = [edit for edit in edits if any(promise.startswith(words) for words in edit.guards)]
+        print("\n".join(["", promise, *("  " + edit.shown() for edit in its)]))
     print("\nNo promise:")
-    for edit in edits:
-        for words in edit.guards:
-            if words.startswith(NONE):
-                print("  %s (%s)" % (edit.told(), words[len(NONE) :]))
+    for edit, words in [(edit, words) for edit in edits for words in edit.guards if words.startswith(NONE)]:
+        print("  %s (%s)" % (edit.shown(), words[len(NONE) :]))
 
 
-def write(path, folder):
+def write(listed, folder):
     """Writes the edits of a file that change something as files of the folder. Returns how many."""
     folder.mkdir(parents=True, exist_ok=True)
-    written = [edit for edit in edits_of(path) if not edit.is_in_gate]
+    written = [edit for edit in edits_of(listed) if not edit.is_in_gate]
     for edit in written:
         (folder / (edit.name + ".edit")).write_text("\n".join(edit.change) + "\n")
     return len(written)
 
 
 def main(arguments):
-    edits = [edit for path in sorted(TOP.glob("crates/*/more-edits.txt")) for edit in edits_of(path)]
-    rows = [promise for promise, _ in items_of(promises_of(PAGE.read_text()))]
+    edits, promises = all_edits(), [promise for promise, _ in items_of(promises_of(PAGE.read_text()))]
     if arguments:
-        show(edits, rows)
-    return ended(faults_of(edits, rows), "%d edits, %d promises" % (len(edits), len(rows)))
+        show(edits, promises)
+    return ended(faults_of(edits, promises), "%d edits, %d promises" % (len(edits), len(promises)))

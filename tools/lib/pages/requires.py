@@ -1,8 +1,8 @@
 """Compares "What calls ask for" in docs/PROMISES.md with each `requires` of a public function.
 
-The functions, methods and methods of traits are those that another crate can call, of the libraries and of the modules
-`run` of the two programs. The list of that section names each one that asks for something, and says after the colon for what. A
-name is the last words of the function's path, as `Parser::is_named`, and may have stars. A call that is in two items asks for both.
+The functions, methods and methods of traits are those that another crate can call, of the libraries and of the modules `run` of
+the two programs. The list of that section names each one that asks for something, and says after the colon for what. A name is
+the last words of the function's path, as `Parser::is_named`, and may have stars. A call that is in two items asks for both.
 
 A fault is a function that asks for something and isn't in the list, or a name in the list that is of no function, or of one
 that asks for nothing. `x list requires` prints each function with what it asks for.
@@ -13,7 +13,7 @@ from typing import NamedTuple
 
 from lib.contracts.functions import public_functions
 from lib.findings import ended
-from lib.pages.items import PAGE, items_of
+from lib.pages.items import PAGE, items_of, section
 from lib.top import TOP, libraries
 
 SECTION = "### What calls ask for"
@@ -22,26 +22,21 @@ OTHERS = ("ufmt_c", "ufmt_conv", "ufmt_lines")
 
 
 class Row(NamedTuple):
-    """A name in the list, its line in the page, and what the list says that it asks for."""
+    """A name in the list, its place in the page, and what the list says that it asks for."""
 
-    line: int
+    where: str
     name: str
     words: str
-
-    def where(self):
-        return "%s:%d" % (PAGE.relative_to(TOP), self.line)
 
     def means(self, name):
         return fnmatch.fnmatchcase("::" + name, "*::" + self.name)
 
 
 def rows():
-    lines = PAGE.read_text().split("\n")
-    at = lines.index(SECTION) + 1
-    while at < len(lines) and not lines[at].startswith("#"):
-        for names, words in items_of(lines[at]):
-            yield from (Row(at + 1, name, words) for name in re.findall(r"`([\w:*]+)`", names))
-        at += 1
+    page = PAGE.read_text()
+    for at, line in enumerate(section(page, SECTION).partition("\n#")[0].split("\n"), page.split("\n").index(SECTION) + 1):
+        for names, words in items_of(line):
+            yield from (Row("%s:%d" % (PAGE.relative_to(TOP), at), name, words) for name in re.findall(r"`([\w:*]+)`", names))
 
 
 def where(function):
@@ -55,21 +50,19 @@ def faults_of(functions, listed):
     for row in listed:
         meant = [(name, function) for name, function in functions if row.means(name)]
         if not meant:
-            yield "%s: there is no public function %s" % (row.where(), row.name)
+            yield "%s: there is no public function %s" % (row.where, row.name)
         if not row.words:
-            yield "%s: the list doesn't say what %s asks for" % (row.where(), row.name)
+            yield "%s: the list doesn't say what %s asks for" % (row.where, row.name)
         for name, function in meant:
             if not function.requires:
-                yield "%s: the list names %s, which asks for nothing: %s" % (row.where(), name, where(function))
+                yield "%s: the list names %s, which asks for nothing: %s" % (row.where, name, where(function))
 
 
 def main(arguments):
     functions = [("%s::%s" % (crate, name), function) for crate in (*libraries(), *OTHERS)
                  for name, function in public_functions(TOP / "crates" / crate / "src")]
-    listed = list(rows())
-    asking = [(name, function) for name, function in functions if function.requires]
+    listed, asking = list(rows()), ["%s: %s" % (name, ", ".join(its.requires)) for name, its in functions if its.requires]
     if arguments:
-        for name, function in asking:
-            print("%s: %s" % (name, ", ".join(function.requires)))
-    faults = list(faults_of(functions, listed))
-    return ended(faults, "%d public functions, %d of them ask for something, %d names in the list" % (len(functions), len(asking), len(listed)))
+        print("\n".join(asking))
+    counts = len(functions), len(asking), len(listed)
+    return ended(faults_of(functions, listed), "%d public functions, %d of them ask for something, %d names in the list" % counts)

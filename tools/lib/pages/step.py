@@ -1,13 +1,6 @@
-"""Compares the pages with the sources.
+"""Compares the pages with the sources. The first lines of the files of CHECKS say what each check does.
 
-- Each code block of a page is as in its file (blocks.py).
-- Each link, file, command and module of contracts that a page names is there (names.py).
-- docs/PROMISES.md lists each definition that the headline rests on (definitions.py), and says what each public function with a `requires`
-  asks for (requires.py).
-- Each edit guards a promise of docs/PROMISES.md, and can be made (edits.py).
-- README.md shows the program with the line of the test that prints the text after it.
-
-The first lines of these files say what each check does in full.
+README.md must also show the program with the line of the test that prints the text after it.
 """
 import re
 

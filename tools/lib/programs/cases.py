@@ -18,7 +18,7 @@ import tempfile
 import threading
 from typing import NamedTuple, Optional
 
-from lib import data, findings
+from lib import data, findings, needs
 from lib.model.counter import Counter
 
 # A run that takes longer is a fault.
@@ -31,8 +31,8 @@ MESSAGE = 64 * 1024
 # The number of the user who owns nothing.
 NOBODY = 65534
 # Variables that other programs look at.
-OTHERS = ("NO_COLOR", "CLICOLOR", "CLICOLOR_FORCE", "FORCE_COLOR", "COLUMNS", "LINES", "TERM", "LANG", "LC_ALL", "TZ", "PAGER", "CI", "DEBUG", "POSIXLY_CORRECT",
-          "RUST_LOG", "RUST_BACKTRACE", "HOME", "PATH", "TMPDIR", "UFMT_LINES", "UFMT_LINES_LONGER_THAN")
+OTHERS = ("NO_COLOR CLICOLOR CLICOLOR_FORCE FORCE_COLOR COLUMNS LINES TERM LANG LC_ALL TZ PAGER CI DEBUG POSIXLY_CORRECT RUST_LOG "
+          "RUST_BACKTRACE HOME PATH TMPDIR UFMT_LINES UFMT_LINES_LONGER_THAN").split()
 
 
 class Ran(NamedTuple):
@@ -47,10 +47,9 @@ class Cases:
     def __init__(self, program):
         self.program = pathlib.Path(program).resolve()
         self.room = pathlib.Path(tempfile.mkdtemp(prefix="cases-"))
-        self.count = self.faults = 0
-        self.meter = Counter(self.room)
+        self.count, self.faults, self.meter, self.texts = 0, [], Counter(self.room), {"room": os.fsencode(self.room)}
         if not os.access(self.program, os.X_OK):
-            sys.exit("%s isn't there: `rt ci` builds it, and so does `rt run` in its crate" % self.program)
+            sys.exit("%s isn't there: %s" % (self.program, needs.BUILDS))
         if self.meter.library is None:
             sys.exit("a C compiler is needed, for devices that move one byte at a call and calls that are counted")
 
@@ -59,54 +58,69 @@ class Cases:
         line = line.encode() if isinstance(line, str) else line
         wanted = Ran(status, output, line + b"\n" if line else b"")
         self.count += 1
-        if ran != wanted:
-            self.faults += 1
-            print(findings.case(name, shown(wanted), shown(ran)), flush=True)
+        self.faults += [findings.case(name, shown(wanted), shown(ran))] if ran != wanted else []
 
     def same(self, name, wanted, got):
         """Compares what is no run."""
         self.judge(name, Ran(0, repr(got).encode(), b""), 0, repr(wanted).encode())
 
+    def filled(self, column):
+        return filled(self.texts, column)
+
+    def arguments(self, words):
+        """The words of a row, of which `WORD**N` is so many."""
+        split = (re.fullmatch(r"(.*?)(?:\*\*(\d+))?", word) for word in words.split(" ")) if words != "-" else ()
+        return [word for it in split for word in [self.filled(it[1])] * int(it[2] or 1)]
+
     def table(self, file, texts):
-        """Judges each run of a table in tools/data/programs. Its part `texts` has more texts by their names, and its part `files` those of files."""
-        parts = data.parts("programs/" + file)
+        """Judges each row of a table in tools/data/programs. Its part `texts` has more texts by their names, and its part `files`
+        those of files. The parts `calls`, `messages` and `slow` have rows of their own forms."""
+        self.texts.update(texts)
+        forms = {"texts": self.texts.__setitem__, "files": lambda name, text: (self.room / name).write_bytes(text)}
+        judges = {"calls": self.judge_calls, "messages": self.judge_messages, "slow": self.judge_slow}
+        for part, row in ((part, row.split(" => ")) for part, rows in data.parts("programs/" + file).items() for row in rows):
+            if part in forms:
+                forms[part](row[0], self.filled(row[1]))
+            elif part in judges:
+                judges[part](row[0], self.arguments(row[0]), *map(self.filled, row[1:]))
+            else:
+                self.judge_row(part, row)
 
-        def filled(column):
-            return re.sub(rb"\$([\w-]+);", lambda found: texts[found[1].decode()], data.data_of(column))
+    def judge_row(self, part, row):
+        """Judges a run: the words, the text on standard input, the status, the output, the line on standard error, and what is
+        special."""
+        words, text, status, output, line, special = row + ["%", "%", ""][len(row) - 3 :]
+        name, given = "%s: %s %s, of %s" % (part, words, special, text[:40]), dict(it.partition("=")[::2] for it in special.split())
+        ran = self.run_row(self.arguments(words), self.filled(text), given, len(self.filled(output)))
+        self.judge(name, ran, int(status), self.filled(output), self.filled(line))
 
-        texts = {**texts, **{name: filled(text) for name, text in (row.split(" => ") for row in parts.pop("texts", ()))}}
-        for row in parts.pop("files", ()):
-            name, text = row.split(" => ")
-            (self.room / name).write_bytes(filled(text))
-        for part, rows in parts.items():
-            for row in rows:
-                columns = row.split(" => ")
-                words, text, status, output, line, devices = columns + ["%", "%", ""][len(columns) - 3 :]
-                streams = dict(device.split("=") for device in devices.split() if "=" in device)
-                arguments = [] if words == "-" else map(filled, words.split(" "))
-                ran = self.run(*arguments, text=filled(text), source=streams.get("in"), sink=streams.get("out"), error=streams.get("err"),
-                               as_nobody="nobody" in devices)
-                self.judge("%s: %s %s, of %s" % (part, words, devices, text[:40]), ran, int(status), filled(output), filled(line))
+    def run_row(self, arguments, text, given, size):
+        if "leaves" in given:
+            return self.leaves(arguments, text, size, "endless" in given, "ignores" in given)
+        variables = dict.fromkeys(OTHERS if "others" in given else (), given.get("others"))
+        if "bytewise" in given:
+            variables.update({"LD_PRELOAD": str(self.meter.library), "COUNTS_READ": "1", "COUNTS_WRITE": "1"})
+        limits = {"limit": int(given.get("limit", 0)), "files_limit": int(given.get("files", 0))}
+        return self.run(*arguments, text=text, source=given.get("in"), sink=given.get("out"), error=given.get("err"),
+                        as_nobody="nobody" in given, variables=variables, **limits)
 
     def end(self):
         shutil.rmtree(self.room)
-        print("%d cases, %d faults" % (self.count, self.faults))
-        return 1 if self.faults else 0
+        return findings.ended(self.faults, "%d cases" % self.count)
 
     def run(self, *arguments, text=b"", source=None, sink=None, error=None, limit=None, files_limit=None, variables=None, as_nobody=False):
-        """Runs the program to its end. Standard input has the text, or is `source`: an open file, CLOSED, or a name that `opened` knows, and so are
-        `sink` and `error`; what doesn't come through a pipe is empty. `limit` is how many KiB of memory it has, `files_limit` how many files
-        it has open at once. It has these variables of the environment more. It may run as a user who owns nothing, if this one may read
-        everything."""
+        """Runs the program to its end. Standard input has the text, or is `source`: an open file, CLOSED, or a name that `opened`
+        knows, and so are `sink` and `error`; what doesn't come through a pipe is empty. `limit` is how many KiB of memory it has,
+        `files_limit` how many files it has open at once. It has these variables of the environment more. It may run as a user who
+        owns nothing, if this one may read everything."""
         given = (source, sink, error)
         files = [opened(one) if isinstance(one, str) and one != CLOSED else [one] for one in given]
         streams = [subprocess.DEVNULL if its == [CLOSED] else subprocess.PIPE if its == [None] else its[0] for its in files]
         is_other = as_nobody and os.geteuid() == 0
 
         def prepared():
-            for number, one in enumerate(given):
-                if one == CLOSED:
-                    os.close(number)
+            for number in (number for number, one in enumerate(given) if one == CLOSED):
+                os.close(number)
             for kind, most in ((resource.RLIMIT_AS, limit and limit * 1024), (resource.RLIMIT_NOFILE, files_limit)):
                 if most:
                     resource.setrlimit(kind, (most, most))
@@ -115,15 +129,11 @@ class Cases:
 
         program, taken_in = self.for_all() if is_other else self.program, {"input": text} if source is None else {"stdin": streams[0]}
         try:
-            ran = subprocess.run([program, *arguments], **taken_in, stdout=streams[1], stderr=streams[2], cwd=self.room, preexec_fn=prepared,
-                                 env=dict(os.environ, **(variables or {})), timeout=SECONDS)
-            return Ran(ran.returncode, ran.stdout or b"", ran.stderr or b"")
-        except subprocess.TimeoutExpired:
-            return Ran(None, b"", b"")
+            return ended([program, *arguments], **taken_in, stdout=streams[1], stderr=streams[2], cwd=self.room,
+                         preexec_fn=prepared, env=dict(os.environ, **(variables or {})))
         finally:
-            for one, its in zip(given, files):
-                for file in its if isinstance(one, str) and one != CLOSED else ():
-                    os.close(file)
+            for file in (file for one, its in zip(given, files) if isinstance(one, str) and one != CLOSED for file in its):
+                os.close(file)
 
     def for_all(self):
         """A copy of the program that each user may run, in the folder, which each may read."""
@@ -134,41 +144,35 @@ class Cases:
             self.room.chmod(0o755)
         return copy
 
-    def byte_by_byte(self, *arguments, text):
-        return self.run(*arguments, text=text, variables={"LD_PRELOAD": str(self.meter.library), "COUNTS_READ": "1", "COUNTS_WRITE": "1"})
-
-    def judge_messages(self, name, arguments, lines):
+    def judge_messages(self, name, arguments, *lines):
         """Each of these messages must be one write, so that programs that share standard error don't mix theirs."""
         ours, theirs = socket.socketpair(socket.AF_UNIX, socket.SOCK_SEQPACKET)
         with ours, theirs:
             self.run(*arguments, error=theirs.fileno())
             theirs.close()
-            self.same("the messages of " + name, [line.encode() + b"\n" for line in lines], list(iter(lambda: ours.recv(MESSAGE), b"")))
+            self.same("the messages of " + name, [line + b"\n" for line in lines], list(iter(lambda: ours.recv(MESSAGE), b"")))
 
-    def judge_calls(self, name, arguments, reads, writes, text=b""):
+    def judge_calls(self, name, arguments, text, reads, writes):
         """Compares how often a run reads and writes, of a file with this text as its input."""
-        _output, counts = self.meter.run([self.program, *arguments], text, "calls", seconds=SECONDS)
-        self.same("reads and writes of " + name, (reads, writes), (counts[0].reads, counts[0].writes))
+        _output, counts = self.meter.run([self.program, *map(os.fsdecode, arguments)], text, "calls", seconds=SECONDS)
+        self.same("reads and writes of " + name, (int(reads), int(writes)), (counts[0].reads, counts[0].writes))
 
-    def slow(self, arguments, steps):
-        """Runs the program beside a producer that is slow. Of each step, the first is what is written then, and the second
-        what must come before more is written: `None` says that nothing may come. Returns the run, which has the status
-        None if an output was late or early."""
-        process = self.start(arguments)
+    def judge_slow(self, name, arguments, *steps):
+        """Runs the program beside a producer that is slow. Of each step, the first is what is written then, and the second what
+        must come before more is written: `soon` says that nothing may come. After the steps stands the output that comes last. A
+        run in which an output was late or early has no status."""
+        process, (*steps, last) = self.start(arguments), steps
+        pairs = [(written, b"" if wanted == b"soon" else wanted) for written, wanted in zip(steps[::2], steps[1::2])]
         output, in_time = b"", True
-        for written, wanted in steps:
+        for written, wanted in pairs:
             process.stdin.write(written)
             process.stdin.flush()
-            came = taken(process.stdout, len(wanted or b"") or 1, SOON if wanted is None else LATE)
-            in_time = in_time and came == (wanted or b"")
-            output += came
-            if not in_time:
-                break
+            came = taken(process.stdout, len(wanted) or 1, LATE if wanted else SOON)
+            output, in_time = output + came, in_time and came == wanted
         process.stdin.close()
         output += process.stdout.read()
-        error = process.stderr.read()
-        status = process.wait(SECONDS)
-        return Ran(status if in_time else None, output, error)
+        ran = Ran(process.wait(SECONDS) if in_time else None, output, process.stderr.read())
+        self.judge("a slow producer: " + name, ran, 0, b"".join(wanted for _, wanted in pairs) + last)
 
     def leaves(self, arguments, text, size, endless=False, ignores=False):
         """Runs the program before a reader that takes so many bytes of the output and goes away. The input is the text, or
@@ -179,8 +183,7 @@ class Cases:
         feeder.start()
         output = taken(process.stdout, size, LATE)
         process.stdout.close()
-        status = process.wait(SECONDS)
-        error = process.stderr.read()
+        status, error = process.wait(SECONDS), process.stderr.read()
         feeder.join(SECONDS)
         return Ran(status, output, error)
 
@@ -190,10 +193,15 @@ class Cases:
                                 cwd=self.room, preexec_fn=prepared)
 
 
+def filled(texts, column):
+    """A column of a row as bytes: `$NAME;` is a text of that name, and `$NAME*N;` the text so often."""
+    return re.sub(rb"\$([\w-]+)(?:\*(\d+))?;", lambda it: texts[it[1].decode()] * int(it[2] or 1), data.data_of(column))
+
+
 def opened(name):
-    """The files behind a device: first the one that is a stream of the run, and then what stays open beside it. An input may be a folder, a
-    pipe that stays `open` and has nothing, or one that doesn't wait for its bytes, which are `not-yet` there; an output may be `full`, a pipe
-    that is `unread`, or one with `no-room` that doesn't wait."""
+    """The files behind a device: first the one that is a stream of the run, and then what stays open beside it. An input may be a
+    folder, a pipe that stays `open` and has nothing, or one that doesn't wait for its bytes, which are `not-yet` there; an output
+    may be `full`, a pipe that is `unread`, or one with `no-room` that doesn't wait."""
     if name in (FOLDER, "full"):
         return [os.open("/", os.O_RDONLY) if name == FOLDER else os.open("/dev/full", os.O_WRONLY)]
     reader, writer = os.pipe()
@@ -210,13 +218,17 @@ def opened(name):
     return [writer, reader]
 
 
-def run(words, text=b""):
-    """Runs a program to its end on this input, with nothing special about its devices."""
+def ended(words, **how):
     try:
-        ran = subprocess.run([str(word) for word in words], input=text, capture_output=True, timeout=SECONDS)
+        ran = subprocess.run(words, timeout=SECONDS, **how)
     except subprocess.TimeoutExpired:
         return Ran(None, b"", b"")
-    return Ran(ran.returncode, ran.stdout, ran.stderr)
+    return Ran(ran.returncode, ran.stdout or b"", ran.stderr or b"")
+
+
+def run(words, text=b""):
+    """Runs a program to its end on this input, with nothing special about its devices."""
+    return ended(list(map(str, words)), input=text, capture_output=True)
 
 
 def answers(program, texts):

@@ -1,8 +1,8 @@
-"""Runs `x check` over five small crates, and compares how and where it calls the checker, its last line, its status and the lines that
-it shows.
+"""Runs `x check` over five small crates, and compares how and where it calls the checker, its last line, its status and the lines
+that it shows.
 
-In the place of the kit's checker there is a script that keeps its arguments, and prints what that prints of such a crate. What the
-kit's own prints isn't tried here.
+In the place of the kit's checker there is a script that keeps its arguments, and prints what that prints of such a crate. What
+the kit's own prints isn't tried here.
 """
 import os
 import pathlib
@@ -14,43 +14,15 @@ import tempfile
 import time
 import unittest
 
-from lib import findings
-from lib.programs.cases import LATE, Ran, run
+from lib import data, findings
+from lib.programs.cases import LATE, Ran, filled, run
 from lib.top import X
 
-# Keeps its folder and its arguments, prints what a file says, on standard error what another says, and ends with the status in a third.
-CHECKER = """#!/bin/sh
-printf '%s\\n' "$PWD" "$@" > "$0.asked"
-cat "$0.output"
-cat "$0.error" >&2
-exit "$(cat "$0.status")"
-"""
-# Starts another process, says its number, and waits for it.
-SLOW_CHECKER = """#!/bin/sh
-sleep 100 &
-echo $!
-wait
-"""
 # `high` stands on `tall`, that on `small`, and that on `base`. `base` alone names a library of the kit.
 CRATES = "# what each stands on\nbase: core\nsmall: base\ntall: small base\nglue staticlib: small base\nhigh: tall\n"
-KINDS = ("fn small::one", "struct small::Pair", "enum small::Choice", "trait small::Prints", "impl small::PairuDebug")
-PROVED = "".join("%s: proved\n" % kind for kind in KINDS)
-UNPROVED = "".join("%s: no proof: expected answers in ./proofs/two/Answers.antt; `search` did not prove `returns`\n" % kind for kind in KINDS)
-ERROR = "src/lib.rt:4:29: error: `ensures-is_one`: `≡` is not in scope\n  4 | ensures is_one\nhelp: bring it in\nnote: it is in Prelude\nwarning: an import\n"
-MISUSE = "rattle: error: no file src/lib.rt\n"
-NOISE = ("logic antt-project.json: libraries=16 files=2756\nstatements std: modules loaded=21 checked=0\nlibrary base: modules loaded=4 checked=0\n"
-         "crate small: modules loaded=16 checked=14\nso far: checked 3 of 14 modules\nchecked 14 of 14 modules\n")
-# What the checker prints, its status, what is shown of that, how the last line begins, and what the checker says on standard error.
-ROWS = {
-    "a crate whose functions are proved": (PROVED + NOISE + "only=1 proved=1\n", 0, "", "checked: 1 of 1 functions proved; ", ""),
-    "one that isn't": (PROVED + UNPROVED + NOISE + "only=2 proved=1\n", 1, UNPROVED, "not checked: 1 of 2 functions proved; ", ""),
-    "an error beside proofs": (PROVED + ERROR + "only=1 proved=1\n", 1, ERROR, "not checked: 1 of 1 functions proved; ", ""),
-    "a verdict without numbers": (PROVED, 0, "", "checked: ", ""),
-    "an error before any proof": (ERROR, 1, ERROR, "not checked: ", ""),
-    "a checker that failed": (ERROR, 2, ERROR, "not checked: ", ""),
-    "no verdict": (PROVED + NOISE, 3, "", "not checked: ", ""),
-    "what is said on standard error": (PROVED, 2, MISUSE, "not checked: ", MISUSE),
-}
+TABLE, TEXTS = data.parts("programs/check.txt"), {}
+for text in (row.split(" => ") for row in TABLE["texts"]):
+    TEXTS[text[0]] = filled(TEXTS, text[1])
 BASE, SMALL, TALL = "base:std,core=../base/src/lib.rt", "small:std,base=../small/src/lib.rt", "tall:std,small,base=../tall/src/lib.rt"
 # The root of each crate's sources, and what it stands on, each after those below it.
 CALLS = {"base": ("src/lib.rt", []), "small": ("src/lib.rt", [BASE]), "tall": ("src/main.rt", [BASE, SMALL]), "glue": ("src/lib.rt", [BASE, SMALL]),
@@ -79,31 +51,32 @@ class Check(unittest.TestCase):
         (self.room / "crates.txt").write_text(CRATES)
         for crate, (root, _) in CALLS.items():
             self.touch(self.crates / crate / root)
-        self.answer(PROVED, 0)
+        self.answer(b"", 0)
 
     def touch(self, path):
         path.parent.mkdir(parents=True)
         path.touch()
 
-    def answer(self, printed, status, error="", script=CHECKER):
+    def answer(self, printed, status, error=b"", script="checker.sh"):
         """What the checker will print, also on standard error, and its status."""
-        self.checker.write_text(script)
+        shutil.copy(data.DATA / "programs" / script, self.checker)
         self.checker.chmod(0o755)
-        for name, text in (("output", printed), ("error", error), ("status", str(status))):
-            self.checker.with_name("rattle." + name).write_text(text)
+        for name, text in (("output", printed), ("error", error), ("status", b"%d" % status)):
+            self.checker.with_name("rattle." + name).write_bytes(text)
 
     def command(self, folder, *words, path=None):
         """`x check` with these words in a folder. The checker is found by `path`, or where it is."""
         return ["/usr/bin/env", "-C", folder, "PATH=%s" % (path or "%s:%s" % (self.checker.parent, os.environ["PATH"])), X, "check", *words]
 
-    def says(self, ran, status, output="", error=""):
-        self.assertEqual(Ran(status, output.encode(), error.encode()), ran)
+    def says(self, ran, status, output=b"", error=b""):
+        self.assertEqual(Ran(status, output, error), ran)
 
     def test_what_is_shown(self):
-        for name, (printed, status, shown, last, error) in ROWS.items():
+        for name, *columns in (row.split(" => ") for row in TABLE["rows"]):
+            printed, status, shown, last, error = (filled(TEXTS, column) for column in columns)
             with self.subTest(name):
-                self.answer(printed, status, error)
-                self.says(run(self.command(self.room, "small")), status, shown + last + "the libraries are trusted\n")
+                self.answer(printed, int(status), error)
+                self.says(run(self.command(self.room, "small")), int(status), shown + last + b"\n")
 
     def test_how_the_checker_is_called(self):
         for crate, (root, below) in CALLS.items():
@@ -112,8 +85,9 @@ class Check(unittest.TestCase):
                 wanted = [str(self.crates / crate), "check", "--crate-name", crate, root]
                 for name in ("core", "std"):
                     wanted += ["--extern", "%s=%s/rlibs/%s.rlib" % (name, self.kit, name)]
-                wanted += ["-L", "dependency=%s/rlibs" % self.kit, "--antt-project", "%s/rattle/logic/antt-project.json" % self.kit, "--logic-built",
-                           "%s/logic_built" % self.kit, "--jobs", str(os.cpu_count()), "--incremental", "%s/out/trusting" % (self.crates / crate)]
+                wanted += ["-L", "dependency=%s/rlibs" % self.kit, "--antt-project", "%s/rattle/logic/antt-project.json" % self.kit,
+                           "--logic-built", "%s/logic_built" % self.kit,
+                           "--jobs", str(os.cpu_count()), "--incremental", "%s/out/trusting" % (self.crates / crate)]
                 wanted += [word for library in below for word in ("--lib", library)] + [word for path in paths or [crate] for word in ("--only", path)]
                 with self.subTest(crate, paths=paths):
                     self.assertEqual(wanted, self.checker.with_name("rattle.asked").read_text().splitlines())
@@ -132,7 +106,7 @@ class Check(unittest.TestCase):
         source = self.crates / "small" / "inner" / "crates" / "nested" / "src" / "lib.rt"
         self.touch(source)
         (self.crates / "small" / "inner" / "crates.txt").write_text("nested: core\n")
-        self.says(run(self.command(source.parent, "nested")), 0, "checked: the libraries are trusted\n")
+        self.says(run(self.command(source.parent, "nested")), 0, b"checked: the libraries are trusted\n")
 
     def test_what_the_checker_kept(self):
         """It stays from one run to the next."""
@@ -144,23 +118,24 @@ class Check(unittest.TestCase):
     def test_wrong_words(self):
         for words, status in ((["--help"], 0), ([], 2), (["--job", "x", "small"], 2)):
             self.assertEqual(status, run(self.command(self.room, *words)).status, words)
-        self.says(run(self.command(self.room, "none")), 1, error="x check: crates.txt names no crate none\n")
-        self.says(run(self.command("/", "small")), 1, error="x check: no crates.txt here or above\n")
+        self.says(run(self.command(self.room, "none")), 1, error=b"x check: crates.txt names no crate none\n")
+        self.says(run(self.command("/", "small")), 1, error=b"x check: no crates.txt here or above\n")
         without = self.room / "without"
         without.mkdir()
         (without / "python3").symlink_to(sys.executable)
-        self.says(run(self.command(self.room, "small", path=without)), 1, error="x check: no rattle on the path (the Rattle kit has it)\n")
+        said = run(self.command(self.room, "small", path=without))
+        self.says(said, 1, error=b"x check: no rattle on the path (the Rattle kit has it)\n")
 
     def test_an_end_before_the_verdict(self):
         """Of the checker nothing is left."""
-        self.answer("", 0, script=SLOW_CHECKER)
+        self.answer(b"", 0, script="slow_checker.sh")
         for number in (signal.SIGINT, signal.SIGTERM):
             process = subprocess.Popen(self.command(self.room, "small"), stdout=subprocess.PIPE, stderr=subprocess.PIPE)
             started = int(process.stdout.readline())
             process.send_signal(number)
             output, said = process.communicate(timeout=LATE)
             with self.subTest(number):
-                self.says(Ran(process.returncode, output, said), 1, error="not checked: ended before the verdict\n")
+                self.says(Ran(process.returncode, output, said), 1, error=b"not checked: ended before the verdict\n")
                 self.assertEqual("ended", state_of(started))
 
 

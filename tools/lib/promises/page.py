@@ -1,19 +1,18 @@
 """docs/PROMISES.md: the page in tools/data/promises.md with each promise that a comment of the sources makes.
 
-A comment `// Promise (SECTION): TEXT.` stands above the function whose contract carries the promise. It may go on with `Clauses:` and the
-names of the clauses that do, and with `Also:` and further functions that carry it. A promise beside no function with a clause is a fault, and
-so is the name of a function or a clause that isn't there.
+A comment `// Promise (SECTION): TEXT.` stands above the function whose contract carries the promise. It may go on with `Clauses:`
+and the names of the clauses that do, and with `Also:` and further functions that carry it. A promise beside no function with a
+clause is a fault, and so is the name of a function or a clause that isn't there.
 """
 import re
 from typing import NamedTuple
 
+from lib import generated
 from lib.contracts.functions import functions_of, public_functions
 from lib.contracts.source import sources
-from lib.findings import ended
-from lib.pages.edits import edits_of
+from lib.pages.edits import all_edits
 from lib.top import TOP, listed
 
-PAGE = TOP / "docs" / "PROMISES.md"
 TEMPLATE = TOP / "tools" / "data" / "promises.md"
 COMMENT = re.compile(r"Promise \((\w+)\): (.*?)\.(?: Clauses: (.*?)\.)?(?: Also: (.*?)\.)?")
 IMPORT = re.compile(r"ghost use Rattle\.ufmt\w*\.specs\.(?!declared)[\w.]+\.\{([^}]*)\}")
@@ -29,10 +28,9 @@ class Promise(NamedTuple):
     functions: list
 
     def shown(self, edits):
-        told, crate = [], None
-        for other, name, _ in self.functions:
-            told.append("`%s`" % (short(name) if other == crate else "%s::%s" % (other, short(name))))
-            crate = other
+        crates = [None, *(crate for crate, _, _ in self.functions)]
+        told = ["`%s%s`" % ("" if crate == before else crate + "::", short(name))
+                for before, (crate, name, _) in zip(crates, self.functions)]
         words = sorted({word for _, _, function in self.functions for word in defined(function)})
         clauses = " (%s)" % ", ".join("`%s`" % name for name in self.clauses) if self.clauses else ""
         by = ", by " + ", ".join("`%s`" % word for word in words) if words else ""
@@ -100,7 +98,8 @@ class Reader:
         return next((name for name, one in self.public[crate] if (one.path, one.line) == (function.path, function.line)), function.name)
 
     def named(self, crate, place, also):
-        """The functions that the rest of a comment names: `name`, or `crate::name` of another crate, by the ends of their paths."""
+        """The functions that the rest of a comment names: `name`, or `crate::name` of another crate, by the ends of their
+        paths."""
         for told in re.findall(r"`([\w:]+)`", also or ""):
             first, _, rest = told.partition("::")
             other, name = (first, rest) if rest and first in self.public else (crate, told)
@@ -113,28 +112,21 @@ class Reader:
 
 def shown(reader, section):
     """The promises of a section: by the order of crates, or of the headline by its parts."""
-    edits = [edit for path in sorted(TOP.glob("crates/*/more-edits.txt")) for edit in edits_of(path)]
+    edits = all_edits()
     told = [promise.shown(edits) for promise in reader.promises if promise.section == section]
     return sorted(told) if section == "headline" else told
 
 
 def text(reader):
-    page = TEMPLATE.read_text(encoding="utf-8")
-    for section in re.findall(r"^\{(\w+)\}$", page, re.M):
-        page = page.replace("{%s}" % section, "\n".join(shown(reader, section)))
-    return page
+    return re.sub(r"(?m)^\{(\w+)\}$", lambda section: "\n".join(shown(reader, section[1])), TEMPLATE.read_text(encoding="utf-8"))
 
 
-def write():
-    PAGE.write_text(text(Reader()), encoding="utf-8")
-    print("docs/PROMISES.md, written")
-    return 0
+def files(reader=None):
+    return [("docs/PROMISES.md", text(reader or Reader()))]
 
 
 def main(_given):
     reader = Reader()
-    told = set(re.findall(r"^\{(\w+)\}$", TEMPLATE.read_text(encoding="utf-8"), re.M))
+    told = re.findall(r"(?m)^\{(\w+)\}$", TEMPLATE.read_text(encoding="utf-8"))
     faults = reader.faults + ["%s: no section %s" % (one.place, one.section) for one in reader.promises if one.section not in told]
-    if not faults and PAGE.read_text(encoding="utf-8") != text(reader):
-        faults.append("docs/PROMISES.md:1: not as `x generate` writes it")
-    return ended(faults, "%d promises in the sources" % len(reader.promises))
+    return generated.compare([] if faults else files(reader), "%d promises in the sources" % len(reader.promises), faults)

@@ -2,10 +2,8 @@
 import re
 
 from lib.rust import ghost
-from lib.rust.table import rows
+from lib.rust.table import TEST_RULES
 
-# What a test of the sources says, as a pattern, and what it says in Rust. `rattle` is tools/data/rust/rattle.rs.
-RULES = tuple(rows("test_rules"))
 # Crates and modules that the package doesn't have. An item of a test that names something of them is left out.
 MISSING = ("std::test", "ufmt::laws", "example_first", "ufmt_conv", "ufmt_scan")
 # The crates that have what tests share, and the crates of tests with the files that are left out: of allocators, and of laws.
@@ -26,7 +24,7 @@ IMPL = re.compile(r"^impl\b[^{]* (\w+)", re.M)
 def in_rust(path):
     """The text of a file of tests."""
     text = ghost.without_ghost(path, path.read_text())
-    for old, new in RULES:
+    for old, new in TEST_RULES:
         text = re.sub(old, new, text)
     text = without_missing(text)
     ghost.check(path, text)
@@ -61,7 +59,8 @@ def with_uses(path):
 
 
 def files(crates):
-    """The text of each file of the shared crates, and of the tests, which are below a folder `tests`, by its path in the workspace."""
+    """The text of each file of the shared crates, and of the tests, which are below a folder `tests`, by its path in the
+    workspace."""
     found = {}
     for crate in SHARED:
         folder = crates / crate / "src"

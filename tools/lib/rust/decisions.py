@@ -2,29 +2,14 @@
 import re
 
 from lib.contracts.functions import functions_of
-from lib.rust.lexer import Fault
+from lib.contracts.source import Fault
 from lib.rust.table import UNSAFE, rows
 
-IF_NOT_OPEN = "if !self.takes_entry() {\n    %s\n}"
-IF_NOT_ENDING = "if !self.takes_end%s() {\n    return outcome%s;\n}"
-PASSES = "A builder that doesn't take this call writes nothing, and returns the outcome."
 # Each kind of decision, with what is added to the function's page, and what begins its body.
-KINDS = {
-    **dict.fromkeys(("any", "hidden", "unsafe", "tested"), ("", "")),
-    "any_quote": ("Between other quotes neither quote has an escape.", ""),
-    "pads": ("A pad byte past ASCII is written as `?`.", ""),
-    "skips": ("A call that the builder doesn't take writes nothing and returns `Ok`.", IF_NOT_OPEN % "return Ok(());"),
-    "lends": ("A builder that doesn't take this call lends the formatter, and writes nothing.", IF_NOT_OPEN % "return Ok(self.lend());"),
-    "lends_or_passes": (
-        "A builder that doesn't take this call writes nothing, and lends the formatter or returns the error.",
-        IF_NOT_ENDING % ("", ".map(|()| self.lend())"),
-    ),
-    "passes": (PASSES, IF_NOT_ENDING % ("", "")),
-    "passes_value": (PASSES, IF_NOT_ENDING % ("_of_value", "")),
-    "closes": ("A builder that isn't open writes nothing, is closed, and returns `Ok`.", IF_NOT_OPEN % "self.close();\n    return Ok(());"),
-}
-# The file, the name and the kind of each decision. Two are of structs whose fields a user sets, and whose invariant a proof reads.
-DECISIONS = tuple(rows("decisions"))
+KINDS = {kind: (page, code.replace("\\n", "\n")) for kind, page, code in rows("kinds", 3)}
+# The file, the name and the kind of each decision. Two are of structs whose fields a user sets, and whose invariant a proof
+# reads.
+DECISIONS = rows("decisions", 3)
 # A function with its page. A function of an impl has none.
 FUNCTION = r"(?m)((?:^ *///.*\n)+)((?: *(?:#\[|// ).*\n)*)^( *)(pub )?((?:const )?)(fn %s\b[^{;]*[{;])"
 

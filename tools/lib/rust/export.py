@@ -2,13 +2,12 @@
 import re
 import shutil
 
-from lib.rust import converted, decisions, ghost, page, rewrite, table
-from lib.rust.lexer import Fault
+from lib.contracts.source import Fault
+from lib.rust import converted, decisions, ghost, rewrite, table
 from lib.rust.table import DATA
 from lib.top import TOP
 
 CRATES = TOP / "crates"
-
 # The packages, each with those that it depends on, and what docs.rs says of it.
 PACKAGES = {
     "ufmt_float": ((), "The shortest decimals of floats, and their texts as Rust prints them"),
@@ -26,36 +25,35 @@ NAMES = ("proved", "nonzero", "encoded", "ending", "ending_mut", "within", "IsSo
 
 def export(folder):
     """Writes the workspace, which replaces what an earlier call wrote there. Returns the number of lines of Rust."""
-    files = [path for name in PACKAGES for path in sources(name)]
-    decisions.check(CRATES, files)
-    table.check_paths({path.relative_to(CRATES).as_posix() for path in files})
+    paths = [path for name in PACKAGES for path in sources(name)]
+    decisions.check(CRATES, paths)
+    table.check_paths({said(path) for path in paths})
     if folder.is_dir() and any(folder.iterdir()) and not (folder / MARK).is_file():
         raise Fault(folder, "", 0, "isn't empty, and no earlier call wrote it")
-    write(folder / MARK, page.substitutions())
-    lines = 0
-    for name in PACKAGES:
-        package = folder / name
-        shutil.rmtree(package / "src", ignore_errors=True)
-        for path in sources(name):
-            text = rust_of(path)
-            to = package / path.relative_to(CRATES / name).with_suffix(".rs")
-            write(to, text)
-            lines += text.count("\n")
-        if "\nmod proved;" in (package / "src" / "lib.rs").read_text():
-            write(package / "src" / "proved.rs", (DATA / "proved.rs").read_text())
-        write(package / "Cargo.toml", manifest(name))
-    export_tests(folder)
+    ours = {said(path.with_suffix(".rs")): rust_of(path) for path in paths}
+    for name in (*PACKAGES, *OF_TESTS, "ufmt_tests"):
+        shutil.rmtree(folder / name / "src" if name in PACKAGES else folder / name, ignore_errors=True)
+    for file, text in {**of_workspace(), **ours, **of_packages(ours), **of_tests()}.items():
+        (folder / file).parent.mkdir(parents=True, exist_ok=True)
+        (folder / file).write_text(text)
+    return sum(text.count("\n") for text in ours.values())
+
+
+def of_workspace():
     members = "".join('    "%s",\n' % name for name in [*PACKAGES, "ufmt_tests", *OF_TESTS])
-    write(folder / "Cargo.toml", "[workspace]\nresolver = \"2\"\nmembers = [\n%s]\n" % members)
-    for licence in ("LICENSE-APACHE", "LICENSE-MIT"):
-        write(folder / licence, (TOP / licence).read_text())
-    return lines
+    return {MARK: table.of_package(), "Cargo.toml": "[workspace]\nresolver = \"2\"\nmembers = [\n%s]\n" % members,
+            **{licence: (TOP / licence).read_text() for licence in ("LICENSE-APACHE", "LICENSE-MIT")}}
 
 
-def export_tests(folder):
+def of_packages(ours):
+    """The manifest of each package, and the file of what its sources use of `proved`."""
+    with_proved = [name for name in PACKAGES if "\nmod proved;" in ours[name + "/src/lib.rs"]]
+    proved = {name + "/src/proved.rs": (DATA / "proved.rs").read_text() for name in with_proved}
+    return {**proved, **{name + "/Cargo.toml": manifest(name) for name in PACKAGES}}
+
+
+def of_tests():
     """The tests, which are Rust already, and the crates' own, with the crates that they stand on."""
-    for name in (*OF_TESTS, "ufmt_tests"):
-        shutil.rmtree(folder / name, ignore_errors=True)
     files = {"rattle/src/lib.rs": (DATA / "rattle.rs").read_text(), "ufmt_rows/src/lib.rs": "//! The tests of the sources, in `tests`.\n"}
     files["ufmt_tests/src/lib.rs"] = "//! Tests of `ufmt`, in `tests`.\n"
     files["ufmt_tests/Cargo.toml"] = (DATA / "tests" / "manifest.toml").read_text()
@@ -63,24 +61,23 @@ def export_tests(folder):
         files["ufmt_tests/tests/" + (path.name if path.stem != "types" else "types/mod.rs")] = path.read_text()
     for name, needs in OF_TESTS.items():
         files[name + "/Cargo.toml"] = (DATA / "tests.toml").read_text() % (name, dependencies(needs))
-    for said, text in {**files, **converted.files(CRATES)}.items():
-        write(folder / said, text)
+    return {**files, **converted.files(CRATES)}
+
+
+def said(path):
+    return path.relative_to(CRATES).as_posix()
 
 
 def sources(name):
     """The files of a crate, without its laws, its tests, and the classes of bytes, which only reading needs."""
     folder = CRATES / name / "src"
-    for path in sorted(folder.rglob("*.rt")):
-        if path.relative_to(folder).with_suffix("").parts[0] not in ("laws", "tests", "bytes"):
-            yield path
+    left_out = ("laws", "tests", "bytes")
+    return [path for path in sorted(folder.rglob("*.rt")) if path.relative_to(folder).with_suffix("").parts[0] not in left_out]
 
 
 def rust_of(path):
-    said = path.relative_to(CRATES).as_posix()
-    text = ghost.without_ghost(path, path.read_text())
-    text = table.substituted(said, path, text)
-    text = decisions.apply(said, path, text)
-    text = with_proved(rewrite.in_rust(path, text))
+    text = table.substituted(said(path), path, ghost.without_ghost(path, path.read_text()))
+    text = with_proved(rewrite.in_rust(path, decisions.apply(said(path), path, text)))
     return with_head(text) if path.name == "lib.rt" else text
 
 
@@ -114,8 +111,3 @@ def manifest(name):
     for feature, more in (("alloc", []), ("std", ["alloc"]), ("proved", []), ("small", [])):
         values[feature] = ", ".join('"%s"' % it for it in [*more, *("%s/%s" % (need, feature) for need in needs)])
     return (DATA / "package.toml").read_text() % values
-
-
-def write(path, text):
-    path.parent.mkdir(parents=True, exist_ok=True)
-    path.write_text(text)

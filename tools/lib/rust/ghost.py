@@ -1,29 +1,16 @@
 """What is ghost in a source file: clauses, members, imports, attributes and bounds that only proofs read. They are removed."""
 import re
 
-from lib.rust.lexer import Edits, Source, outside_texts
+from lib.contracts.source import Edits, Source, outside_texts
+from lib.rust.table import rows
 
 ATTRIBUTES = ("tactic", "cycle")
 # Words that no line of Rust here has. One that is left after the removal is a form that the tool doesn't know.
 UNKNOWN = ("ghost", "requires", "ensures", "tactic", "cycle", "Model", "Drop", "prove")
-# `Drop` as a bound or in a `derive`, and `Model`: of forms that aren't here the words stay, and `check` finds them.
-BOUNDS = (
-    (r"(?m)^ *#\[derive\(Drop\)\]\n", ""),
-    (r"(#\[derive\(.*), Drop\)\]", r"\1)]"),
-    (r" \+ Drop\b(?![<(])", ""),
-    (r"\n *where\n *[\w:]+: Drop,(?=\n *[{;])", ""),
-    (r"\n *[\w:]+: Drop,(?=\n)", ""),
-    (r": Drop\b(?=[ >,])", ""),
-    (r"(?m)^use (?:core|std)::marker::Model;\n", ""),
-    (r"(?m)(?:^//.*\n)*^impl(?:<[^>]*>)? Model for [^{]*\{\s*\}\n", ""),
-)
 # A comment that says which promise the clauses below it carry.
 PROMISE = r"(?m)^ *// Promise \(.*\n(?: *// (?!Promise).*\n)*"
-# What is left where lines were removed; a brace or a semicolon that stood after clauses goes to the line before it.
-SHAPE = (
-    (r"\n\n\n+", r"\n\n"), (r"\{\n\n+", r"{\n"), (r"\n\n+( *\})", r"\n\1"),
-    (r"\n *;\n", r";\n"), (r"([^\s,{}])\n *(\{\}?)\n", r"\1 \2\n"),
-)
+# What is left of bounds that only proofs read, and where lines were removed.
+PATTERNS = rows("ghost")
 MATHEMATICS = re.compile(r"[^\x00-\x7f]")
 
 
@@ -35,7 +22,7 @@ def without_ghost(path, text):
         if token.name in REMOVERS and token.kind in ("name", "sign"):
             REMOVERS[token.name](source, edits, at)
     left = re.sub(PROMISE, "", edits.apply())
-    for pattern, new in BOUNDS + SHAPE:
+    for pattern, new in PATTERNS:
         left = outside_texts(path, left, pattern, new)
     return left.lstrip("\n")
 

@@ -1,55 +1,19 @@
-"""The rules that turn what is left of a source file into Rust. Each takes a text and returns it changed; `RULES` has them in order."""
+"""What turns the rest of a source file into Rust, once what is ghost in it is removed."""
 import re
 
+from lib.contracts.source import Edits, Fault, Source
 from lib.rust import ghost
-from lib.rust.lexer import Edits, Fault, Source
-from lib.rust.table import IMPORTS, UNSAFE
+from lib.rust.table import UNSAFE, rows
 
-KEYWORDS = set(
-    "as break const crate dyn else enum fn for if impl in let loop match mod move mut pub ref return static struct trait type unsafe use where "
-    "while".split()
-)
+KEYWORDS = set("as break const crate dyn else enum fn for if impl in let loop match mod move mut pub ref return static struct trait type "
+               "unsafe use where while".split())
+# Imports of std, as patterns, and what they are in Rust. An import with an empty text is removed.
+IMPORTS = rows("imports")
+PATTERNS = rows("patterns")
 # An import with its `#[cfg(..)]`.
 USE = re.compile(r"^( *#\[cfg\(.*\)\]\n)?( *(?:pub )?)use ((?:std|core)::[^;]*);\n", re.M)
 # What Rust's prelude has only with std.
 IN_ALLOC = {"Box": "alloc::boxed::Box", "String": "alloc::string::String", "Vec": "alloc::vec::Vec"}
-# `prove!(..)` of a constant is an assertion; labels that nothing names, `#[inline]` on a method without a body, and `A: Allocator` with its
-# argument go; names of texts and slices are written out.
-PATTERNS = (
-    (r"\bprove!\(", "assert!("),
-    (r"'(\w+): (?=(?:loop|while|for)\b)(?!(?s:.*)\b(?:break|continue) '\1\b)", ""),
-    (r" *#\[inline(?:\(always\))?\]\n(?= *fn [^{};]*;\n)", ""),
-    (r"<A: Allocator>|, A: Allocator\b", ""),
-    (r"\b([A-Z]\w*)<A>", r"\1"),
-    (r", A>", ">"),
-    (r"\b(Box|Rc|Arc)(?:ed)?Str\b", r"\1<str>"),
-    (r"\b(Box|Rc|Arc)(?:ed)?Slice<T>", r"\1<[T]>"),
-    (r"\bCowStr<'_>", "Cow<'_, str>"),
-    (r"\bCowSlice<'_, T>", "Cow<'_, [T]>"),
-)
-
-
-def with_edits(pattern):
-    """Makes a rule of what edits a text's tokens. A text without this pattern has nothing to change, and isn't read."""
-
-    def rule_of(work):
-        def rule(path, text):
-            if not re.search(pattern, text):
-                return text
-            edits = Edits(Source(path, text))
-            work(edits.source, edits)
-            return edits.apply()
-
-        return rule
-
-    return rule_of
-
-
-def patterns(path, text):
-    """What patterns alone can say."""
-    for old, new in PATTERNS:
-        text = re.sub(old, new, text)
-    return text
 
 
 def imports(path, text):
@@ -87,7 +51,6 @@ def in_code(source):
         at += 1
 
 
-@with_edits(r"[\w)\]?]\[|\.unwrap\(\)")
 def indices(source, edits):
     """`a[i]` is `a[proved(i)]`, and `.unwrap()` is `.proved()`: without the feature `proved` they are as before."""
     for at in in_code(source):
@@ -103,7 +66,6 @@ def is_value(token):
     return token.kind == "name" and token.name not in KEYWORDS and not token.name.startswith("'")
 
 
-@with_edits(r"[^/] [/%] ")
 def divisors(source, edits):
     """A divisor that is no constant is `nonzero(..)`: without the feature `proved` it is as before."""
     for at in in_code(source):
@@ -129,7 +91,6 @@ def operand_end(source, at):
             return end
 
 
-@with_edits(r"\b(%s)\(" % "|".join(UNSAFE))
 def unsafe_calls(source, edits):
     """A call of a function that is `unsafe` in Rust is in an `unsafe` block. Its caller's proof is what it asks for."""
     names = [name for name in UNSAFE if not re.search(r"(?<!unsafe )fn %s\(" % name, source.text)]
@@ -140,12 +101,24 @@ def unsafe_calls(source, edits):
             edits.replace(end, end, " }")
 
 
-RULES = (imports, patterns, unsafe_calls, divisors, indices)
+# What edits the tokens of a text, and the pattern without which a text has nothing to edit.
+EDITS = ((unsafe_calls, r"\b(%s)\(" % "|".join(UNSAFE)), (divisors, r"[^/] [/%] "), (indices, r"[\w)\]?]\[|\.unwrap\(\)"))
 
 
 def in_rust(path, text):
     """The text after each rule. What is left of the prover ends it."""
-    for rule in RULES:
-        text = rule(path, text)
+    text = imports(path, text)
+    for old, new in PATTERNS:
+        text = re.sub(old, new, text)
+    text = edited(path, text)
     ghost.check(path, text)
+    return text
+
+
+def edited(path, text):
+    for edit, pattern in EDITS:
+        if re.search(pattern, text):
+            edits = Edits(Source(path, text))
+            edit(edits.source, edits)
+            text = edits.apply()
     return text

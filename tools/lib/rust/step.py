@@ -1,20 +1,176 @@
 """Tries the package that `x rust` writes, as rustc and cargo compile it.
 
-The package compiles without a warning with each choice of features. Its tests pass, also with `proved`, where std's own tests of an index
-end a program: worked rows, the sources' own tests, cursors of every size, writers that refuse each piece, builders' calls in each order,
-and 10,000 random values and floats beside core::fmt. Valgrind sees no wrong access. `cargo doc` and clippy have no warning. The calls have
-no symbol of `core::panicking` with `proved`, at opt-level 3, `s` and `z`, and have some without. Programs stay within bounds of bytes. The
-tool refuses each of its own wrong sources. 32-bit programs are linked where rustc has `core` for one, or its sources, from which `core` is
-built: `RUSTC=/path/of/rustc ./x try rust` uses another rustc.
+The package compiles without a warning with each choice of features. Its tests pass, also with `proved`, where std's own tests of
+an index end a program: worked rows, the sources' own tests, cursors of every size, writers that refuse each piece, builders'
+calls in each order, and 10,000 random values and floats beside core::fmt. Valgrind sees no wrong access. `cargo doc` and clippy
+have no warning. The calls have no symbol of `core::panicking` with `proved`, at opt-level 3, `s` and `z`, and have some without.
+Programs stay within bounds of bytes. The tool refuses each of its own wrong sources. 32-bit programs are linked where rustc has
+`core` for one, or its sources, from which `core` is built: `RUSTC=/path/of/rustc ./x try rust` uses another rustc.
 """
+import os
 import pathlib
+import re
+import shutil
+import subprocess
 import tempfile
 
-from lib.rust import trial
+from lib import findings
+from lib.rust import export, linking, table, wrong
+from lib.rust.linking import HOST
+from lib.rust.table import DATA
+from lib.top import TOP
+
+LIBRARY = '[lib]\npath = "lib.rs"\ncrate-type = ["staticlib"]'
+# Bytes of a program that makes one call, with the feature `proved` at O3: at most these.
+BYTES = {"ours_number": 456, "ours_struct": 1401, "ours_two": 1700, "ours_eight": 7187}
+LEVELS = {"release": "3", "small": "s", "smallest": "z", "unlinked": "3, without LTO"}
+# The profiles and features of programs that have no panicking branch.
+WITHOUT_PANICS = (*((profile, "proved") for profile in LEVELS), ("smallest", "proved,small"))
+LEAST_TESTS = 110
+NARROW_HOST = "i686-unknown-linux-gnu"
+
+
+class Trial:
+    """A folder with the package, and the faults that were found."""
+
+    def __init__(self, room):
+        self.room, self.faults, self.package = room, [], room / "package"
+        self.environment = dict(os.environ, CARGO_TARGET_DIR=str(room / "target"), CARGO_NET_OFFLINE="true", RUST_BACKTRACE="0",
+                                RUSTFLAGS="-D warnings", RUSTDOCFLAGS="-D warnings")
+
+    def cargo(self, *words, folder=None, **more):
+        """Runs cargo with this in its environment. Its result is what cargo said, or None after a fault."""
+        ran = subprocess.run(["cargo", *words], cwd=folder or self.package, env={**self.environment, **more}, text=True, errors="replace",
+                             stdin=subprocess.DEVNULL, stdout=subprocess.PIPE, stderr=subprocess.STDOUT)
+        if ran.returncode:
+            self.faults.append("cargo %s\n%s" % (" ".join(words), ran.stdout[-3000:]))
+            return None
+        return ran.stdout
+
+    def features(self):
+        """The package compiles without warnings with each choice of features."""
+        for features in ("", "alloc", "std", "proved", "alloc,proved", "small"):
+            self.cargo("check", "--quiet", "-p", "ufmt", "--features", features)
+
+    def tests(self):
+        """The tests pass, with what is tested at run time and without: then std ends a program at an index out of bounds."""
+        for features in ("", "proved"):
+            said = self.cargo("test", "--quiet", "-p", "ufmt_tests", "-p", "ufmt_rows", "--features", features)
+            count = sum(int(it) for it in re.findall(r"(\d+) passed", said or ""))
+            if said and count < LEAST_TESTS:
+                self.faults.append(findings.case("tests with the features `%s`" % features, "at least %d" % LEAST_TESTS, count))
+
+    def memory(self):
+        """Valgrind sees no wrong access in what the tests call out of order, nor where a writer refuses a piece."""
+        if not shutil.which("valgrind"):
+            print("no valgrind here, so it isn't asked")
+            return
+        runner = {"CARGO_TARGET_%s_RUNNER" % HOST.upper().replace("-", "_"): "valgrind --quiet --error-exitcode=9"}
+        tests = "--test", "out_of_order", "--test", "refused_pieces"
+        self.cargo("test", "--quiet", "-p", "ufmt_tests", *tests, "--features", "proved", **runner)
+
+    def lints(self):
+        """No warning by `cargo doc`, nor by clippy where it is there."""
+        self.cargo("doc", "--quiet", "--no-deps", "-p", "ufmt", "--features", "std")
+        if linking.run(["cargo", "clippy", "--version"]) is None:
+            print("no clippy here, so it isn't asked")
+            return
+        for features in ("", "std,proved"):
+            self.cargo("clippy", "--quiet", "-p", "ufmt", "--features", features, "--", "-D", "warnings")
+
+    def build(self, name, source, profile, features, target=HOST, **form):
+        """Builds this source over the package, with this in its manifest. Its result is the folder of what cargo made, or
+        None."""
+        folder = self.room / name
+        folder.mkdir(exist_ok=True)
+        (folder / "lib.rs").write_text(source)
+        form = {"name": name, "root": LIBRARY, "ours": "ufmt", "package": self.package / "ufmt", "peer": "", **form}
+        (folder / "Cargo.toml").write_text((DATA / "one.toml").read_text() % form)
+        words = ["build", "--quiet", "--profile", profile, "--features", features, "--target", target]
+        flags = "" if target == HOST else linking.flags(self.room, target)
+        return None if self.cargo(*words, folder=folder, RUSTFLAGS=flags) is None else self.room / "target" / target / profile
+
+    def library(self, name, source, profile, features, target=HOST, **form):
+        """The static library of this source over the package, or None."""
+        made, kept = self.build(name, source, profile, features, target, **form), features.replace(",", "-") or "plain"
+        return made and shutil.copy(made / ("lib%s.a" % name), self.room / ("%s-%s-%s.a" % (name, profile, kept)))
+
+    def panics(self, target=HOST):
+        """No call's program has a symbol of `core::panicking` with `proved`. Without it most have: so the test finds them.
+
+        One program of all calls has what the programs of each have together. Only if it has such a symbol, each call is linked
+        alone.
+        """
+        source = (DATA / "calls" / "lib.rs").read_text()
+        linker = linking.Linker(self.room, target)
+        names = re.findall(r"^    (case_\w+) ", source, re.M)
+        for profile, features in WITHOUT_PANICS:
+            library = self.library("calls", source, profile, features, target)
+            if library and linker.panics(library, *names) != []:
+                found = {name: linker.panics(library, name) for name in names}
+                said = ["%s: %s" % (name, symbols or "isn't linked") for name, symbols in found.items() if symbols != []]
+                what = "opt-level %s with %s for %s" % (LEVELS[profile], features, target)
+                self.faults.append(findings.case(what, "no panicking branch", "\n".join(said) or "one of all together"))
+        library, sample = self.library("calls", source, "release", "", target), names[::4]
+        kept = sum(bool(linker.panics(library, name)) for name in sample) if library else 0
+        if kept < len(sample) // 2:
+            what = "programs that test an index without `proved`"
+            self.faults.append(findings.case(what, "at least %d" % (len(sample) // 2), kept))
+        print("no panicking branch in %d calls for %s, at opt-level %s" % (len(names), target, "; ".join(LEVELS.values())), flush=True)
+
+    def library_of_sizes(self, profile, features, target=HOST, peer=""):
+        """The library of the programs whose bytes are measured, the peers' and ours."""
+        source = (DATA.parent / "bench" / "peers" / "sizes.rs").read_text() + (DATA / "measured" / "sizes.rs").read_text()
+        return self.library("sizes", source, profile, features, target, ours="ours", peer=peer)
+
+    def sizes(self):
+        """Programs stay within their bounds."""
+        library, linker = self.library_of_sizes("release", "proved"), linking.Linker(self.room)
+        for name, bound in BYTES.items() if library else ():
+            size = linker.size(library, name)
+            if size is None or size > bound:
+                self.faults.append(findings.most(name, bound, size, "bytes"))
+
+    def example(self):
+        """The example of README.md, in a folder beside the package, as a user has them."""
+        folder = shutil.copytree(DATA / "example", self.room / "example")
+        (self.room / "rust").symlink_to(self.package)
+        self.cargo("run", "--quiet", folder=folder)
+
+    def tool(self):
+        """The tool refuses its wrong sources, and the page has its table."""
+        self.faults += wrong.faults(self.room)
+        if table.of_page() not in (TOP / "docs" / "RUST.md").read_text():
+            self.faults.append("docs/RUST.md:1: hasn't the table that `x rust --table` prints")
+
+    def rows_of_32_bits(self):
+        """The worked rows hold in a program without a C library, with tests of overflow, where this machine runs 32-bit
+        programs."""
+        library = self.library("narrow", (DATA / "narrow" / "lib.rs").read_text(), "tested", "", NARROW_HOST)
+        made = linking.Linker(self.room, NARROW_HOST).link(library, "_start") if library else None
+        status = subprocess.run([made]).returncode if made else "that no program is linked with"
+        if status:
+            self.faults.append(findings.case("the status of the rows for %s" % NARROW_HOST, 0, status))
+        else:
+            print("the rows hold for %s" % NARROW_HOST, flush=True)
+
+    def narrow_targets(self):
+        """The 32-bit targets whose `core` is there, or is built from rustc's sources."""
+        return [target for target in linking.NARROW if shutil.which("ld.lld") and linking.flags(self.room, target) is not None]
 
 
 def main(_given):
     with tempfile.TemporaryDirectory(prefix="x-rust-") as folder:
-        faults = trial.everything(pathlib.Path(folder))
-    print("the package for Rust: %d faults" % faults)
-    return 1 if faults else 0
+        trial = Trial(pathlib.Path(folder))
+        trial.tool()
+        export.export(trial.package)
+        for part in (trial.example, trial.features, trial.tests, trial.memory, trial.lints, trial.panics, trial.sizes):
+            part()
+        targets = trial.narrow_targets()
+        for target in targets:
+            trial.panics(target)
+        if NARROW_HOST in targets:
+            trial.rows_of_32_bits()
+    if not targets:
+        print("this rustc has neither `core` for %s nor its sources, so no 32-bit program is linked" % " or ".join(linking.NARROW))
+    return findings.ended(trial.faults, "the package for Rust")

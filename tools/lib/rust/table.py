@@ -1,11 +1,12 @@
-"""The tables of tools/data/rust: each text of the sources that is another one in Rust, and why."""
+"""The tables of tools/data/rust: each text of the sources that is another one in Rust, and why. docs/RUST.md has them in short,
+and the package with their files."""
 import re
 from typing import NamedTuple
 
-from lib.rust.lexer import Fault
-from lib.top import TOP
+from lib.contracts.source import Fault
+from lib.data import DATA as ALL_DATA
 
-DATA = TOP / "tools" / "data" / "rust"
+DATA = ALL_DATA / "rust"
 # A substitution in its file: a path, reasons, then both texts.
 FORM = re.compile(r"([^\n]+)\nwhy: ([^\n]+)\n(?:shown: ([^\n]+)\n)?(?:times: (\d+)\n)?<<<\n(.*?)\n===\n(.*?)\n>>>\n", re.S)
 # Functions that are `unsafe` in Rust: what their contract requires, their caller must uphold.
@@ -14,6 +15,10 @@ UNSAFE = {
     "digit_pair": "The number is at most 99.",
     "put": "`start + bytes.len()` is at most `buffer.len()`.",
 }
+PAGE_HEAD = ["| Why | In the sources → in Rust |", "|---|---|"]
+TESTS_HEAD = ["", "Of the sources' own tests it replaces these patterns, as Python writes them.", "", "| Pattern | In Rust |", "|---|---|"]
+FILE_HEAD = ["# Substitutions", "", "`x rust` puts each of these texts in the place of that of the sources.", "",
+             "| File | In the sources | In Rust | Why |", "|---|---|---|---|"]
 
 
 class Substitution(NamedTuple):
@@ -26,10 +31,10 @@ class Substitution(NamedTuple):
     new: str
 
 
-def rows(name):
-    """The rows of a table of two columns or more, whose last one may be empty."""
-    for line in (DATA / (name + ".tsv")).read_text().splitlines():
-        yield line.split("\t") if "\t" in line else [line, ""]
+def rows(name, columns=2):
+    """The rows of a table of so many columns, of which the last ones may be empty. A line that begins with `# ` tells of it."""
+    lines = (DATA / (name + ".tsv")).read_text().splitlines()
+    return [(line.split("\t") + [""] * columns)[:columns] for line in lines if not line.startswith("# ")]
 
 
 def substitutions(text):
@@ -42,9 +47,9 @@ def substitutions(text):
 
 SUBSTITUTIONS = tuple(substitutions((DATA / "substitutions.txt").read_text()))
 # The file, the feature and the first words of each item that is there only with this feature.
-FEATURES = tuple(rows("features"))
-# Imports of std, as patterns, and what they are in Rust. An import with an empty text is removed.
-IMPORTS = tuple(rows("imports"))
+FEATURES = rows("features", 3)
+# What a test of the sources says, as a pattern, and what it says in Rust. `rattle` is tools/data/rust/rattle.rs.
+TEST_RULES = rows("test_rules")
 
 
 def substituted(said, path, text):
@@ -69,3 +74,22 @@ def check_paths(files):
     for path in [each.path for each in SUBSTITUTIONS] + [it[0] for it in FEATURES]:
         if path not in files:
             raise Fault(path, "", 0, "isn't there, and tools/data/rust names it")
+
+
+def of_page():
+    """The table of docs/RUST.md, with a row for each reason."""
+    pairs = {}
+    for each in SUBSTITUTIONS:
+        pairs.setdefault(each.why, {})["%s → %s" % tuple(map(code, each.shown.partition(" →")[::2]))] = None
+    return "\n".join(PAGE_HEAD + ["| %s | %s |" % (why, "<br>".join(its)) for why, its in pairs.items()]) + "\n"
+
+
+def of_package():
+    """A row for each substitution, and for each pattern of tests."""
+    shown = ["| %s | %s | %s | %s |" % (each.path, code(each.old), code(each.new), each.why) for each in SUBSTITUTIONS]
+    return "\n".join(FILE_HEAD + shown + TESTS_HEAD + ["| %s | %s |" % (code(old), code(new)) for old, new in TEST_RULES]) + "\n"
+
+
+def code(text):
+    shown = " ".join(text.split())
+    return "`%s`" % shown.replace("|", "\\|") if shown else "nothing"

@@ -1,0 +1,4 @@
+#!/bin/sh
+sleep 100 &
+echo $!
+wait
