@@ -7,10 +7,11 @@ import re
 PROVED = re.compile(r"^(?:fn|struct|enum|trait|impl) .*: proved$")
 ONLY = re.compile(r"^only=(\d+) proved=(\d+)")
 NOISE = ("logic ", "statements ", "library ", "crate ", "checked ", "so far: checked ")
-# A goal with its place, a function with its goals, the lines to begin its proof with, and what they may use.
+# A goal with its place, a function with its goals, advice on proofs, the lines to begin one with, and what they may use.
 PLACE = re.compile(r"^note: (\S+?:\d+):\d+: it is not proved that (.*) \(`(.+)`\)$")
 UNPROVED = re.compile(r"^fn (\S+): no proof: expected answers in \./(\S+); .* did not prove (.*)$")
 GOAL = re.compile(r"^note: `(\S+)` of (\S+) must prove: ")
+ADVICE = re.compile(r"note: (?:a goal may be false|to see how far|\.)|\S+\.antt:\d+:\d+: note: ")
 START = re.compile(r"^    (\S+( .*)?) = \?$")
 CALL = re.compile(r"^  \| (c\.\S+): .*\.ensures \{\.(\w+)")
 ARM = re.compile(r"returns-in-(\w+)$")
@@ -27,7 +28,7 @@ CLAUSES = {
 # A list of bytes as the checker writes it, with what ends it.
 BYTES = re.compile(r"(?:mathlib\.Core\.List\.◌∷◌ \d+ \(?)+mathlib\.Core\.List\.\[\]\)*")
 # Where a name is declared.
-MODULE = re.compile(r"\b(?:Rattle|mathlib|lib)(?:\.[\w+-]+)*\.(?=[^\s.]+)")
+MODULE = re.compile(r"(?<![\w/.])(?:Rattle|mathlib|lib)(?:\.[\w+-]+)*\.(?=[^\s.]+)")
 ALONE = re.compile(r"has `(\d+)`")
 REST = re.compile(r"`(\d+) (?:\(codes \"(.*?)\"\)|mathlib\.Core\.List\.\[\])`")
 
@@ -88,7 +89,7 @@ class Short:
             self.within = lambda told: self.begun(path, told)
         elif goal:
             self.within = lambda told: self.offered(goal.groups(), told)
-        elif text.startswith("note: ") or re.match(r"\S+\.antt:\d+:\d+: note: ", text):
+        elif ADVICE.match(text):
             self.within = lambda told: None
         else:
             return with_texts(line)
@@ -112,7 +113,7 @@ class Short:
                 clause = CLAUSES.get(its[0].rpartition("-clause-")[2], what)
                 yield "%s: %s: it is not proved that %s (%s)\n" % (place, name, clause, ", ".join("`%s`" % goal for goal in its))
             if not places:
-                yield "%s: %s is not proved\n" % (name, goals)
+                yield "%s: not proved: %s\n" % (name, goals)
             yield from self.next_step(path, goals)
         if self.functions:
             yield "`x check %s .. --long` shows each goal, and the lines to begin a proof with.\n" % self.crate

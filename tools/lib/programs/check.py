@@ -87,7 +87,7 @@ class Check(unittest.TestCase):
                     wanted += ["--extern", "%s=%s/rlibs/%s.rlib" % (name, self.kit, name)]
                 wanted += ["-L", "dependency=%s/rlibs" % self.kit, "--antt-project", "%s/rattle/logic/antt-project.json" % self.kit,
                            "--logic-built", "%s/logic_built" % self.kit,
-                           "--jobs", str(os.cpu_count()), "--incremental", "%s/out/trusting" % (self.crates / crate)]
+                           "--jobs", str(os.cpu_count()), "--incremental", "%s/out/trusting" % self.room]
                 wanted += [word for library in below for word in ("--lib", library)] + [word for path in paths or [crate] for word in ("--only", path)]
                 with self.subTest(crate, paths=paths):
                     self.assertEqual(wanted, self.checker.with_name("rattle.asked").read_text().splitlines())
@@ -110,7 +110,7 @@ class Check(unittest.TestCase):
 
     def test_what_the_checker_kept(self):
         """It stays from one run to the next."""
-        kept = self.crates / "small" / "out" / "trusting" / "kept"
+        kept = self.room / "out" / "trusting" / "kept"
         self.touch(kept)
         run(self.command(self.room, "small"))
         self.assertTrue(kept.exists())
