@@ -24,7 +24,7 @@ from typing import NamedTuple
 
 from lib.model import floats
 from lib.model.dumps import dump
-from lib.model.document import Block, add_pretty, list_of, plain, pretty, quoted, tuple_of
+from lib.model.document import Block, list_of, plain, pretty, quoted, tuple_of
 from lib.model.reading import document_of
 from lib.model.pieces import by_character, by_text, digest, of_value, printed, with_zeros
 
@@ -98,13 +98,6 @@ def with_places(number, places, width):
     return with_zeros(format(exact, "0%df" % width if width else "f"))
 
 
-def pretty_at(document, depth):
-    """The pretty text of a document at this depth."""
-    out = []
-    add_pretty(document, depth, out)
-    return "".join(out)
-
-
 def lines(request, text):
     """Lines by `pieces!`, a line by `uwrite!` and `uwriteln!`, and that line in a list in pretty mode."""
     in_a_list = by_text("[", "\n", "    ") + written_line(request, text, True, 1) + by_text(",\n", "]")
@@ -141,7 +134,7 @@ def written_line(request, text, is_pretty, depth):
     out = [whole * 2, pieces, printed(single, True, of_value, depth), length[1]]
     out += [hexadecimal(request, len(text.encode()), 64, letter)[1] for letter in "bo"]
     out += [with_zeros(format(len(text.encode()), "0%dd" % request.width)), in_column(request, text, whole)]
-    out += [in_column(request, pretty_at(pair, depth) if is_pretty else plain(pair), pieces)]
+    out += [in_column(request, pretty(pair, depth) if is_pretty else plain(pair), pieces)]
     out += [in_column(request, *length), by_text("\n")]
     return b"".join(out)
 
