@@ -9,7 +9,7 @@ from lib import running
 from lib.command.arguments import add_names
 
 # The module of each, with `measured_again(is_written)`, which returns the status.
-MEASURED = {"costs": "lib.costs.step", "c": "lib.c.costs", "floats": "lib.floats.steps", "texts": "lib.model.measured"}
+MEASURED = {"costs": "lib.costs.step", "c": "lib.c.costs", "floats": "lib.floats.steps", "texts": "lib.model.costs"}
 
 
 def add_arguments(parser):

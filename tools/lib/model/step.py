@@ -22,7 +22,6 @@ import tempfile
 from lib.findings import case, ended
 from lib.model import asked, characters, commands, costs, counter, coverage, documents, first_texts, large, verdicts
 from lib.programs import cases
-from lib.top import TOP
 
 sys.setrecursionlimit(20_000)
 
@@ -39,15 +38,14 @@ def shown(data):
 
 
 def batches(texts):
-    batch, size = [], 0
+    found, size = [[]], 0
     for text in texts:
-        batch.append(text)
+        found[-1].append(text)
         size += len(text) + 1000
         if size > BATCH_BYTES:
-            yield batch
-            batch, size = [], 0
-    if batch:
-        yield batch
+            found.append([])
+            size = 0
+    return list(filter(None, found))
 
 
 def wrong_lines(program, texts):
@@ -93,29 +91,16 @@ def made(count, seed):
             yield makers[1].data()
 
 
-def text_jobs(pool, programs, count, seed):
-    """How many texts are judged, and the jobs that judge them."""
-    tried, jobs = 0, []
-    for batch in batches(made(count, seed)):
-        tried += len(batch)
-        jobs.append(pool.submit(judged, programs["probe_model"], programs["ufmt_conv"], batch))
-    return tried, jobs
-
-
 def cost_jobs(pool, programs, meter):
     """The jobs that count, and those that run the commands on large texts."""
     jobs = [pool.submit(large.faults, programs, number) for number in range(large.PARTS)]
     if meter.library is None:
         return jobs
     for is_counted in (True, False) if meter.valgrind else (False,):
-        for number in range(costs.PARTS):
-            jobs.append(pool.submit(costs.part_faults, meter, programs["probe_model"], number, is_counted))
+        jobs += [pool.submit(costs.part_faults, meter, programs["probe_model"], number, is_counted) for number in range(costs.PARTS)]
         jobs.append(pool.submit(costs.request_faults, meter, programs["probe_model"], is_counted))
-    jobs.append(pool.submit(commands.conv_faults, meter, programs["ufmt_conv"]))
-    jobs.append(pool.submit(commands.short_read_faults, meter, programs))
-    for is_plain in (False, True):
-        jobs.append(pool.submit(commands.line_faults, meter, programs["ufmt_lines"], is_plain))
-    return jobs
+    jobs += [pool.submit(commands.conv_faults, meter, programs["ufmt_conv"]), pool.submit(commands.short_read_faults, meter, programs)]
+    return jobs + [pool.submit(commands.line_faults, meter, programs["ufmt_lines"], is_plain) for is_plain in (False, True)]
 
 
 def result_of(job):
@@ -128,36 +113,21 @@ def result_of(job):
 
 def counted(meter, number):
     """A message with what was counted."""
-    if meter.library is None:
-        return "%d costs counted: none of memory and steps, for want of a C compiler" % number
-    if not meter.valgrind:
-        return "%d costs counted, of memory; no steps, for want of valgrind" % number
-    return "%d costs counted, of memory and steps" % number
-
-
-def programs_of(program):
-    """The built programs by their names."""
-    program = pathlib.Path(program or TOP / "crates/probe_model/out/probe_model").resolve()
-    found = {name: TOP / "crates" / name / "out" / program.name.replace("probe_model", name) for name in ("ufmt_conv", "ufmt_lines")}
-    return dict(found, probe_model=program)
-
-
-def main_large(program):
-    """Passes texts of 16 MiB, and one of 1,500,000 words, to every call of the library."""
-    wrong, count = large.run_faults(programs_of(program), large.verdict_runs())
-    return ended(wrong, "%d texts of 16 MiB" % count)
+    of_memory = ", of memory and steps" if meter.valgrind else ", of memory; no steps, for want of valgrind"
+    return "%d costs counted%s" % (number, ": none of memory and steps, for want of a C compiler" if meter.library is None else of_memory)
 
 
 def main(given):
+    programs = counter.programs_of(given.program)
     if given.full:
-        return main_large(given.program)
-    programs = programs_of(given.program)
+        wrong, count = large.run_faults(programs, large.verdict_runs())
+        return ended(wrong, "%d texts of 16 MiB" % count)
     faults, cells, costs_counted = [], set(), 0
     with tempfile.TemporaryDirectory() as room, concurrent.futures.ProcessPoolExecutor() as pool:
         meter = counter.Counter(pathlib.Path(room))
         costing = cost_jobs(pool, programs, meter)
-        tried, judging = text_jobs(pool, programs, COUNT if given.count is None else given.count, given.seed)
-        for job in judging:
+        texts = batches(made(COUNT if given.count is None else given.count, given.seed))
+        for job in [pool.submit(judged, programs["probe_model"], programs["ufmt_conv"], batch) for batch in texts]:
             wrong, found = job.result()
             faults += wrong
             cells |= found
@@ -166,5 +136,5 @@ def main(given):
             wrong, number = result_of(job)
             faults += wrong
             costs_counted += number
-    texts = "%d texts with seed %s fill %d cells" % (tried, given.seed, len(cells))
-    return ended(faults, "%s, %s" % (texts, counted(meter, costs_counted)))
+    told = "%d texts with seed %s fill %d cells" % (sum(map(len, texts)), given.seed, len(cells))
+    return ended(faults, "%s, %s" % (told, counted(meter, costs_counted)))
