@@ -3,13 +3,10 @@
 What calls took is in tools/data/measured/texts.txt too: the steps of each call of the proved program that `rt ci` leaves
 (tools/lib/measures.py). Without that table only the bounds of bounds.py hold.
 """
-import pathlib
-import tempfile
 from typing import NamedTuple
 
-from lib import findings, measures, needs
+from lib import findings, measures
 from lib.model import asked, bounds, shapes
-from lib.model.counter import Counter, programs_of
 from lib.model.document import plain, pretty
 from lib.model.features import DOC, Features, features, indentation, past_ascii
 from lib.model.reading import MODES, PRINTERS, READERS
@@ -19,7 +16,7 @@ COUNTED_SIZE, TIMED_SIZE = 4 * 1024, 64 * 1024
 # Texts are counted side by side in so many parts.
 PARTS = 4
 SECONDS = 600
-MEASURED, TOLD = "texts", "Of `x try texts`: steps of each call, in the order of its line"
+MEASURED = "texts"
 # And so many for all requests: they take less than one, and with the steps counted less than ten.
 REQUEST_SECONDS = 30
 # The program prints by a request's options to a buffer of so many bytes.
@@ -176,12 +173,9 @@ def part_faults(counter, program, number, is_counted):
     return counted_faults(counter, program, part, "part %d" % number, is_counted, SECONDS)[:2]
 
 
-def measured_again(is_written):
-    """Writes the table again, or names each row whose bound left the band."""
-    needs.require("measure", "cc", "valgrind")
+def measured_rows(counter, program):
+    """The rows of all texts and requests."""
     rows = {}
-    with tempfile.TemporaryDirectory() as room:
-        counter, program = Counter(pathlib.Path(room)), programs_of(None)["probe_model"]
-        for texts in [*(list(samples(COUNTED_SIZE, number)) for number in range(PARTS)), requested()]:
-            rows.update(Run(counter, program, texts, "measured", True, SECONDS).rows())
-    return measures.measured_again(MEASURED, rows, TOLD, is_written)
+    for texts in [*(list(samples(COUNTED_SIZE, number)) for number in range(PARTS)), requested()]:
+        rows.update(Run(counter, program, texts, "measured", True, SECONDS).rows())
+    return rows

@@ -19,6 +19,7 @@ import subprocess
 import sys
 import tempfile
 
+from lib import measures, needs
 from lib.findings import case, ended
 from lib.model import asked, characters, commands, costs, counter, coverage, documents, first_texts, large, verdicts
 from lib.programs import cases
@@ -101,6 +102,16 @@ def cost_jobs(pool, programs, meter):
         jobs.append(pool.submit(costs.request_faults, meter, programs["probe_model"], is_counted))
     jobs += [pool.submit(commands.conv_faults, meter, programs["ufmt_conv"]), pool.submit(commands.short_read_faults, meter, programs)]
     return jobs + [pool.submit(commands.line_faults, meter, programs["ufmt_lines"], is_plain) for is_plain in (False, True)]
+
+
+def measured_again(is_written):
+    """Writes the table again, or names each row whose bound left the band."""
+    needs.require("measure", "cc", "valgrind")
+    programs = counter.programs_of(None)
+    with tempfile.TemporaryDirectory() as room:
+        meter = counter.Counter(pathlib.Path(room))
+        rows = {**costs.measured_rows(meter, programs["probe_model"]), **commands.read_steps(meter, programs)}
+    return measures.measured_again(costs.MEASURED, rows, "Of `x try texts`: steps of each call, in the order of its line", is_written)
 
 
 def result_of(job):
