@@ -83,6 +83,7 @@ READ = {"pretty": "plain", "plain": "pretty"}
 def outcome(command, data):
     """The status, standard output and standard error of ufmt_conv."""
     if command == "lengths":
-        return 0, "[%s]\n" % ", ".join(str(len(line)) for line in data.removesuffix(b"\n").split(b"\n") if data), ""
+        lines = data.removesuffix(b"\n").split(b"\n") if data else []
+        return 0, "[%s]\n" % ", ".join(str(len(line)) for line in lines), ""
     other = converted(READ[command], "token", data.decode(errors="surrogateescape").removesuffix("\n"))
     return (1, "", "ufmt_conv: not a %s text\n" % READ[command]) if other is None else (0, other + "\n", "")

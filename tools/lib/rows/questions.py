@@ -48,8 +48,7 @@ def leaf(words, cells):
     """A leaf, which is read in each place or in none."""
     for mode, around in AROUND:
         text = around.replace("%s", cells[0])
-        is_read = converted(mode, words[0], text) is not None
-        yield text, " ".join(words[1:]), "is read" if is_read else "is refused"
+        yield text, " ".join(words[1:]), "is refused" if converted(mode, words[0], text) is None else "is read"
 
 
 def beginnings(words, cells):
