@@ -1,12 +1,12 @@
 """Refuses each allocation of probe_memory, which makes each call of the library.
 
-Its input says how many allocations it makes before the calls. In each run the allocation of one fixed number is refused. With fewer before
-the calls, that is a later one of the calls. After the calls the program makes one more allocation. When that is refused, each allocation of
-the calls has been refused.
+Its input says how many allocations it makes before the calls. In each run the allocation of one fixed number is refused. With
+fewer before the calls, that is a later one of the calls. After the calls the program makes one more allocation. When that is
+refused, each allocation of the calls has been refused.
 
-A run refuses one allocation, and the line of one call says so. The number of runs in which a call's line says so must be the number of
-allocations in that line. Before a call without allocations the program makes one of its own, which counts for that line. If no line of a run
-says so, a call made the allocation in secret, and the fault names the lines before and after it.
+A run refuses one allocation, and the line of one call says so. The number of runs in which a call's line says so must be the
+number of allocations in that line. Before a call without allocations the program makes one of its own, which counts for that
+line. If no line of a run says so, a call made the allocation in secret, and the fault names the lines before and after it.
 
 First there is a run with ample memory. It makes as many allocations as its lines say, so none of the C library's is counted.
 """
@@ -29,7 +29,8 @@ LEFT = re.compile(r'is_pretty=false depth=0 text="(.*)"$')
 
 NODE = document_of("Node { value: 1, next: Some(Node { value: 0, next: None }) }")
 # The pieces of the node's text, in the order in which they are passed to a writer. A line feed is \\n, as it is printed.
-PIECES = {mode: [piece[1:].decode().replace("\n", "\\n") for piece in printed(NODE, mode == "pretty").split(END)[:-1]] for mode in MODES}
+PIECES = {mode: [piece[1:].decode().replace("\n", "\\n") for piece in printed(NODE, mode == "pretty").split(END)[:-1]]
+          for mode in MODES}
 
 
 class Calls:
@@ -42,7 +43,8 @@ class Calls:
         self.faults, self.runs, self.refusals, self.secret = [], 0, 0, 0
         # In how many runs each line says that memory was refused, and the last line that said so.
         self.refused, self.last = [0] * len(self.ample), None
-        # How many allocations the calls made, and the text that was last left in each mode. Each later refusal leaves a longer one.
+        # How many allocations the calls made, and the text that was last left in each mode. Each later refusal leaves a longer
+        # one.
         self.made, self.left = None, {}
 
     def name(self, index):
@@ -98,8 +100,8 @@ class Calls:
             met += self.meets(index, line)
             self.refused[index] += 1
             if self.secret:
-                self.faults.append("no line says that one of %d allocations was refused, which were made after the last one of '%s' and before "
-                                   "the first one of '%s'" % (self.secret, self.name(self.last), self.name(index)))
+                self.faults.append("no line says that one of %d allocations was refused, which were made after the last one of '%s' "
+                                   "and before the first one of '%s'" % (self.secret, self.name(self.last), self.name(index)))
                 self.secret = 0
             self.last = index
         self.refusals += met
@@ -134,7 +136,8 @@ class Calls:
 
 
 def tried_calls(counter):
-    """Runs the program once for each number, that of the refused allocation of the calls. Number 0 refuses the last one before them."""
+    """Runs the program once for each number, that of the refused allocation of the calls. Number 0 refuses the last one before
+    them."""
     program = needs.built("probe_memory")
     calls = Calls((TOP / "crates" / "probe_memory" / "stdout").read_text())
 

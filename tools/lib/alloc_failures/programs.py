@@ -20,8 +20,8 @@ OUT_OF_MEMORY = 5
 
 
 class Case(NamedTuple):
-    """The arguments, the input, and with ample memory the status, the output and what is on standard error. The number of allocations that
-    a run can't do without."""
+    """The arguments, the input, and with ample memory the status, the output and what is on standard error. The number of
+    allocations that a run can't do without."""
 
     arguments: Tuple[str, ...]
     text: bytes

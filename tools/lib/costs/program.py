@@ -55,7 +55,8 @@ def counted(counter, program):
     if len(lines_of_output) != len(asked) or len(counts) < len(made) or len(steps) < len(made):
         return {}, ["%d answers to %d lines, %d counts of %d calls" % (len(lines_of_output), len(asked), len(counts), len(made))]
     around = min(steps, default=0)
-    found = {call: list(zip(LABELS, [taken - around, *(getattr(count, label) for label in LABELS[1:])])) for call, taken, count in zip(made, steps, counts)}
+    of_memory = ([getattr(each, label) for label in LABELS[1:]] for each in counts)
+    found = {call: list(zip(LABELS, [taken - around, *memory])) for call, taken, memory in zip(made, steps, of_memory)}
     twice = [] if len(found) == len(made) else ["two calls have one name"]
     return {name: row for name, row in found.items() if not name.startswith(":")}, twice
 

@@ -33,7 +33,8 @@ def quoted(size):
 def wide(begin, item, end, size, pretty_item=None):
     """A list or set of so many items; one without its end, and one with a wrong item at its end; and the pretty text."""
     whole = begin + ", ".join(map(item, range(size)))
-    return [whole + end, whole, whole + ", ?" + end, begin + "\n" + "".join("    %s,\n" % it for it in map(pretty_item or item, range(size))) + end]
+    lines = ("    %s,\n" % it for it in map(pretty_item or item, range(size)))
+    return [whole + end, whole, whole + ", ?" + end, begin + "\n" + "".join(lines) + end]
 
 
 def listed(item):

@@ -31,13 +31,14 @@ def within(around, count, texts):
 
 
 # Blocks with entries are at most so deep; a struct with nothing but dots has none.
+IN_A_ROW = ((LIST, LEAF), (LIST, ONLY_DOTS), (OPEN_STRUCT, DOTS), (OPEN_STRUCT, ONLY_DOTS))
 DEEP = (
-    *(within(around, DEEPEST, texts) for around, texts in ((LIST, LEAF), (LIST, ONLY_DOTS), (OPEN_STRUCT, DOTS), (OPEN_STRUCT, ONLY_DOTS))),
+    *(within(around, DEEPEST, texts) for around, texts in IN_A_ROW),
     within(LIST, DEEPEST - 1, within(OPEN_STRUCT, 1, ("1", "1"))),
     within(LIST, 100, within(OPEN_STRUCT, DEEPEST - 100, EMPTY)),
 )
 TOO_DEEP = (
-    *(within(around, DEEPEST + 1, texts) for around, texts in ((LIST, LEAF), (LIST, ONLY_DOTS), (OPEN_STRUCT, DOTS))),
+    *(within(around, DEEPEST + 1, texts) for around, texts in IN_A_ROW[:3]),
     within(LIST, DEEPEST, within(OPEN_STRUCT, 1, ("1", "1"))),
     within(LIST, 100, within(OPEN_STRUCT, DEEPEST - 99, EMPTY)),
 )

@@ -1,13 +1,13 @@
-"""Reads what rustc printed of values of std, by the model, and compares what comes out with what rustc printed in the other mode, for
-each class of texts: token texts and debug texts.
+"""Reads what rustc printed of values of std, by the model, and compares what comes out with what rustc printed in the other mode,
+for each class of texts: token texts and debug texts.
 
 tools/expected/rows.txt has the rows, which tools/expected/print wrote: each value's text by `{:?}` and by `{:#?}`. In
-tools/expected/reasons each row that a class refuses, or that comes out as another text, has its reason. A row without a reason is a
-fault, and so is a reason without a row and one that no longer holds. Texts at the edges of the debug class, tools/lib/expected/edges.py,
-come out as is said there, or are refused.
+tools/expected/reasons each row that a class refuses, or that comes out as another text, has its reason. A row without a reason is
+a fault, and so is a reason without a row and one that no longer holds. Texts at the edges of the debug class,
+tools/lib/expected/edges.py, come out as is said there, or are refused.
 
-All these texts are passed to the built probe_model, which `rt ci` leaves in crates/probe_model/out, and what the calls of both classes
-say of them is compared with what the model says.
+All these texts are passed to the built probe_model, which `rt ci` leaves in crates/probe_model/out, and what the calls of both
+classes say of them is compared with what the model says.
 """
 import collections
 import os
@@ -38,8 +38,8 @@ COLONS, SECONDS = 1_000_000, 60
 def outcomes(name, row):
     """What comes out of a row's plain text and of its pretty text, in a class."""
     texts = row.plain, row.pretty
-    found = [converted(mode, name, text) for mode, text in zip(MODES, texts)]
-    return tuple("refused" if each is None else "same" if each == wanted else "another" for each, wanted in zip(found, texts[::-1]))
+    found = [(converted(mode, name, text), other) for mode, text, other in zip(MODES, texts, texts[::-1])]
+    return tuple("refused" if each is None else "same" if each == wanted else "another" for each, wanted in found)
 
 
 def judged(name, stored, reasons):

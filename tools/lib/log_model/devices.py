@@ -1,7 +1,7 @@
 """Runs a program over devices that see each call.
 
-Standard input, output and error are sockets that keep messages apart: a read takes one, and a write sends one. So a run is a row of reads and
-writes, and each is compared with what it should be.
+Standard input, output and error are sockets that keep messages apart: a read takes one, and a write sends one. So a run is a row
+of reads and writes, and each is compared with what it should be.
 """
 import os
 import pathlib
@@ -121,7 +121,9 @@ def wrong_end(devices, program, process, wanted, line):
     if rest or error != line.splitlines(keepends=True) or ended.status != wanted.status:
         return "at the end it writes %s and %s, and its status is %d" % (shown(b"".join(rest)), shown(b"".join(error)), ended.status)
     wanted = wanted._replace(writes=wanted.writes + len(error))
-    return None if ended.reads is None or ended == wanted else "wanted %d reads and %d writes, got %d and %d" % (*wanted[1:], *ended[1:])
+    if ended.reads is None or ended == wanted:
+        return None
+    return "wanted %d reads and %d writes, got %d and %d" % (*wanted[1:], *ended[1:])
 
 
 def fault(program, arguments, chunks, rounds, status=0, line=b""):

@@ -2,9 +2,9 @@
 
 A log that `--plain` leaves as it is comes back after pretty and plain, for every limit. Cuts of groups change no output.
 
-A log of 200 lines in five formats has its values marked: those that a reader wants laid out, and those that stay on purpose. The formats are
-a package manager's, tracing's, env_logger's, panics, and a program's own. A name is as long as it may be, so a value that is marked from its
-bracket's word on may begin before it, as in `lock=Package { .. }`.
+A log of 200 lines in five formats has its values marked: those that a reader wants laid out, and those that stay on purpose. The
+formats are a package manager's, tracing's, env_logger's, panics, and a program's own. A name is as long as it may be, so a value
+that is marked from its bracket's word on may begin before it, as in `lock=Package { .. }`.
 """
 import random
 import re
@@ -77,8 +77,8 @@ def is_same(line, value, wanted):
 
 
 def wrong_marks():
-    """What is wrong with the model: a value that is wanted and stays, another one that is laid out, or a log that doesn't come back; and how
-    many values are wanted."""
+    """What is wrong with the model: a value that is wanted and stays, another one that is laid out, or a log that doesn't come
+    back; and how many values are wanted."""
     found, count = [], 0
     for number, (line, wanted, _stays) in enumerate(marked_lines(), 1):
         given = [(start, end) for start, end, other in log_model.values("pretty", line) if other is not None]

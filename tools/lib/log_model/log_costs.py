@@ -1,7 +1,7 @@
 """What a run of ufmt_lines costs on logs of each shape: steps, memory, reads and writes.
 
-Steps are counted on a log of 32 KiB, beside tools/data/measured/logs.txt (tools/lib/measures.py): with one step more for each pair of bytes,
-each byte would cost 16,384 steps more. Memory, reads and writes are those of longer logs.
+Steps are counted on a log of 32 KiB, beside tools/data/measured/logs.txt (tools/lib/measures.py): with one step more for each
+pair of bytes, each byte would cost 16,384 steps more. Memory, reads and writes are those of longer logs.
 """
 import bisect
 import os
@@ -79,7 +79,8 @@ def indented():
 
 SHAPES = (
     *table_shapes(),
-    Shape("a line of open tuples, a bracket, and words", "pretty", lambda size: b"(a, " * (size // 16) + b")" + b"word " * (3 * size // 20)),
+    Shape("a line of open tuples, a bracket, and words", "pretty",
+          lambda size: b"(a, " * (size // 16) + b")" + b"word " * (3 * size // 20)),
     Shape("groups of indented lines", "plain", lambda size: in_a_row(b"", indented(), b"", size)),
 )
 
@@ -108,7 +109,8 @@ class Meter:
 
     def passes(self, path, mode, most):
         """Whether a run ends with status 0 if it has at most so many bytes of memory."""
-        return self.run(path, mode, ["prlimit", "--as=%d" % most], stdout=subprocess.DEVNULL, stderr=subprocess.DEVNULL).returncode == 0
+        limit = "prlimit", "--as=%d" % most
+        return self.run(path, mode, limit, stdout=subprocess.DEVNULL, stderr=subprocess.DEVNULL).returncode == 0
 
     def least(self, path, mode):
         """The least memory in which a run ends with status 0, in pages of 16 KiB and at most 64 MiB."""
@@ -138,8 +140,8 @@ def counted(path):
 
 
 def ended(shape, log):
-    """How many bytes the groups have that end in a read, for each read in which some do, and for the end. Their outputs are one write, or more
-    if they are long."""
+    """How many bytes the groups have that end in a read, for each read in which some do, and for the end. Their outputs are one
+    write, or more if they are long."""
     sizes = {}
     for read, group in log_model.groups(shape.mode, log):
         number = None if read is None else -(-read // CHUNK)
@@ -148,8 +150,8 @@ def ended(shape, log):
 
 
 def wrong_calls(meter, shape):
-    """One read takes each chunk, and one more the end. One write has the outputs for the groups that end in a chunk, or at the end. If they
-    are long, they are written in parts of LEAST bytes and more."""
+    """One read takes each chunk, and one more the end. One write has the outputs for the groups that end in a chunk, or at the
+    end. If they are long, they are written in parts of LEAST bytes and more."""
     log = shape.log(SIZE * LONGER)
     path = meter.put(shape.name, log)
     given = meter.calls(path, shape.mode)

@@ -71,7 +71,8 @@ def start_of(mode, text, at, opening):
 
 
 def read_from(reader, text, start, is_alone=False):
-    """The document that begins here and where it ends. A reader looks back from a colon, for a quote: it sees nothing of what is before."""
+    """The document that begins here and where it ends. A reader looks back from a colon, for a quote: it sees nothing of what is
+    before."""
     if not is_alone and not text.startswith(":", start):
         return reader.document_at(text, start, 0)
     found = reader.document_at(text[start:], 0, 0)
@@ -93,8 +94,8 @@ def stays(text, opening, after_name, longer_than, document, end, start):
 
 
 def found_values(mode, text, reader=None):
-    """The values of a text from the left on: where each begins and ends, its document and its bracket, and whether it is a map or a set
-    after a name. Another reader sees each alone."""
+    """The values of a text from the left on: where each begins and ends, its document and its bracket, and whether it is a map or
+    a set after a name. Another reader sees each alone."""
     at = 0
     while found := BRACKET.search(text, at):
         opening = found.start()
@@ -209,8 +210,8 @@ def gathered(pieces):
 
 
 def writes(mode, log, chunks, longer_than=LONGER_THAN):
-    """What is written after each chunk is read, and last after the end: a list for each, with a piece for each write. The outputs for the
-    groups that end in a chunk are one write, or more if they are long."""
+    """What is written after each chunk is read, and last after the end: a list for each, with a piece for each write. The outputs
+    for the groups that end in a chunk are one write, or more if they are long."""
     whole = outputs(mode, log, longer_than)
     rounds, read, at = [], 0, 0
     for chunk in chunks:

@@ -1,12 +1,13 @@
 """Makes random logs, runs ufmt_lines on each with and without `--plain`, and compares each of its reads and writes with those of a model,
 which shares no code with the project.
 
-The built ufmt_lines is crates/ufmt_lines/out/ufmt_lines, which `rt ci` leaves there. The logs that come first with each seed are followed by
-random ones. They are also run by ufmt_lines.by-rattle, if it is there. Then memory is measured on long logs of each shape, reads and writes
-are counted, and with valgrind, if there is one, steps.
+The built ufmt_lines is crates/ufmt_lines/out/ufmt_lines, which `rt ci` leaves there. The logs that come first with each seed are
+followed by random ones. They are also run by ufmt_lines.by-rattle, if it is there. Then memory is measured on long logs of each
+shape, reads and writes are counted, and with valgrind, if there is one, steps.
 
-A log of 200 lines has its values marked: those that are wanted are laid out, and each line comes back. On 100 times as many logs of nasty
-pieces the model is held to its laws: a log that `--plain` leaves as it is comes back, at three limits, and cuts of groups change no output.
+A log of 200 lines has its values marked: those that are wanted are laid out, and each line comes back. On 100 times as many logs
+of nasty pieces the model is held to its laws: a log that `--plain` leaves as it is comes back, at three limits, and cuts of
+groups change no output.
 
 Last the built ufmt_conv reads texts in chunks, and each of its reads and writes is compared too.
 """
@@ -44,14 +45,16 @@ def wrong_runs(paths, batch):
     faults, programs = [], [devices.Program(path) for path in paths]
     for (log, chunks), mode in itertools.product(batch, log_model.MODES):
         pieces, rounds = sent(mode, log, chunks)
-        found = [(program, devices.fault(program, log_costs.ARGUMENTS[mode], pieces, rounds)) for program in programs]
-        faults += ["%s, to %s, a log of %d bytes: %s" % (program.path.name, mode, len(log), fault) for program, fault in found if fault]
+        for program in programs:
+            fault = devices.fault(program, log_costs.ARGUMENTS[mode], pieces, rounds)
+            if fault:
+                faults.append("%s, to %s, a log of %d bytes: %s" % (program.path.name, mode, len(log), fault))
     return faults
 
 
 def wrong_texts(path, seed):
-    """The faults of runs of ufmt_conv, which waits for the end of its input and writes its output at once. Its reads take a long text in
-    chunks of 64 KiB: one that is in the middle of them takes only their rest."""
+    """The faults of runs of ufmt_conv, which waits for the end of its input and writes its output at once. Its reads take a long
+    text in chunks of 64 KiB: one that is in the middle of them takes only their rest."""
     maker, program, faults = logs.Maker(seed), devices.Program(path), []
     given = [(text, maker.chunks(text)) for text in (maker.text() for _ in range(TEXTS)) if len(text) < logs.CHUNK]
     given += [(b"".join(chunks), chunks) for chunks in (logs.whole(b"a" * 150_000), logs.each_first_byte(), logs.each_last_byte())]
@@ -104,7 +107,8 @@ def main(given):
         if shutil.which("valgrind"):
             jobs.append(pool.submit(wrong_steps, paths[0]))
         jobs += [pool.submit(wrong_texts, path, str(given.seed)) for path in converters]
-        jobs += [pool.submit(law.faults, count * 100, str(given.seed)), pool.submit(wrong_runs, paths, [(law.marked_log(), logs.whole(law.marked_log()))])]
+        jobs.append(pool.submit(law.faults, count * 100, str(given.seed)))
+        jobs.append(pool.submit(wrong_runs, paths, [(law.marked_log(), logs.whole(law.marked_log()))]))
         pairs = logs.logs(count, str(given.seed))
         while batch := list(itertools.islice(pairs, BATCH)):
             tried += len(batch)

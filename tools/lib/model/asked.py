@@ -15,13 +15,14 @@ LONG, HUGE = 100, (2**63, 2**64 - 1)
 
 
 def huge():
-    """Requests with one huge option each, with some that don't meet in a call, and with columns of each width around numbers that are
-    padded to each."""
+    """Requests with one huge option each, with some that don't meet in a call, and with columns of each width around numbers that
+    are padded to each."""
     some, product = Request(width=LONG, pad_length=LONG, per_row=LONG, payload=b"abc"), itertools.product
+    aligns, widths = (0, 1, 2), (65, 1000, LONG, *HUGE)
     for number in (LONG, *HUGE):
-        yield from (some._replace(width=number, align=align, fill=ord(fill)) for align, fill in product((0, 1, 2), " *\u20ac"))
+        yield from (some._replace(width=number, align=align, fill=ord(fill)) for align, fill in product(aligns, " *\u20ac"))
         yield from (some._replace(pad_length=number, pad=pad, prefix=prefix) for pad, prefix in product((32, 48, 127), (0, 1)))
-        yield from (some._replace(pad_length=number, width=width, align=align) for width, align in product((65, 1000, LONG, *HUGE), (0, 1, 2)))
+        yield from (some._replace(pad_length=number, width=width, align=align) for width, align in product(widths, aligns))
         yield from (some._replace(per_row=number, group=group, offset=offset)
                     for group, offset in product((0, 1, LONG, *HUGE), (0, 0xFFFFFFFF, 2**32)))
 
@@ -54,8 +55,8 @@ class Asker:
 
 
 def made(seed):
-    """Requests of each two of the bounds as the width of a column and the length of a text, and as the length of a row and that of what
-    is dumped."""
+    """Requests of each two of the bounds as the width of a column and the length of a text, and as the length of a row and that
+    of what is dumped."""
     asker = Asker(seed)
     for (place, width), (other, length) in itertools.product(enumerate(BOUNDS), repeat=2):
         per_row = BOUNDS[(place + other) % len(BOUNDS)]

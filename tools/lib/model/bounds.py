@@ -1,5 +1,5 @@
-"""How much each call may take of steps and of memory, by what a text has. Steps are by tools/data/costs/bytes.txt, and by the factor of
-tools/lib/measures.py."""
+"""How much each call may take of steps and of memory, by what a text has. Steps are by tools/data/costs/bytes.txt, and by the
+factor of tools/lib/measures.py."""
 from typing import NamedTuple
 
 from lib import data
@@ -26,8 +26,8 @@ NANOSECONDS = 3
 
 
 class Case(NamedTuple):
-    """What is known of a call's text: its features, its length in bytes, that of the text in the other mode, that of a quoted text of it,
-    and the bytes of indentation of the first two."""
+    """What is known of a call's text: its features, its length in bytes, that of the text in the other mode, that of a quoted
+    text of it, and the bytes of indentation of the first two."""
 
     features: Features
     length: int
@@ -89,8 +89,8 @@ def text(length, start=8):
 
 
 def document(found, length, size=DOC):
-    """A document of a text of this length, of values of this size, and the open blocks in which it is made. The entries of a block are a
-    vector that grows by doubling, from four on. A map's first key is in a vector of its own until the colon."""
+    """A document of a text of this length, of values of this size, and the open blocks in which it is made. The entries of a
+    block are a vector that grows by doubling, from four on. A map's first key is in a vector of its own until the colon."""
     strings, blocks = found.strings(), found.blocks
     entries = 2 * -(-found.entry_bytes * size // DOC) + 8 * size * blocks
     open_blocks = 2 * OPEN_BLOCK * min(max(blocks, 4), 256)

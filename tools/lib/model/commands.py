@@ -9,13 +9,13 @@ from lib.model.costs import MEASURED, SECONDS, rough
 from lib.model.features import features, indentation
 from lib.model.document import list_of, plain, pretty
 
-# A text has a document of each shape, of so many bytes or of some times that. Steps are not counted of texts that have more bytes besides
-# their indentation.
+# A text has a document of each shape, of so many bytes or of some times that. Steps are not counted of texts that have more bytes
+# besides their indentation.
 COUNTED_SIZE, MOST_COUNTED = 512, 128 * 1024
 # What a run takes before it reads: a chunk of 64 KiB is made, byte by byte.
 START_STEPS, START_BYTES, CHUNK = 1_200_000, 70_000, 64 * 1024
-# Each command's steps for a byte of its input, and of a line of it, besides those of its conversion. A byte of indentation costs fewer: when it
-# is read, and when it is looked at for the end of its line too.
+# Each command's steps for a byte of its input, and of a line of it, besides those of its conversion. A byte of indentation costs
+# fewer: when it is read, and when it is looked at for the end of its line too.
 BYTE_STEPS, LINE_STEPS = 40, 600
 READ_INDENTATION, SPLIT_INDENTATION = 1, 17
 # So many reads of few bytes are counted. A read goes over these bytes, and not over a chunk or what was read before.
@@ -52,7 +52,8 @@ def runs():
     of_lengths = {"short lines": pretty(few), "empty lines": "\n" * 16 * COUNTED_SIZE, "one line": "x" * 64 * COUNTED_SIZE,
                   "many lines": "x\n" * 1024 * COUNTED_SIZE}
     for name, text in of_lengths.items():
-        yield Run(name, "lengths", text.encode(), bounds.Case(rough(""), len(text.encode()), 8 * text.count("\n") + 30, indentation=indentation(text)))
+        case = bounds.Case(rough(""), len(text.encode()), 8 * text.count("\n") + 30, indentation=indentation(text))
+        yield Run(name, "lengths", text.encode(), case)
 
 
 def run_steps(run):
@@ -109,7 +110,8 @@ def read_steps(counter, programs):
     """What runs take more in which each read takes few bytes: a row for each."""
     rows = {}
     for name, words, data in short_reads(programs):
-        few, whole = (counter.steps(words, data, "short reads, " + name, seconds=SECONDS, most_read=most)[0] for most in (READ_BYTES, None))
+        few = counter.steps(words, data, "short reads, " + name, seconds=SECONDS, most_read=READ_BYTES)[0]
+        whole = counter.steps(words, data, "short reads, " + name, seconds=SECONDS)[0]
         rows["%d reads of %d bytes, %s" % (READS, READ_BYTES, name)] = [("steps", few - whole)]
     return rows
 
@@ -146,15 +148,15 @@ def lines(is_plain):
 
 
 def line_steps(line):
-    """A text is scanned, and then converted. Each byte is copied, and looked at for the end of its line. A bracket at which no value begins takes
-    no more."""
+    """A text is scanned, and then converted. Each byte is copied, and looked at for the end of its line. A bracket at which no
+    value begins takes no more."""
     made = bounds.steps("debug is_text", line.case) + bounds.steps("debug convert into", line.case)
     return made + byte_steps(line.group, line.case, SPLIT_INDENTATION) + LINE_STEPS * (2 + line.group.count("\n"))
 
 
 def line_faults(counter, program, is_plain):
-    """The faults of runs of ufmt_lines on a log of all shapes, on each group by itself and on the short groups in turn, and how many groups
-    were counted."""
+    """The faults of runs of ufmt_lines on a log of all shapes, on each group by itself and on the short groups in turn, and how
+    many groups were counted."""
     arguments, name = [program] + ["--plain"] * is_plain, "ufmt_lines --plain" if is_plain else "ufmt_lines"
     log = list(lines(is_plain))
     data = "".join(line.group + "\n" for line in log).encode()
@@ -191,13 +193,13 @@ def one_line_faults(counter, arguments, name, line):
 
 
 def short_line_faults(counter, arguments, name, log):
-    """What is wrong with the steps of short groups. One run reads them one by one: the outputs of those that have ended are written before more
-    is read. To the steps of each are added those of the start."""
+    """What is wrong with the steps of short groups. One run reads them one by one: the outputs of those that have ended are
+    written before more is read. To the steps of each are added those of the start."""
     parts = [(line.group + "\n").encode() for line in log]
     start, *steps, _after = counter.steps(arguments, b"".join(parts), name + ", in turn", seconds=SECONDS, parts=list(map(len, parts)))
     if len(steps) != len(log):
         return [findings.case("the steps of short groups", len(log), len(steps))]
-    return [fault for line, taken in zip(log, steps) for fault in past_steps(line.name, line_steps(line) + START_STEPS, start + taken)]
+    return sum((past_steps(line.name, line_steps(line) + START_STEPS, start + taken) for line, taken in zip(log, steps)), [])
 
 
 def line_memory(line):

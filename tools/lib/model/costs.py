@@ -81,14 +81,15 @@ def samples(size, number):
     for name, document in part_of(shapes.debug_documents(), size, number):
         texts = plain(document), pretty(document)
         # A leaf has one text.
-        yield from (sample("%s, %s" % (name, mode), text, other=other) for mode, text, other in zip(MODES, dict.fromkeys(texts), texts[::-1]))
+        for mode, text, other in zip(MODES, dict.fromkeys(texts), texts[::-1]):
+            yield sample("%s, %s" % (name, mode), text, other=other)
     yield from (sample(name, text) for name, text in part_of(shapes.no_texts(), size, number))
 
 
 def requested():
     """Requests with huge options, and what is known of their calls: the length of the buffer and of the payload."""
-    return [Sample("the request %s" % (tuple(one),), one.data(), {"request": bounds.Case(Features(), SMALL + len(one.payload), 0)})
-            for one in asked.huge()]
+    cases = ((one, bounds.Case(Features(), SMALL + len(one.payload), 0)) for one in asked.huge())
+    return [Sample("the request %s" % (tuple(one),), one.data(), {"request": case}) for one, case in cases]
 
 
 def calls_of(line):
@@ -124,19 +125,20 @@ class Run:
         self.counts = counter.steps([program, "costs"], data, name, seconds=seconds) if is_counted else counts
 
     def calls(self):
-        """Each call: its text, its line, the half that it is in, its name, and its counts."""
-        counted = iter(self.counts)
-        return [(one, line, half, call, next(counted)) for one, line in zip(self.texts, self.lines) for half, call in calls_of(line)]
+        """Each call: its text, the half of the line that it is in, its name, and its counts."""
+        made = ((one, half, call) for one, line in zip(self.texts, self.lines) for half, call in calls_of(line))
+        return [(*each, counts) for each, counts in zip(made, self.counts)]
 
     def faults(self, fault):
         """The text of each call with which something is wrong, and what `fault` says of it."""
-        found = ((one, fault("%s of %s, %s" % (call, one.name, half), call, one.cases[half], counts)) for one, _line, half, call, counts in self.calls())
+        found = ((one, fault("%s of %s, %s" % (call, one.name, half), call, one.cases[half], counts))
+                 for one, half, call, counts in self.calls())
         return [(one, wrong) for one, wrong in found if wrong]
 
     def rows(self):
         """The steps of each text's calls, a row for each half of a line. What the marks around a call take isn't in them."""
         around, rows = min(self.counts), {}
-        for one, _line, half, call, steps in self.calls():
+        for one, half, call, steps in self.calls():
             rows.setdefault("%s: %s" % (one.name, half), []).append(("%s: steps" % call, steps - around))
         return rows
 

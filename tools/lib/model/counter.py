@@ -13,15 +13,16 @@ CALLGRIND = ("--tool=callgrind", "--combine-dumps=yes", "--zero-before=counts_be
 
 
 def programs_of(program):
-    """The built programs by their names: those that `rt ci` leaves, or a probe_model that is named, with those that the same compiler made."""
+    """The built programs by their names: those that `rt ci` leaves, or a probe_model that is named, with those that the same
+    compiler made."""
     program = pathlib.Path(program or TOP / "crates/probe_model/out/probe_model").resolve()
     found = {name: TOP / "crates" / name / "out" / program.name.replace("probe_model", name) for name in ("ufmt_conv", "ufmt_lines")}
     return dict(found, probe_model=program)
 
 
 class Counts(NamedTuple):
-    """What a call takes. `held` is what is held with its result, `most` what was held at once, and `left` how many blocks were never
-    freed, after the result was dropped."""
+    """What a call takes. `held` is what is held with its result, `most` what was held at once, and `left` how many blocks were
+    never freed, after the result was dropped."""
 
     allocations: int
     bytes: int
@@ -52,8 +53,8 @@ class Counter:
             subprocess.run(["cc", "-O2", "-shared", "-fPIC", "-o", self.library, HERE / "counter.c", "-ldl"], check=True)
 
     def run(self, arguments, data, name, seconds=None, refused=0):
-        """Runs a program, and returns its standard output and its counts: of the whole run, or of each call that it marks. Of each such
-        call, the allocation or growth of this number is refused, if it isn't 0."""
+        """Runs a program, and returns its standard output and its counts: of the whole run, or of each call that it marks. Of
+        each such call, the allocation or growth of this number is refused, if it isn't 0."""
         path = self.written(name, "counts")
         return self.ran(arguments, data, name, path, seconds, COUNTS_REFUSE=refused), counts_in(path)
 
@@ -90,7 +91,8 @@ class Counter:
         """Runs a program to its end, with the library before it, which is asked by these variables."""
         # A file is read in whole chunks, which a pipe isn't.
         given = self.written(name, "input", data)
-        room = {**os.environ, "LD_PRELOAD": str(self.library), "COUNTS": str(path), **{key: str(value) for key, value in asked.items()}}
+        asked = {key: str(value) for key, value in asked.items()}
+        room = dict(os.environ, LD_PRELOAD=str(self.library), COUNTS=str(path), **asked)
         with open(given, "rb") as device:
             ran = subprocess.run([str(argument) for argument in arguments], stdin=device, capture_output=True, env=room, timeout=seconds)
         given.unlink()

@@ -112,12 +112,12 @@ def pairs(*lists):
 
 def wanted():
     """The cells by their tables, without their modes."""
-    inner, only_debug = (0, *DEPTHS[:-1]), DEBUG_LEAVES + OPEN_STRUCTS
+    inner, only_debug, of_length = (0, *DEPTHS[:-1]), DEBUG_LEAVES + OPEN_STRUCTS, powers(131072, EXACT_LENGTH)
     yield "kind in a place", pairs(PLACES, POSITIONS, BLOCKS + LEAVES) + pairs(DEBUG_PLACES, POSITIONS, only_debug)
     yield "kind in a place", pairs(("field of an open struct",), POSITIONS, BLOCKS + LEAVES)
     yield "kind within kinds", pairs(PLACES, PLACES, BLOCKS + LEAVES)
     yield "kind by depth", pairs(inner, BLOCKS + LEAVES + only_debug) + pairs((255,), (*LEAVES, *DEBUG_LEAVES, "empty open struct"))
-    yield "length of a leaf", pairs(("word", "debug word"), powers(131072, EXACT_LENGTH)) + pairs(("text", "quotes"), powers(131072, EXACT_LENGTH)[2:])
+    yield "length of a leaf", pairs(("word", "debug word"), of_length) + pairs(("text", "quotes"), of_length[2:])
     yield "length of a name", pairs(("struct", "tuple", "field", *OPEN_STRUCTS), powers(4096, EXACT_LENGTH))
     yield "entries", pairs((*BLOCKS, "open struct"), powers(1024, EXACT_ENTRIES))
     yield "shape of a leaf", pairs(SHAPES)

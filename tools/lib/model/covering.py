@@ -1,6 +1,7 @@
-"""Documents that fill each cell of the table of coverage, and of what only debug texts have. What a cell leaves open is chosen at random."""
-from lib.model.coverage import (BLOCKS, DEBUG_LEAVES, DEBUG_PLACES, DEPTHS, EXACT_ENTRIES, EXACT_LENGTH, LEAVES, MANY, OPEN_STRUCTS, PLACE_IN,
-                                PLACES, powers)
+"""Documents that fill each cell of the table of coverage, and of what only debug texts have. What a cell leaves open is chosen at
+random."""
+from lib.model.coverage import (BLOCKS, DEBUG_LEAVES, DEBUG_PLACES, DEPTHS, EXACT_ENTRIES, EXACT_LENGTH, LEAVES, MANY,
+                                OPEN_STRUCTS, PLACE_IN, PLACES, powers)
 from lib.model.debug_leaves import ESCAPED, SHAPES
 from lib.model.document import DEEPEST, STRUCTS, Block, list_of, quoted, tuple_of
 

@@ -45,7 +45,9 @@ def is_shape(letters):
     if letters in ("w", "t", "c", "U") or any(letter in STARTS for letter in letters[1:]):
         return False
     pairs = [*zip(letters, letters[1:] + " ")]
-    return not any((a in "A" + LIFETIMES and b not in WORDS) or (a in WORDS and b in WORDS) or (b == COLONS and a in QUOTES + COLONS) for a, b in pairs)
+    if any(a in "A" + LIFETIMES and b not in WORDS for a, b in pairs):
+        return False
+    return not any((a in WORDS and b in WORDS) or (b == COLONS and a in QUOTES + COLONS) for a, b in pairs)
 
 
 # All shapes of up to three pieces.

@@ -11,8 +11,8 @@ INDENT = "    "
 class Block(NamedTuple):
     """A list, a set, a map, a struct, an open struct or a tuple. An open struct ends in two dots.
 
-    An entry is a pair: what is before the colon, and a document. Before the colon a map has a document, and a struct of either kind has a name.
-    The other kinds have None.
+    An entry is a pair: what is before the colon, and a document. Before the colon a map has a document, and a struct of either
+    kind has a name. The other kinds have None.
     """
 
     kind: str
@@ -30,8 +30,10 @@ def tuple_of(*values, name=""):
 
 # ---- The layout of blocks: what opens a block after its name, and what closes it.
 
-PLAIN_FRAMES = {"list": ("[", "]"), "set": ("{", "}"), "map": ("{", "}"), "struct": (" { ", " }"), "open struct": (" { ", ", .. }"), "tuple": ("(", ")")}
-PRETTY_FRAMES = {"list": ("[\n", "]"), "set": ("{\n", "}"), "map": ("{\n", "}"), "struct": (" {\n", "}"), "open struct": (" {\n", "}"), "tuple": ("(\n", ")")}
+PLAIN_FRAMES = {"list": ("[", "]"), "set": ("{", "}"), "map": ("{", "}"), "tuple": ("(", ")"),
+                "struct": (" { ", " }"), "open struct": (" { ", ", .. }")}
+PRETTY_FRAMES = {"list": ("[\n", "]"), "set": ("{\n", "}"), "map": ("{\n", "}"), "tuple": ("(\n", ")"),
+                 "struct": (" {\n", "}"), "open struct": (" {\n", "}")}
 # The kinds of blocks with a name before each value.
 STRUCTS = ("struct", "open struct")
 # What a block without entries has after its name.
@@ -44,7 +46,8 @@ def plain(document):
 
 
 def pretty(document, depth=0):
-    """The pretty text, in so many blocks. An entry begins on a line of its own, indented, and a comma comes after it, but none after dots."""
+    """The pretty text, in so many blocks. An entry begins on a line of its own, indented, and a comma comes after it, but none
+    after dots."""
     return "".join(converted(document, True, depth))
 
 

@@ -1,22 +1,25 @@
 """Which pieces a writer is passed, and by which call: the model's rules.
 
-A piece is noted as `t` if it should come by `write_str`, or as `c` if it should come by `write_char`; then its bytes, and a byte that no text has.
+A piece is noted as `t` if it should come by `write_str`, or as `c` if it should come by `write_char`; then its bytes, and a byte
+that no text has.
 
-A document is printed in these pieces: the bracket or the name with which a block begins, even if the name is empty; with the first entry ` {` in a
-struct and `(` in a tuple; before the first entry a line feed in pretty mode, and a space before the first field in plain mode; `, ` between
-entries in plain mode; four spaces for each level of indentation; a field's name; `: `; `,` and a line feed after an entry in pretty mode; before a
-closing bracket the space or the comma that plain mode has there; and the bracket. A leaf is one piece. Only a name or a leaf can be an empty
-piece. The dots that end a struct are `, ..` in plain mode, and in pretty mode `..` and a line feed, after the indentation of the fields. Without
-fields ` {`, the dots and the bracket are one piece.
+A document is printed in these pieces: the bracket or the name with which a block begins, even if the name is empty; with the
+first entry ` {` in a struct and `(` in a tuple; before the first entry a line feed in pretty mode, and a space before the first
+field in plain mode; `, ` between entries in plain mode; four spaces for each level of indentation; a field's name; `: `; `,` and
+a line feed after an entry in pretty mode; before a closing bracket the space or the comma that plain mode has there; and the
+bracket. A leaf is one piece. Only a name or a leaf can be an empty piece. The dots that end a struct are `, ..` in plain mode,
+and in pretty mode `..` and a line feed, after the indentation of the fields. Without fields ` {`, the dots and the bracket are
+one piece.
 
-A value with a text or a character in it has these pieces for it: a quote, each escape, each stretch without escapes, and a quote. A character
-without an escape comes by `write_char`. All else comes by `write_str`.
+A value with a text or a character in it has these pieces for it: a quote, each escape, each stretch without escapes, and a quote.
+A character without an escape comes by `write_char`. All else comes by `write_str`.
 
-A conversion writes each event of a scan in at most two pieces, which are not empty: a leaf; `[]` or `{}`; a block's name, and what opens the block,
-with the whole indentation of its first entry; a field's name, and `: `; `: ` after a key; what separates two entries, with the whole indentation
-of the second; and what closes a block, which in pretty mode is `,` with a line feed and the whole indentation, and then the bracket. Dots come
-after what separates two entries: in plain mode with the bracket, and in pretty mode with a line feed and the whole indentation, and then the
-bracket. Without fields it is the name, and ` {` with the dots and the bracket.
+A conversion writes each event of a scan in at most two pieces, which are not empty: a leaf; `[]` or `{}`; a block's name, and
+what opens the block, with the whole indentation of its first entry; a field's name, and `: `; `: ` after a key; what separates
+two entries, with the whole indentation of the second; and what closes a block, which in pretty mode is `,` with a line feed and
+the whole indentation, and then the bracket. Dots come after what separates two entries: in plain mode with the bracket, and in
+pretty mode with a line feed and the whole indentation, and then the bracket. Without fields it is the name, and ` {` with the
+dots and the bracket.
 """
 import functools
 import re
@@ -105,7 +108,8 @@ def printed_ending(document, is_pretty, depth):
 
 def of_text(document, is_pretty):
     """The pieces of a text that was read as this document in this mode."""
-    return "pieces printed %s, converted %s" % (digest(printed(document, is_pretty)), digest(by_text(*converted(document, not is_pretty))))
+    pieces = printed(document, is_pretty), by_text(*converted(document, not is_pretty))
+    return "pieces printed %s, converted %s" % tuple(map(digest, pieces))
 
 
 ZEROS = re.compile(r"(-?)(0*)([0-9]+)(?:(\.)(0*)([0-9]+))?")

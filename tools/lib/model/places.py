@@ -1,8 +1,8 @@
 """Where a text stops to be that of a value of a type, and what is expected there.
 
-A type is one of `values.py`. What comes before and after the entries of a block is here, by its mode. A text is taken from the front. It stops at
-the first piece that doesn't fit: a name, a number, a text or a character in quotes, or what is around entries. A set or a map whose keys don't
-ascend, and an array of another length, stops where it begins.
+A type is one of `values.py`. What comes before and after the entries of a block is here, by its mode. A text is taken from the
+front. It stops at the first piece that doesn't fit: a name, a number, a text or a character in quotes, or what is around entries.
+A set or a map whose keys don't ascend, and an array of another length, stops where it begins.
 """
 import re
 import string

@@ -76,7 +76,8 @@ def empty_at(text, at):
 
 
 class Reader:
-    """A reader of one mode and one class. `reached` is where the last piece of a text ended that fits it, of the text that was read last."""
+    """A reader of one mode and one class. `reached` is where the last piece of a text ended that fits it, of the text that was
+    read last."""
 
     def __init__(self, text_class=TOKEN):
         self.text_class = text_class
@@ -115,8 +116,8 @@ class Reader:
         without_fields = EMPTY["open struct"]
         if name and self.text_class.has_open_structs and text.startswith(without_fields, at):
             return Block("open struct", name, []), self.passed(at + len(without_fields))
-        kinds = (kind for kind in (("struct", "tuple") if name else ("list", "map", "tuple")) if text.startswith(self.frames[kind][0], at))
-        kind = next(kinds, None)
+        kinds = ("struct", "tuple") if name else ("list", "map", "tuple")
+        kind = next((kind for kind in kinds if text.startswith(self.frames[kind][0], at)), None)
         at += len(self.frames[kind][0]) if kind else 0
         opened = self.before_entry(text, at, depth, True) if kind else None
         if opened is None:
@@ -138,7 +139,8 @@ class Reader:
 
     def ends_in_dots(self, text, at, depth, kind):
         """Whether dots and the end of a struct come here, after a field. A field's name may be two dots, too."""
-        return kind == "struct" and self.text_class.has_open_structs and text.startswith(self.closing(Block("open struct", "", []), depth), at)
+        may = kind == "struct" and self.text_class.has_open_structs
+        return may and text.startswith(self.closing(Block("open struct", "", []), depth), at)
 
     def name_at(self, text, at):
         found = self.text_class.leaf_at(text, at)
@@ -206,7 +208,8 @@ class PrettyReader(Reader):
 
 MODES = ("plain", "pretty")
 # A reader of each class of texts, by its mode and the name of the class, and what prints its documents in the other mode.
-READERS = {(mode, text_class.name): maker(text_class) for mode, maker in zip(MODES, (PlainReader, PrettyReader)) for text_class in (TOKEN, DEBUG)}
+READERS = {(mode, text_class.name): maker(text_class)
+           for mode, maker in zip(MODES, (PlainReader, PrettyReader)) for text_class in (TOKEN, DEBUG)}
 PRINTERS = {"plain": pretty, "pretty": plain}
 
 

@@ -110,9 +110,9 @@ def plain_line(request, text):
     length = hexadecimal(request, len(text.encode()), 64)
     leaf, whole = quoted(text), by_text(text)
     pair = tuple_of(leaf, "()")
-    columns = [(text, whole), (leaf, of_value(leaf)), (pretty(pair), printed(pair, True, of_value)), length, ("!", by_character("!"))]
-    out = [whole * 2, of_value(leaf), printed(pair, True, of_value), length[1], *(in_column(request, *each) for each in columns)]
-    return b"".join(out)
+    pieces = printed(pair, True, of_value)
+    columns = [(text, whole), (leaf, of_value(leaf)), (pretty(pair), pieces), length, ("!", by_character("!"))]
+    return b"".join([whole * 2, of_value(leaf), pieces, length[1], *(in_column(request, *each) for each in columns)])
 
 
 def line_of_each(request, text):
@@ -174,9 +174,10 @@ def numbers(request, text):
             pieces += b"".join(hexadecimal(request, number, bits, letter)[1] for letter in "xbo")
             out.append((pieces + with_zeros(format(number, "0%dd" % request.pad_length))) * count)
 
-    unsigned, signed = [(0, 2**bits - 1, bits) for bits in BITS], [(-(2 ** (bits - 1)), 2 ** (bits - 1) - 1, bits) for bits in BITS]
-    for kind in unsigned + signed:
-        add(*kind, 2 if number else 1)
+    for bits in BITS:
+        add(0, 2**bits - 1, bits, 2 if number else 1)
+    for bits in BITS:
+        add(-(2 ** (bits - 1)), 2 ** (bits - 1) - 1, bits, 2 if number else 1)
     add(0, 2**32 - 1, 32, 1)
     add(-(2**63), 2**63 - 1, 64, 1)
     if -(2**63) <= number <= 2**63 - 1:
@@ -196,8 +197,9 @@ def in_both_modes(document):
 
 
 # Documents of small types and of collections of a leaf `x`.
-SMALL_TYPES = ("[Some(x), None]", "[Ok(x), Err('c')]", "Reverse(x)", "[Less, Equal, Greater]", "[Included(x), Excluded(x), Unbounded]",
-               "Break(x)", "Continue(x)", "Cell { value: x }", "RefCell { value: <borrowed> }")
+SMALL_TYPES = ("[Some(x), None]", "[Ok(x), Err('c')]", "Reverse(x)", "[Less, Equal, Greater]",
+               "[Included(x), Excluded(x), Unbounded]", "Break(x)", "Continue(x)", "Cell { value: x }",
+               "RefCell { value: <borrowed> }")
 COLLECTIONS = (*["[x, x, x]"] * 5, "{}", "{x}", "{x}", "{}", "{x: 7}", "{x: 7}")
 
 
@@ -272,5 +274,6 @@ def verdict(data):
         text = request.payload.decode()
     except UnicodeDecodeError:
         return line
-    said = {"lines": lines(request, text), "names": names(text), "numbers": numbers(request, text), "values": values(text), "nested": nested(request, text)}
+    said = {"lines": lines(request, text), "names": names(text), "numbers": numbers(request, text), "values": values(text),
+            "nested": nested(request, text)}
     return ", ".join([line, *("%s %s" % (name, digest(pieces)) for name, pieces in said.items())])

@@ -7,8 +7,8 @@ from lib.model.reading import document_of
 
 PLACES = ("list", "set", "key", "value", "struct", "tuple", "unnamed")
 # The kind and the name of the block of a place, and what is before the value.
-BLOCKS = {"key": ("map", "", None), "value": ("map", "", "k"), "struct": ("struct", "S", "f"), "open struct": ("open struct", "S", "f"),
-          "tuple": ("tuple", "N", None), "unnamed": ("tuple", "", None)}
+BLOCKS = {"key": ("map", "", None), "value": ("map", "", "k"), "tuple": ("tuple", "N", None), "unnamed": ("tuple", "", None),
+          "struct": ("struct", "S", "f"), "open struct": ("open struct", "S", "f")}
 TREE, ONLY_DOTS = document_of("Tree { size: 1, children: [] }"), document_of("S { .. }")
 # Leaves and rows of pieces, by their names.
 TABLES = {part: {name: [text.decode() for text in texts] for name, texts in rows.items()}

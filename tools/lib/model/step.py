@@ -32,6 +32,7 @@ CONVERTED_EACH = 40
 COMMANDS = ("lengths", "pretty", "plain")
 # So many random texts there are. From BULK on the run takes minutes, and has all texts that there are.
 COUNT, BULK = 1000, 3000
+TOLD = "Of `x try texts`: steps of each call, in the order of its line"
 
 
 def shown(data):
@@ -98,9 +99,11 @@ def cost_jobs(pool, programs, meter):
     if meter.library is None:
         return jobs
     for is_counted in (True, False) if meter.valgrind else (False,):
-        jobs += [pool.submit(costs.part_faults, meter, programs["probe_model"], number, is_counted) for number in range(costs.PARTS)]
-        jobs.append(pool.submit(costs.request_faults, meter, programs["probe_model"], is_counted))
-    jobs += [pool.submit(commands.conv_faults, meter, programs["ufmt_conv"]), pool.submit(commands.short_read_faults, meter, programs)]
+        probed = meter, programs["probe_model"]
+        jobs += [pool.submit(costs.part_faults, *probed, number, is_counted) for number in range(costs.PARTS)]
+        jobs.append(pool.submit(costs.request_faults, *probed, is_counted))
+    jobs.append(pool.submit(commands.conv_faults, meter, programs["ufmt_conv"]))
+    jobs.append(pool.submit(commands.short_read_faults, meter, programs))
     return jobs + [pool.submit(commands.line_faults, meter, programs["ufmt_lines"], is_plain) for is_plain in (False, True)]
 
 
@@ -111,7 +114,7 @@ def measured_again(is_written):
     with tempfile.TemporaryDirectory() as room:
         meter = counter.Counter(pathlib.Path(room))
         rows = {**costs.measured_rows(meter, programs["probe_model"]), **commands.read_steps(meter, programs)}
-    return measures.measured_again(costs.MEASURED, rows, "Of `x try texts`: steps of each call, in the order of its line", is_written)
+    return measures.measured_again(costs.MEASURED, rows, TOLD, is_written)
 
 
 def result_of(job):
@@ -124,8 +127,9 @@ def result_of(job):
 
 def counted(meter, number):
     """A message with what was counted."""
-    of_memory = ", of memory and steps" if meter.valgrind else ", of memory; no steps, for want of valgrind"
-    return "%d costs counted%s" % (number, ": none of memory and steps, for want of a C compiler" if meter.library is None else of_memory)
+    if meter.library is None:
+        return "%d costs counted: none of memory and steps, for want of a C compiler" % number
+    return "%d costs counted, of memory%s" % (number, " and steps" if meter.valgrind else "; no steps, for want of valgrind")
 
 
 def main(given):

@@ -19,9 +19,9 @@ def integers():
         yield from {"NonZeroU" + name: Number(1, 2 * high - 1, False), "NonZeroI" + name: Number(low, high - 1, False)}.items()
 
 
-PLAIN = {**dict(integers()), "f32": Float(32), "f64": Float(64), "Decimal": Decimal(), "bool": word("false", "true"), "char": Quoted("'"),
-         "String": Quoted('"'), "()": word("()"), "Ordering": Choice(("Less", "Equal", "Greater")), "RangeFull": word(".."),
-         "Tree": values.TREE, "Node": values.NODE}
+PLAIN = {**dict(integers()), "f32": Float(32), "f64": Float(64), "Decimal": Decimal(), "bool": word("false", "true"),
+         "char": Quoted("'"), "String": Quoted('"'), "()": word("()"), "Ordering": Choice(("Less", "Equal", "Greater")),
+         "RangeFull": word(".."), "Tree": values.TREE, "Node": values.NODE}
 BYTE, CHARACTER, TEXT = PLAIN["u8"], PLAIN["char"], PLAIN["String"]
 PLAIN["Set"] = Fields("struct", "Set", [("channel", BYTE), ("level", PLAIN["i16"])])
 # What each makes of its parameters.
@@ -64,7 +64,8 @@ NAMES = "abcdefghijkl"
 
 # Each struct, tuple and variant of a user's types, and how its fields are printed: of its first, its last, all but that, or all in a row.
 # The first ones have so many numbers and characters in turn.
-SHAPES = [(Fields(kind, name, list(zip(names, [BYTE, CHARACTER] * 6))[:count]), kind[0] + ("{first};" if count == 1 else "({row});"))
+MIXED = [BYTE, CHARACTER] * 6
+SHAPES = [(Fields(kind, name, list(zip(names, MIXED))[:count]), kind[0] + ("{first};" if count == 1 else "({row});"))
           for kind, name, names in (("struct", "S", NAMES), ("tuple", "T", [None] * 12)) for count in (1, 2, 3, 12)]
 SHAPES += [
     (Fields("struct", "Twelve", list(zip(NAMES, [BYTE] * 11 + [TEXT]))), "w(({others}), {last});"),
@@ -112,7 +113,8 @@ def first_documents(random):
         yield from (str(number) for number in (low - 1, low, high, high + 1))
     yield from map(document_of, TEXTS)
     yield from (document_of(form % (name, value)) for name in NAMED for value in SINGLE for form in ("%s(%s)", "%s { value: %s }"))
-    yield from (document_of(text) for keys in KEYS for text in ("{%s}" % keys, "[%s]" % keys, "{%s: None}" % keys.replace(",", ": None,")))
+    for keys in KEYS:
+        yield from map(document_of, ("{%s}" % keys, "[%s]" % keys, "{%s: None}" % keys.replace(",", ": None,")))
 
 
 def surely(kind, random):

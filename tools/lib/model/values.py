@@ -51,10 +51,9 @@ class Number:
         return max(self.low, min(self.high, random.randrange(size, 10 * size)))
 
 
-def spelled(pattern, is_number, texts, at):
-    """Where a number with these bytes ends."""
-    text = pattern.match(texts.data, at)[0].decode()
-    if not is_number(text):
+def spelled(text, is_number, at):
+    """Where a number with this text ends, if it is one."""
+    if not is_number:
         raise Stop(at, "Number")
     return at + len(text)
 
@@ -64,7 +63,8 @@ class Float:
         self.width = width
 
     def taken(self, texts, at, _blocks):
-        return spelled(FLOAT_BYTES, lambda text: 0 < len(text) <= LONGEST_FLOAT and floats.reads(text, self.width) is not None, texts, at)
+        text = FLOAT_BYTES.match(texts.data, at)[0].decode()
+        return spelled(text, 0 < len(text) <= LONGEST_FLOAT and floats.reads(text, self.width) is not None, at)
 
     def made(self, random):
         """A float of the type, or what is nearly one."""
@@ -90,7 +90,8 @@ class Decimal:
     """A signed number of 64 bits, with a point before its last digits, if there is one."""
 
     def taken(self, texts, at, _blocks):
-        return spelled(DECIMAL_BYTES, is_decimal, texts, at)
+        text = DECIMAL_BYTES.match(texts.data, at)[0].decode()
+        return spelled(text, is_decimal(text), at)
 
     def made(self, random):
         """A number of the type, or one past its bounds, or what is nearly a number."""
@@ -131,8 +132,8 @@ class Quoted:
 
 
 class Choice:
-    """One of some leaves, or of some tuples with a value: `Less`, `None`, `Some(x)`, `Ok(x)`, `()`. Those that are listed are found by their
-    letters alone, and others if the name is over there."""
+    """One of some leaves, or of some tuples with a value: `Less`, `None`, `Some(x)`, `Ok(x)`, `()`. Those that are listed are
+    found by their letters alone, and others if the name is over there."""
 
     def __init__(self, leaves, by_letters=(), **variants):
         self.leaves, self.by_letters, self.variants = leaves, by_letters, variants
@@ -141,7 +142,8 @@ class Choice:
     def taken(self, texts, at, blocks):
         for name, data in zip(self.names, map(str.encode, self.names)):
             if texts.data.startswith(data, at) if name in self.by_letters else texts.is_named(data, at):
-                return at + len(data) if name in self.leaves else texts.fields(Fields("tuple", name, [(None, self.variants[name])]), at, blocks)
+                fields = Fields("tuple", name, [(None, self.variants.get(name))])
+                return at + len(data) if name in self.leaves else fields.taken(texts, at, blocks)
         raise Stop(at, "Name" if self.names[0].isalpha() else "Punctuation")
 
     def order(self, document):
@@ -260,12 +262,14 @@ SIZE = Number(0, 2**64 - 1)
 
 def made_tree(random):
     size = SIZE.made(random)
-    return Block("struct", "Tree", [("size", size), ("children", list_of(*(made_tree(random) for _ in range(random.choice((0, 0, 0, 1, 2))))))])
+    children = list_of(*(made_tree(random) for _ in range(random.choice((0, 0, 0, 1, 2)))))
+    return Block("struct", "Tree", [("size", size), ("children", children)])
 
 
 def made_node(random):
     value = SIZE.made(random)
-    return Block("struct", "Node", [("value", value), ("next", "None" if random.random() < 0.5 else tuple_of(made_node(random), name="Some"))])
+    following = "None" if random.random() < 0.5 else tuple_of(made_node(random), name="Some")
+    return Block("struct", "Node", [("value", value), ("next", following)])
 
 
 TREE, NODE = Named(made_tree), Named(made_node)

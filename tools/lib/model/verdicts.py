@@ -39,7 +39,8 @@ def of_classes(text, document, debug_document, is_pretty):
             debug = reading(debug_document, is_pretty, False)
         return "%s; debug: %s" % (token, "=" if debug == token else debug)
     debug = "=" if debug_document == document else "the model reads another document"
-    return "%s, in a list %s; debug: %s" % (reading(document, is_pretty, True), "yes" if depth_of(document) < DEEPEST else "no", debug)
+    in_a_list = "yes" if depth_of(document) < DEEPEST else "no"
+    return "%s, in a list %s; debug: %s" % (reading(document, is_pretty, True), in_a_list, debug)
 
 
 def half(text, document, debug_document, is_pretty, judged=None):

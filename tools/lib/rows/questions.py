@@ -83,9 +83,9 @@ def shown(words, cells):
 
 def kind(_words, cells):
     """Whether a text is a leaf and a name, in each class."""
-    found = ["%s %s" % (text_class.name, what) for text_class in (TOKEN, DEBUG) for what, holds in zip(("leaf", "name"), kinds(text_class, cells[0]))
-             if holds == "yes"]
-    yield cells[0], cells[1], ", ".join(found) or "nothing"
+    found = [("%s %s" % (text_class.name, what), holds) for text_class in (TOKEN, DEBUG)
+             for what, holds in zip(("leaf", "name"), kinds(text_class, cells[0]))]
+    yield cells[0], cells[1], ", ".join(what for what, holds in found if holds == "yes") or "nothing"
 
 
 def in_quotes(quote):
