@@ -1,8 +1,8 @@
 """Refuses each allocation of probe_memory, which makes each call of the library.
 
-Its input says how many allocations it makes before the calls. In each run the allocation of one fixed number is refused. With fewer
-before the calls, that is a later one of the calls. After the calls the program makes one more allocation. When that is refused, each
-allocation of the calls has been refused.
+Its input says how many allocations it makes before the calls. In each run the allocation of one fixed number is refused. With
+fewer before the calls, that is a later one of the calls. After the calls the program makes one more allocation. When that is
+refused, each allocation of the calls has been refused.
 
 A run refuses one allocation, and the line of one call says so. The number of runs in which a call's line says so must be the
 number of allocations in that line. Before a call without allocations the program makes one of its own, which counts for that
@@ -10,13 +10,14 @@ line. If no line of a run says so, a call made the allocation in secret, and the
 
 First there is a run with ample memory. It makes as many allocations as its lines say, so none of the C library's is counted.
 """
+import itertools
 import re
 from concurrent.futures import ThreadPoolExecutor
 
 from lib import needs
 from lib.alloc_failures import tried
 from lib.model.pieces import END, printed
-from lib.model.reading import document_of
+from lib.model.reading import MODES, document_of
 from lib.top import TOP
 
 # The allocation that is refused in each run. The calls make fewer.
@@ -29,7 +30,7 @@ LEFT = re.compile(r'is_pretty=false depth=0 text="(.*)"$')
 NODE = document_of("Node { value: 1, next: Some(Node { value: 0, next: None }) }")
 # The pieces of the node's text, in the order in which they are passed to a writer. A line feed is \\n, as it is printed.
 PIECES = {mode: [piece[1:].decode().replace("\n", "\\n") for piece in printed(NODE, mode == "pretty").split(END)[:-1]]
-          for mode in ("plain", "pretty")}
+          for mode in MODES}
 
 
 class Calls:
@@ -37,15 +38,14 @@ class Calls:
 
     def __init__(self, ample):
         self.ample = ample.splitlines()
-        self.faults = []
-        self.runs = self.refusals = self.secret = 0
+        # How many allocations each line says. The program's own one before a call without any isn't among them.
+        self.said = [int(AMPLE.search(line)[1]) for line in self.ample]
+        self.faults, self.runs, self.refusals, self.secret = [], 0, 0, 0
         # In how many runs each line says that memory was refused, and the last line that said so.
-        self.refused = [0] * len(self.ample)
-        self.last = None
-        # How many allocations the calls made.
-        self.made = None
-        # The text that was last left in each mode. Each later refusal leaves a longer one.
-        self.left = {}
+        self.refused, self.last = [0] * len(self.ample), None
+        # How many allocations the calls made, and the text that was last left in each mode. Each later refusal leaves a longer
+        # one.
+        self.made, self.left = None, {}
 
     def name(self, index):
         return "the run before any call" if index is None else AMPLE.sub("", self.ample[index])
@@ -56,8 +56,8 @@ class Calls:
         if not found:
             self.faults.append("a refused fmt, %s, left %s" % (mode, left))
             return
-        text = found.group(1)
-        if text not in ["".join(PIECES[mode][:count]) for count in range(len(PIECES[mode]) + 1)]:
+        text = found[1]
+        if text not in ["", *itertools.accumulate(PIECES[mode])]:
             self.faults.append("a refused fmt, %s, left a text that ends within a piece: %s" % (mode, text))
         if mode in self.left and len(text) <= len(self.left[mode]):
             self.faults.append("a later refusal of fmt, %s, left no longer text: %s" % (mode, text))
@@ -67,15 +67,11 @@ class Calls:
         """Judges a line that differs from the one with ample memory, and returns whether it says that memory was refused."""
         prefix = AMPLE.sub(r": want of memory, \1 allocations", self.ample[index])
         if line.startswith(prefix + "; "):
-            self.judge_left(re.match(r"fmt of a node, ([a-z]*): ", line).group(1), line.split("; ", 1)[1])
+            self.judge_left(re.match(r"fmt of a node, ([a-z]*): ", line)[1], line.split("; ", 1)[1])
         elif line != prefix:
             self.faults.append("%s, where ample memory has %s" % (line, self.ample[index]))
             return False
         return True
-
-    def said(self, index):
-        """How many allocations a line says. The program's own one before a call without any isn't among them."""
-        return int(AMPLE.search(self.ample[index]).group(1))
 
     def judge_end(self, number, ended):
         """Judges how a run ended, whatever it printed."""
@@ -86,16 +82,15 @@ class Calls:
     def judge_ample(self, ended):
         """Judges the run with ample memory and no allocation before the calls."""
         wrong = tried.end_fault(ended, [0])
-        said = [self.said(index) or 1 for index in range(len(self.ample))]
+        said = sum(count or 1 for count in self.said)
         if wrong or ended.output.decode(errors="replace").splitlines() != self.ample:
             self.faults.append("probe_memory with ample memory: %s" % (wrong or "another output than the file stdout has"))
-        elif tried.asked(ended.counts) != sum(said):
-            self.faults.append("probe_memory makes %d allocations, and its lines say %d" % (tried.asked(ended.counts), sum(said)))
+        elif tried.asked(ended.counts) != said:
+            self.faults.append("probe_memory makes %d allocations, and its lines say %d" % (tried.asked(ended.counts), said))
 
     def judge_run(self, output):
         """Judges what a run printed: only the refused call's line differs from those with ample memory."""
-        lines = output.decode(errors="replace").splitlines()
-        met = 0
+        lines, met = output.decode(errors="replace").splitlines(), 0
         self.runs += 1
         if len(lines) != len(self.ample):
             self.faults.append("a run wrote another number of lines: %s" % lines[:1])
@@ -105,8 +100,8 @@ class Calls:
             met += self.meets(index, line)
             self.refused[index] += 1
             if self.secret:
-                self.faults.append("no line says that one of %d allocations was refused, which were made after the last one of '%s' and before the first one of '%s'" % (
-                    self.secret, self.name(self.last), self.name(index)))
+                self.faults.append("no line says that one of %d allocations was refused, which were made after the last one of '%s' "
+                                   "and before the first one of '%s'" % (self.secret, self.name(self.last), self.name(index)))
                 self.secret = 0
             self.last = index
         self.refusals += met
@@ -116,8 +111,7 @@ class Calls:
 
     def judge_counts(self, end):
         """Compares the number in each line before this one with the runs in which it said that memory was refused."""
-        for index in range(end):
-            said = self.said(index)
+        for index, said in enumerate(self.said[:end]):
             count = self.refused[index] - (said == 0)  # Without allocations, the program's own one.
             if said != count:
                 self.faults.append("%s: %d allocations, and its line says %d" % (self.name(index), count, said))
@@ -134,8 +128,7 @@ class Calls:
                 self.faults.append("the runs of probe_memory after number %d are not judged" % number)
                 return
             if self.last == len(self.ample) - 1:
-                self.refusals -= 1
-                self.made = number - 1
+                self.refusals, self.made = self.refusals - 1, number - 1
                 self.judge_counts(len(self.ample))
                 return
         self.faults.append("no run refused the allocation after the calls: they make more than %d. The last that a line shows is of '%s'" % (REFUSED, self.name(self.last)))
@@ -143,8 +136,8 @@ class Calls:
 
 
 def tried_calls(counter):
-    """Runs the program once for each number, that of the refused allocation of the calls. The run of number 0 refuses the last one
-    before them."""
+    """Runs the program once for each number, that of the refused allocation of the calls. Number 0 refuses the last one before
+    them."""
     program = needs.built("probe_memory")
     calls = Calls((TOP / "crates" / "probe_memory" / "stdout").read_text())
 

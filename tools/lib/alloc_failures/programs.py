@@ -20,8 +20,8 @@ OUT_OF_MEMORY = 5
 
 
 class Case(NamedTuple):
-    """The arguments, the input, and with ample memory the status, the output and what is on standard error. The number of allocations
-    that a run can't do without."""
+    """The arguments, the input, and with ample memory the status, the output and what is on standard error. The number of
+    allocations that a run can't do without."""
 
     arguments: Tuple[str, ...]
     text: bytes
@@ -58,14 +58,10 @@ class Program:
     """What the runs of a program showed so far."""
 
     def __init__(self, name, cases):
-        self.name = name
-        self.cases = cases
-        self.faults = []
+        self.name, self.cases, self.faults = name, cases, []
         self.runs = self.refusals = self.quiet = 0
-        # The number that is refused next.
-        self.next = 1
-        # How many runs of each case ended with want of memory.
-        self.wanted = [0] * len(cases)
+        # The number that is refused next, and how many runs of each case ended with want of memory.
+        self.next, self.wanted = 1, [0] * len(cases)
 
     def fault(self, case, what):
         self.faults.append("%s %s of %s: %s" % (self.name, " ".join(case.arguments), case.text[:20], what))
@@ -114,9 +110,11 @@ def tried_program(counter, name, cases):
     program = Program(name, cases)
     with ThreadPoolExecutor(tried.SIDE_BY_SIDE) as pool:
 
+        def run(number, at, case):
+            return counter.run_refused([path, *case.arguments], case.text, "%s-%d" % (name, at), number, tried.SECONDS)
+
         def runs(number):
-            return pool.map(lambda it: counter.run_refused([path, *it[1].arguments], it[1].text, "%s-%d" % (name, it[0]), number, tried.SECONDS),
-                            enumerate(cases))
+            return pool.map(run, [number] * len(cases), range(len(cases)), cases)
 
         while program.quiet < QUIET and program.next <= LAST:
             program.judge(runs(program.next))

@@ -23,4 +23,3 @@ def main(_given):
                  "the calls of probe_memory made %s allocations, after which the next was refused; %s; %d runs, %d refusals met" % (
                      "?" if made.made is None else made.made, "; ".join(program.said() for program in tried_programs),
                      sum(each.runs for each in found), sum(each.refusals for each in found)))
-

@@ -34,6 +34,4 @@ def end_fault(ended, statuses):
         return "it doesn't end"
     if ended.status not in statuses or ended.counts is None:
         return "it ended with status %d: %s" % (ended.status, ended.error[:80])
-    if ended.counts.left:
-        return "%d blocks are never freed" % ended.counts.left
-    return None
+    return "%d blocks are never freed" % ended.counts.left if ended.counts.left else None

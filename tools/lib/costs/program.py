@@ -14,7 +14,7 @@ SIZES = (100, 200)
 LABELS = ("steps", "allocations", "bytes", "growths", "held", "most", "left")
 SECONDS = 600
 # A call in a line of the output: its name, and whether it returned a value.
-CALL = re.compile(r"(.*?) (?:yes|no), ")
+CALL = re.compile(r"(.*?) (yes|no), ")
 
 
 def source():
@@ -37,11 +37,9 @@ def lines():
     """What is asked of the program: a name, and a line of its input with the bytes that follow. The first is made once before: what a
     program does when it first calls a function of the C library isn't counted."""
     yield "", b"print 10\n"
-    for size in SIZES:
-        yield "%d" % size, b"print %d\n" % size
+    yield from (("%d" % size, b"print %d\n" % size) for size in SIZES)
     for one in types.types():
-        texts = dict.fromkeys(text for size in SIZES for text in one.texts(size))
-        for number, text in enumerate(texts):
+        for number, text in enumerate(dict.fromkeys(text for size in SIZES for text in one.texts(size))):
             data = text.encode("utf-8", "surrogateescape")
             yield "%s, text %d" % (one.type, number), b"parse %d %s\n%s" % (len(data), one.type.encode(), data)
 
@@ -51,16 +49,14 @@ def counted(counter, program):
     asked = list(lines())
     data = b"".join(line for _, line in asked)
     output, counts = counter.run([program], data, "costs", seconds=SECONDS)
-    steps = counter.steps([program], data, "costs", seconds=SECONDS) if counter.valgrind else None
-    answers = output.decode().splitlines()
-    made = [(name, call) for (name, _), line in zip(asked, answers) for call in CALL.findall(line)]
-    if len(answers) != len(asked) or len(counts) < len(made) or (steps and len(steps) < len(made)):
-        return {}, ["%d answers to %d lines, %d counts of %d calls" % (len(answers), len(asked), len(counts), len(made))]
-    found = {}
-    around = min(steps or [0])
-    for at, (name, call) in enumerate(made):
-        memory = [getattr(counts[at], label) for label in LABELS[1:]]
-        found["%s: %s" % (name, call)] = list(zip(LABELS, [steps[at] - around if steps else 0, *memory]))
+    lines_of_output = output.decode().splitlines()
+    made = ["%s: %s" % (name, call) for (name, _), line in zip(asked, lines_of_output) for call, _ in CALL.findall(line)]
+    steps = counter.steps([program], data, "costs", seconds=SECONDS) if counter.valgrind else [0] * len(made)
+    if len(lines_of_output) != len(asked) or len(counts) < len(made) or len(steps) < len(made):
+        return {}, ["%d answers to %d lines, %d counts of %d calls" % (len(lines_of_output), len(asked), len(counts), len(made))]
+    around = min(steps, default=0)
+    of_memory = ([getattr(each, label) for label in LABELS[1:]] for each in counts)
+    found = {call: list(zip(LABELS, [taken - around, *memory])) for call, taken, memory in zip(made, steps, of_memory)}
     twice = [] if len(found) == len(made) else ["two calls have one name"]
     return {name: row for name, row in found.items() if not name.startswith(":")}, twice
 
@@ -82,7 +78,8 @@ def refused(counter, program):
         for (call, is_value), (_, was_value), most, it in zip(made, ample, needed, left):
             found += number <= most
             if is_value != (was_value and number > most) or it.left:
-                faults.append("%s, allocation %d of %d refused: wanted no value and no block, got %s and %d blocks" % (call, number, most, "a value" if is_value else "none", it.left))
+                faults.append("%s, allocation %d of %d refused: wanted no value and no block, got %s and %d blocks" % (
+                    call, number, most, "a value" if is_value else "none", it.left))
     return found, faults
 
 
@@ -90,6 +87,6 @@ def answers(counter, program, asked, data, number):
     """Each call, with whether it returned a value, where the allocation of this number is refused; and its counts."""
     output, counts = counter.run([program], data, "refused", seconds=SECONDS, refused=number)
     calls = [("%s: %s" % (name, call), answer == "yes")
-             for (name, _), line in zip(asked, output.decode().splitlines()) for call, answer in re.findall(r"(.*?) (yes|no), ", line)]
+             for (name, _), line in zip(asked, output.decode().splitlines()) for call, answer in CALL.findall(line)]
     # The last line is of what comes after all calls.
     return (calls, counts[:-1]) if len(calls) == len(counts) - 1 else ([], [])

@@ -30,24 +30,22 @@ def quoted(size):
     return texts + ['"%s%s%s"' % (escape, "é" * size, end) for escape in ("", "\\n") for end in ("", "\udcff")]
 
 
-def wide(begin, item, end, pretty_item=None):
+def wide(begin, item, end, size, pretty_item=None):
     """A list or set of so many items; one without its end, and one with a wrong item at its end; and the pretty text."""
-    def texts(size):
-        items, pretty_items = ([made(number) for number in range(size)] for made in (item, pretty_item or item))
-        whole = begin + ", ".join(items)
-        return [whole + end, whole, whole + ", ?" + end, begin + "\n" + "".join("    %s,\n" % it for it in pretty_items) + end]
-    return texts
+    whole = begin + ", ".join(map(item, range(size)))
+    lines = ("    %s,\n" % it for it in map(pretty_item or item, range(size)))
+    return [whole + end, whole, whole + ", ?" + end, begin + "\n" + "".join(lines) + end]
 
 
 def listed(item):
-    return wide("[", item, "]")
+    return lambda size: wide("[", item, "]", size)
 
 
 def sorted_keys(item, pretty_item=None):
     """The same in order, with the last key before the others, with it twice, and in the other order."""
     def texts(size):
         others = ([*range(1, size), 0], [*range(size), size - 1], range(size - 1, -1, -1))
-        return wide("{", item, "}", pretty_item)(size) + ["{%s}" % ", ".join(map(item, numbers)) for numbers in others]
+        return wide("{", item, "}", size, pretty_item) + ["{%s}" % ", ".join(map(item, numbers)) for numbers in others]
     return texts
 
 
@@ -55,8 +53,7 @@ def number(value):
     return "%d" % (100 + value % 100)
 
 
-def short_text(value):
-    return '"%d"' % value
+short_text = '"{}"'.format
 
 
 def array(size, item):
@@ -97,9 +94,8 @@ BY_SIZE = {
 def tuple_of(count):
     """A tuple, one with a field more, and one whose last field is wrong."""
     fields = ["255", "true"] * count
-    end = ",)" if count == 1 else ")"
     longer, wrong = fields[: count + 1], [*fields[: count - 1], "?"]
-    texts = plainly("(%s%s" % (", ".join(fields[:count]), end), "(%s)" % ", ".join(longer), "(%s)" % ", ".join(wrong))
+    texts = plainly(in_parentheses(fields[:count]), "(%s)" % ", ".join(longer), "(%s)" % ", ".join(wrong))
     return Parsed(in_parentheses("ABCDEFGHIJKL"[:count]), in_parentheses((["u8", "bool"] * count)[:count]), texts)
 
 
@@ -109,10 +105,9 @@ def in_parentheses(names):
 
 def types():
     """Each type once."""
-    for implementation, name, *texts in (row.split(" => ") for row in TABLES["small"]):
-        yield Parsed(implementation, name, plainly(*map(data.text_of, texts)))
-    for implementation, name, texts in (row.split(" => ") for row in TABLES["by size"]):
-        yield Parsed(implementation, name, BY_SIZE[texts])
+    small, by_size = ([row.split(" => ") for row in TABLES[part]] for part in ("small", "by size"))
+    yield from (Parsed(implementation, name, plainly(*map(data.text_of, texts))) for implementation, name, *texts in small)
+    yield from (Parsed(implementation, name, BY_SIZE[texts]) for implementation, name, texts in by_size)
     yield from (Parsed("[T; N]", "[u16; %d]" % size, array(size, number)) for size in (1, 3, 16))
     yield Parsed("[T; N]", "[String; 4]", array(4, short_text))
     yield from map(tuple_of, range(1, 13))
@@ -120,11 +115,8 @@ def types():
 
 def implementations():
     """Those of ufmt_parse."""
-    found = set()
-    for path in sorted((TOP / "crates" / "ufmt_parse" / "src").rglob("*.rt")):
-        text = re.sub(r"(?m)^ *//.*$", "", path.read_text())
-        found |= {re.sub(r"\s+", " ", name) for name in IMPLEMENTATION.findall(text)}
-    return found
+    texts = (re.sub(r"(?m)^ *//.*$", "", path.read_text()) for path in (TOP / "crates" / "ufmt_parse" / "src").rglob("*.rt"))
+    return {re.sub(r"\s+", " ", name) for text in texts for name in IMPLEMENTATION.findall(text)}
 
 
 def missing():
@@ -132,5 +124,5 @@ def missing():
     found = implementations()
     if len(found) < 60:
         yield "only %d implementations of uParse are found" % len(found)
-    for name in sorted(found - {one.implementation for one in types()}):
-        yield "no type of tools/data/costs/types.txt is for uParse of %s" % name
+    left = sorted(found - {one.implementation for one in types()})
+    yield from ("no type of tools/data/costs/types.txt is for uParse of %s" % name for name in left)

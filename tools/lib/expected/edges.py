@@ -8,6 +8,7 @@ from typing import NamedTuple, Optional
 from lib import data
 from lib.model import debug_refused
 from lib.model.document import DEEPEST
+from lib.model.reading import MODES
 
 TABLES = data.parts("texts/edges.txt")
 COLONS = ":" * 1000
@@ -30,19 +31,15 @@ def within(around, count, texts):
 
 
 # Blocks with entries are at most so deep; a struct with nothing but dots has none.
+IN_A_ROW = ((LIST, LEAF), (LIST, ONLY_DOTS), (OPEN_STRUCT, DOTS), (OPEN_STRUCT, ONLY_DOTS))
 DEEP = (
-    within(LIST, DEEPEST, LEAF),
-    within(LIST, DEEPEST, ONLY_DOTS),
+    *(within(around, DEEPEST, texts) for around, texts in IN_A_ROW),
     within(LIST, DEEPEST - 1, within(OPEN_STRUCT, 1, ("1", "1"))),
-    within(OPEN_STRUCT, DEEPEST, DOTS),
-    within(OPEN_STRUCT, DEEPEST, ONLY_DOTS),
     within(LIST, 100, within(OPEN_STRUCT, DEEPEST - 100, EMPTY)),
 )
 TOO_DEEP = (
-    within(LIST, DEEPEST + 1, LEAF),
-    within(LIST, DEEPEST + 1, ONLY_DOTS),
+    *(within(around, DEEPEST + 1, texts) for around, texts in IN_A_ROW[:3]),
     within(LIST, DEEPEST, within(OPEN_STRUCT, 1, ("1", "1"))),
-    within(OPEN_STRUCT, DEEPEST + 1, DOTS),
     within(LIST, 100, within(OPEN_STRUCT, DEEPEST - 99, EMPTY)),
 )
 
@@ -58,11 +55,9 @@ def taken():
 
 def edges():
     for plain, pretty in taken():
-        yield Edge("plain", plain.encode(), pretty)
-        yield Edge("pretty", pretty.encode(), plain)
-    for text in [*debug_refused.texts(), *(text.encode() for texts in TOO_DEEP for text in texts)]:
-        yield Edge("plain", text, None)
-        yield Edge("pretty", text, None)
+        yield from (Edge("plain", plain.encode(), pretty), Edge("pretty", pretty.encode(), plain))
+    refused = [*debug_refused.texts(), *(text.encode() for texts in TOO_DEEP for text in texts)]
+    yield from (Edge(mode, text, None) for text in refused for mode in MODES)
 
 
 def long_texts(count):

@@ -1,9 +1,9 @@
-"""Reads what rustc printed of values of std, by the model, and compares what comes out with what rustc printed in the other mode, for each
-class of texts: token texts and debug texts.
+"""Reads what rustc printed of values of std, by the model, and compares what comes out with what rustc printed in the other mode,
+for each class of texts: token texts and debug texts.
 
 tools/expected/rows.txt has the rows, which tools/expected/print wrote: each value's text by `{:?}` and by `{:#?}`. In
-tools/expected/reasons each row that a class refuses, or that comes out as another text, has its reason. A row without a
-reason is a fault, and so is a reason without a row and one that no longer holds. Texts at the edges of the debug class,
+tools/expected/reasons each row that a class refuses, or that comes out as another text, has its reason. A row without a reason is
+a fault, and so is a reason without a row and one that no longer holds. Texts at the edges of the debug class,
 tools/lib/expected/edges.py, come out as is said there, or are refused.
 
 All these texts are passed to the built probe_model, which `rt ci` leaves in crates/probe_model/out, and what the calls of both
@@ -16,8 +16,7 @@ import time
 
 from lib.expected import edges, rows
 from lib.findings import case, ended
-from lib.model.document import plain, pretty
-from lib.model.reading import DEBUG, TOKEN, PlainReader, PrettyReader
+from lib.model.reading import MODES, READERS, converted
 from lib.model.step import shown, wrong_lines
 from lib.top import TOP
 
@@ -25,53 +24,35 @@ sys.setrecursionlimit(20_000)
 
 DATA = TOP / "tools" / "expected"
 PROGRAM = TOP / "crates" / "probe_model" / "out" / "probe_model"
-CLASSES = {"token": TOKEN, "debug": DEBUG}
+CLASSES = ("token", "debug")
 # There are at least so many rows. Of each 150 the debug class has at least so many in both directions.
-LEAST_ROWS = 150
-LEAST_OF_150 = 137
+LEAST_ROWS, LEAST_OF_150 = 150, 137
 SAME = ("same", "same")
 # So many colons in a row take so many seconds at most. If each were tried against all others, it would be many times that.
 COLONS, SECONDS = 1_000_000, 60
 
 
-# The reader of a class of texts, and what lays a document out in the other mode, by the mode.
-CONVERSIONS = {"plain": (PlainReader, pretty), "pretty": (PrettyReader, plain)}
-
-
-def read(text_class, mode, text):
-    return CONVERSIONS[mode][0](text_class).read(text)
-
-
-def converted(text_class, mode, text):
-    document = read(text_class, mode, text)
-    return None if document is None else CONVERSIONS[mode][1](document)
-
-
 # ---- The rows of rustc.
-
-
-def outcome(text_class, mode, text, wanted):
-    found = converted(text_class, mode, text)
-    return "refused" if found is None else "same" if found == wanted else "another"
 
 
 def outcomes(name, row):
     """What comes out of a row's plain text and of its pretty text, in a class."""
-    return outcome(CLASSES[name], "plain", row.plain, row.pretty), outcome(CLASSES[name], "pretty", row.pretty, row.plain)
+    texts = row.plain, row.pretty
+    found = [(converted(mode, name, text), other) for mode, text, other in zip(MODES, texts, texts[::-1])]
+    return tuple("refused" if each is None else "same" if each == wanted else "another" for each, wanted in found)
 
 
 def judged(name, stored, reasons):
     """The faults of a class, and its rows that are the same by their plain texts, by their pretty texts, and by both."""
     given = {reason.row: reason.outcomes for reason in reasons if reason.text_class == name}
-    faults, same = [], [0, 0, 0]
+    found, faults = {row.name: outcomes(name, row) for row in stored}, []
     for row in stored:
-        found = outcomes(name, row)
         wanted = given.get(row.name, SAME)
-        if found != wanted:
+        if found[row.name] != wanted:
             why = "by its reason" if row.name in given else "it has no reason"
-            faults.append(case("%s, %s" % (row.name, name), "%s, %s (%s)" % (*wanted, why), "%s, %s" % found))
-        same = [count + is_one for count, is_one in zip(same, (found[0] == "same", found[1] == "same", found == SAME))]
-    return faults, same
+            faults.append(case("%s, %s" % (row.name, name), "%s, %s (%s)" % (*wanted, why), "%s, %s" % found[row.name]))
+    made = [found[row.name] for row in stored]
+    return faults, [sum(each[0] == "same" for each in made), sum(each[1] == "same" for each in made), made.count(SAME)]
 
 
 def twice(names):
@@ -92,11 +73,12 @@ def wrong_tables(stored, reasons):
         yield "%d rows, and not at least %d" % (len(names), LEAST_ROWS)
 
 
-def wrong_in_debug(mode, text):
+def wrong_in_debug(row):
     """A text that token texts have is read as that document among debug texts."""
-    document = read(TOKEN, mode, text)
-    if document is not None and read(DEBUG, mode, text) != document:
-        yield "%s text %s: another document among debug texts than among token texts" % (mode, shown(text.encode()))
+    for mode, text in zip(MODES, (row.plain, row.pretty)):
+        document = READERS[mode, "token"].read(text)
+        if document is not None and READERS[mode, "debug"].read(text) != document:
+            yield "%s text %s: another document among debug texts than among token texts" % (mode, shown(text.encode()))
 
 
 # ---- Texts at the edges of the debug class.
@@ -105,7 +87,7 @@ def wrong_in_debug(mode, text):
 def wrong_edges():
     for edge in edges.edges():
         # A byte that isn't UTF-8 is a character that no leaf has.
-        found = converted(DEBUG, edge.mode, edge.text.decode("utf-8", "surrogateescape"))
+        found = converted(edge.mode, "debug", edge.text.decode("utf-8", "surrogateescape"))
         if found != edge.converted:
             said = ["refused" if text is None else shown(text.encode("utf-8", "surrogateescape")) for text in (edge.converted, found)]
             yield case("%s text %s" % (edge.mode, shown(edge.text)), *said)
@@ -113,9 +95,9 @@ def wrong_edges():
 
 def wrong_times():
     for text in edges.long_texts(COLONS):
-        for mode in CONVERSIONS:
+        for mode in MODES:
             before = time.process_time()
-            converted(DEBUG, mode, text)
+            converted(mode, "debug", text)
             taken = time.process_time() - before
             if taken > SECONDS:
                 yield case("%s text %s" % (mode, shown(text.encode())), "at most %d seconds" % SECONDS, "%.1f" % taken)
@@ -129,19 +111,17 @@ def texts_of(stored):
 
 def main(_given):
     stored, reasons = rows.rows(DATA / "rows.txt"), rows.reasons(DATA / "reasons")
-    faults, both = list(wrong_tables(stored, reasons)), {}
+    faults, both = list(wrong_tables(stored, reasons)), []
     for name in CLASSES:
-        wrong, same = judged(name, stored, reasons)
+        wrong, (of_plain, of_pretty, of_both) = judged(name, stored, reasons)
         faults += wrong
-        both[name] = same[2]
+        both.append(of_both)
         print("%s texts: %d of %d plain texts come out as rustc's pretty text, and %d pretty texts as its plain text" % (
-            name, same[0], len(stored), same[1]))
-    if 150 * both["debug"] < LEAST_OF_150 * len(stored):
-        faults.append("debug texts: %d rows both ways, and not at least %d of 150" % (both["debug"], LEAST_OF_150))
-    for row in stored:
-        faults += [*wrong_in_debug("plain", row.plain), *wrong_in_debug("pretty", row.pretty)]
-    faults += [*wrong_edges(), *wrong_times()]
+            name, of_plain, len(stored), of_pretty))
+    if 150 * both[1] < LEAST_OF_150 * len(stored):
+        faults.append("debug texts: %d rows both ways, and not at least %d of 150" % (both[1], LEAST_OF_150))
+    faults += [*(fault for row in stored for fault in wrong_in_debug(row)), *wrong_edges(), *wrong_times()]
     texts = texts_of(stored) if os.access(PROGRAM, os.X_OK) else []
     faults += wrong_lines(PROGRAM, texts)[0] if texts else ["%s isn't there: `rt ci` builds it, and so does `rt run` in its crate" % PROGRAM]
-    rows_read = "%d rows, both ways %d as token texts and %d as debug texts" % (len(stored), both["token"], both["debug"])
+    rows_read = "%d rows, both ways %d as token texts and %d as debug texts" % (len(stored), *both)
     return ended(faults, "%s, %d texts at the edges, %d by the program" % (rows_read, len(list(edges.edges())), len(texts)))

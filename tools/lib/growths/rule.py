@@ -3,6 +3,7 @@
 A line counts if it names such an error or what can make one, asks for memory by a size, has a large number, or begins a loop that no list
 ends and that grows. A `return` counts with the line before it, which says when. Of a text in quotes only its words on memory count.
 """
+import math
 import re
 
 # Errors of memory, and what can make one that isn't named.
@@ -41,15 +42,10 @@ def loop_at(lines, at):
 
 
 def is_large(line):
-    for found in NUMBER.findall(line):
-        product = 1
-        for number in found.split(" * "):
-            # A longer one is in a text of several lines.
-            digits = number.replace("_", "")
-            product *= int(digits) if len(digits) < 40 else 0
-        if product > MOST:
-            return True
-    return bool(LARGE.search(line))
+    # A number of more digits is in a text of several lines.
+    rows = (found.replace("_", "").split(" * ") for found in NUMBER.findall(line))
+    products = [math.prod(int(number) if len(number) < 40 else 0 for number in row) for row in rows]
+    return max(products, default=0) > MOST or bool(LARGE.search(line))
 
 
 def places(text):

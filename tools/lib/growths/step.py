@@ -44,19 +44,22 @@ def table():
     """How often each line may be there, and its reason."""
     rows, reasons = collections.Counter(), {}
     for block in TABLE.read_text().split("\n\n")[1:]:
-        reason, *lines = block.strip("\n").split("\n")
-        for line in lines:
-            rows[line.strip()] += 1
-            reasons[line.strip()] = reason
+        reason, *lines = map(str.strip, block.strip("\n").split("\n"))
+        rows.update(lines)
+        reasons.update(dict.fromkeys(lines, reason))
     return rows, reasons
 
 
 def open_tests(text):
     """The lines by which a module of tests would be more than that."""
     lines = text.split("\n")
-    for number, line in enumerate(lines, 1):
-        if re.match(r"\s*(pub(\(.*\))? )?mod tests\b|\s*#\[path", line) and "cfg(test)" not in lines[number - 2]:
-            yield number
+    return [number for number, line in enumerate(lines, 1)
+            if re.match(r"\s*(pub(\(.*\))? )?mod tests\b|\s*#\[path", line) and "cfg(test)" not in lines[number - 2]]
+
+
+def places(texts):
+    """The row of each place in the sources."""
+    return ["%s: %s" % (name, told) for name, text in texts.items() for _, told in rule.places(text)]
 
 
 def new_places(name, text, rows):
@@ -73,8 +76,7 @@ def wrong_places(texts, rows):
     for name, text in texts.items():
         yield from ("crates/%s:%d: no test, but in a module of tests" % (name, number) for number in open_tests(text))
         yield from ("crates/%s:%d: no reason in %s: %s" % (name, number, TOLD, told) for number, told in new_places(name, text, rows))
-    there = collections.Counter("%s: %s" % (name, told) for name, text in texts.items() for _, told in rule.places(text))
-    yield from ("%s:1: no such line: %s" % (TOLD, row) for row in (rows - there).elements())
+    yield from ("%s:1: no such line: %s" % (TOLD, row) for row in (rows - collections.Counter(places(texts))).elements())
 
 
 def wrong_text(text, place, put, keeps):
@@ -112,10 +114,8 @@ def unfound(texts, rows):
 def anew(texts, reasons):
     """The table for the sources as they are. A line that is new has the reason of the same line elsewhere, or `?`."""
     elsewhere, groups = {row.split(": ", 1)[1]: reason for row, reason in reasons.items()}, {reason: [] for reason in reasons.values()}
-    for name, text in texts.items():
-        for _, told in rule.places(text):
-            row = "%s: %s" % (name, told)
-            groups.setdefault(reasons.get(row) or elsewhere.get(told, UNKNOWN), []).append(row)
+    for row in places(texts):
+        groups.setdefault(reasons.get(row) or elsewhere.get(row.split(": ", 1)[1], UNKNOWN), []).append(row)
     blocks = ["%s\n%s" % (reason, "\n".join("    " + row for row in sorted(rows))) for reason, rows in groups.items() if rows]
     return "\n\n".join([TABLE.read_text().split("\n\n")[0], *blocks]) + "\n"
 

@@ -1,7 +1,7 @@
 """Runs a program over devices that see each call.
 
-Standard input, output and error are sockets that keep messages apart: a read takes one, and a write sends one. So a run
-is a row of reads and writes, and each is compared with what it should be.
+Standard input, output and error are sockets that keep messages apart: a read takes one, and a write sends one. So a run is a row
+of reads and writes, and each is compared with what it should be.
 """
 import os
 import pathlib
@@ -30,8 +30,7 @@ class Program:
     def __init__(self, path):
         self.path = path
         # How many reads are called before the program's own: what loads it reads its libraries.
-        process = subprocess.Popen([self.path, "no such word"], stdin=subprocess.DEVNULL, stderr=subprocess.DEVNULL)
-        self.loads = calls(process)[0]
+        self.loads = calls(subprocess.Popen([self.path, "no such word"], stdin=subprocess.DEVNULL, stderr=subprocess.DEVNULL))[0]
 
     def start(self, arguments, source, sink, error=subprocess.DEVNULL):
         return subprocess.Popen([self.path, *arguments], stdin=source, stdout=sink, stderr=error)
@@ -46,12 +45,11 @@ def calls(process):
     """How many reads and writes a process called up to its end."""
     os.waitid(os.P_PID, process.pid, os.WEXITED | os.WNOWAIT)
     try:
-        rows = pathlib.Path("/proc/%d/io" % process.pid).read_text().splitlines()
+        counts = dict(row.split(": ") for row in pathlib.Path("/proc/%d/io" % process.pid).read_text().splitlines())
     except OSError:
         return None, None
     finally:
         process.wait()
-    counts = dict(row.split(": ") for row in rows)
     return int(counts["syscr"]), int(counts["syscw"])
 
 
@@ -94,12 +92,7 @@ class Devices:
 
     def rest(self, channel):
         """The messages up to the end. An empty one can't be told from the end."""
-        pieces = []
-        while True:
-            piece = channel.ours.recv(channel.most())
-            if not piece:
-                return pieces
-            pieces.append(piece)
+        return list(iter(lambda: channel.ours.recv(channel.most()), b""))
 
 
 def shown(data):
@@ -113,26 +106,24 @@ def wrong_round(devices, number, chunk, writes):
     else:
         devices.input.ours.send(chunk)
     for wanted in writes:
-        given = devices.output.ours.recv(devices.output.most())
+        given, told = devices.output.ours.recv(devices.output.most()), "after read %d of %s" % (number, shown(chunk or b""))
         if not given:
-            return "after read %d of %s it ends: %s" % (number, shown(chunk or b""), shown(b"".join(devices.rest(devices.error))))
+            return "%s it ends: %s" % (told, shown(b"".join(devices.rest(devices.error))))
         if given != wanted:
-            return "after read %d of %s: wanted %s, got %s" % (number, shown(chunk or b""), shown(wanted), shown(given))
+            return "%s: wanted %s, got %s" % (told, shown(wanted), shown(given))
     return None
 
 
 def wrong_end(devices, program, process, wanted, line):
     """What is wrong after the last write of a run that should end so, with this line on standard error."""
-    rest = devices.rest(devices.output)
-    error = devices.rest(devices.error)
-    ended = program.ended(process)
+    rest, error, ended = devices.rest(devices.output), devices.rest(devices.error), program.ended(process)
     # Each line is one message: programs that share standard error don't mix theirs.
     if rest or error != line.splitlines(keepends=True) or ended.status != wanted.status:
         return "at the end it writes %s and %s, and its status is %d" % (shown(b"".join(rest)), shown(b"".join(error)), ended.status)
     wanted = wanted._replace(writes=wanted.writes + len(error))
-    if ended.reads is not None and ended != wanted:
-        return "wanted %d reads and %d writes, got %d and %d" % (*wanted[1:], *ended[1:])
-    return None
+    if ended.reads is None or ended == wanted:
+        return None
+    return "wanted %d reads and %d writes, got %d and %d" % (*wanted[1:], *ended[1:])
 
 
 def fault(program, arguments, chunks, rounds, status=0, line=b""):

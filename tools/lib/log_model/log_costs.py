@@ -1,22 +1,27 @@
 """What a run of ufmt_lines costs on logs of each shape: steps, memory, reads and writes.
 
-Steps are counted on a log of 32 KiB, with a bound for each byte. With one step more for each pair of bytes, each byte
-would cost 16,384 steps more. Memory, reads and writes are those of longer logs.
+Steps are counted on a log of 32 KiB, beside tools/data/measured/logs.txt (tools/lib/measures.py): with one step more for each
+pair of bytes, each byte would cost 16,384 steps more. Memory, reads and writes are those of longer logs.
 """
+import bisect
 import os
+import pathlib
 import re
 import shutil
 import subprocess
 import tempfile
+from concurrent.futures import ThreadPoolExecutor
 from typing import Callable, NamedTuple
 
-from lib import data, findings
-from lib.log_model import log_model
+from lib import data, measures, needs
+from lib.log_model import devices, log_model
 from lib.log_model.logs import CHUNK
-from lib.measures import FACTOR
-from lib.model.document import Block, pretty
+from lib.model.document import list_of, pretty
 
 SIZE = 32 * 1024
+MEASURED, TOLD = "logs", "Of `x try logs`: steps of ufmt_lines on a log of 32 KiB, less those of a run on no log"
+# The arguments of ufmt_lines for each mode that it writes.
+ARGUMENTS = {"pretty": [], "plain": ["--plain"]}
 # How much longer a log is whose reads and writes are counted, and that must pass in the memory of one half as long.
 LONGER = 16
 # How many bytes of memory the longer log may take more, since the buffer for a read of 64 KiB may double once more, and how many for each
@@ -31,13 +36,17 @@ SECONDS = 120
 
 
 class Shape(NamedTuple):
-    """A log of this shape for a size in bytes, and how many steps were measured for each of its bytes."""
+    """A log of this shape for a size in bytes."""
 
     name: str
     mode: str
-    steps: int
     log: Callable[[int], bytes]
     memory: float = MEMORY
+
+    @property
+    def steps(self):
+        """How many steps were measured for each of its bytes."""
+        return measures.Table(MEASURED).rows[self.name][0] / len(self.log(SIZE))
 
 
 def repeated(row):
@@ -50,10 +59,10 @@ def table_shapes():
     """Those of tools/data/logs/shapes.txt."""
     for part, rows in data.parts("logs/shapes.txt").items():
         mode, form = part.split(", ")
-        for name, steps, *pieces in (row.split(" => ") for row in rows):
+        for name, *pieces in (row.split(" => ") for row in rows):
             first, piece, last = map(data.data_of, pieces) if form == "between" else (b"", b"".join(map(repeated, pieces)), b"")
             memory = KEPT_ONCE if form == "kept once" else MEMORY
-            yield Shape(name, mode, int(steps), lambda size, row=(first, piece, last): in_a_row(*row, size), memory)
+            yield Shape(name, mode, lambda size, row=(first, piece, last): in_a_row(*row, size), memory)
 
 
 def in_a_row(first, piece, last, size):
@@ -62,16 +71,17 @@ def in_a_row(first, piece, last, size):
 
 def indented():
     """A list whose pretty text is nearly all indentation."""
-    document = Block("list", "", [(None, "x")] * 60)
+    document = list_of(*["x"] * 60)
     for _ in range(60):
-        document = Block("list", "", [(None, document)])
+        document = list_of(document)
     return pretty(document).encode() + b"\n"
 
 
 SHAPES = (
     *table_shapes(),
-    Shape("a line of open tuples, a bracket, and words", "pretty", 68, lambda size: b"(a, " * (size // 16) + b")" + b"word " * (3 * size // 20)),
-    Shape("groups of indented lines", "plain", 5, lambda size: in_a_row(b"", indented(), b"", size)),
+    Shape("a line of open tuples, a bracket, and words", "pretty",
+          lambda size: b"(a, " * (size // 16) + b")" + b"word " * (3 * size // 20)),
+    Shape("groups of indented lines", "plain", lambda size: in_a_row(b"", indented(), b"", size)),
 )
 
 
@@ -79,48 +89,38 @@ class Meter:
     """Measures runs of the program on logs in a folder."""
 
     def __init__(self, program, arguments, room):
-        self.program = program
-        self.arguments = arguments
-        self.room = room
-        self.valgrind = shutil.which("valgrind")
+        self.program, self.arguments, self.room, self.valgrind = program, arguments, room, shutil.which("valgrind")
 
     def put(self, name, data):
         path = self.room / re.sub(r"\W", "-", name)
         path.write_bytes(data)
         return path
 
+    def run(self, path, mode, before=(), **how):
+        """Runs the program on a log, with words before it."""
+        with open(path, "rb") as log:
+            return subprocess.run([*before, self.program.path, *self.arguments[mode]], stdin=log, timeout=SECONDS, **how)
+
     def steps(self, path, mode):
         """The steps of a run, by valgrind."""
-        command = [self.valgrind, "--tool=cachegrind", "--cache-sim=no", "--cachegrind-out-file=/dev/null", self.program.path, *self.arguments[mode]]
-        with open(path, "rb") as log:
-            ran = subprocess.run(command, stdin=log, stdout=subprocess.DEVNULL, stderr=subprocess.PIPE, check=True, timeout=SECONDS)
+        counting = self.valgrind, "--tool=cachegrind", "--cache-sim=no", "--cachegrind-out-file=/dev/null"
+        ran = self.run(path, mode, counting, stdout=subprocess.DEVNULL, stderr=subprocess.PIPE, check=True)
         return int(re.search(rb"I +refs: +([\d,]+)", ran.stderr)[1].replace(b",", b""))
-
-    def steps_of_nothing(self):
-        """The steps of a run on no log, or None if there is no valgrind."""
-        return self.steps(self.put("nothing", b""), "pretty") if self.valgrind else None
 
     def passes(self, path, mode, most):
         """Whether a run ends with status 0 if it has at most so many bytes of memory."""
-        with open(path, "rb") as log:
-            command = ["prlimit", "--as=%d" % most, self.program.path, *self.arguments[mode]]
-            return subprocess.run(command, stdin=log, stdout=subprocess.DEVNULL, stderr=subprocess.DEVNULL, timeout=SECONDS).returncode == 0
+        limit = "prlimit", "--as=%d" % most
+        return self.run(path, mode, limit, stdout=subprocess.DEVNULL, stderr=subprocess.DEVNULL).returncode == 0
 
     def least(self, path, mode):
         """The least memory in which a run ends with status 0, in pages of 16 KiB and at most 64 MiB."""
-        low, high = 64, 4096
-        while low < high:
-            middle = (low + high) // 2
-            if self.passes(path, mode, middle * PAGE):
-                high = middle
-            else:
-                low = middle + 1
-        return low * PAGE
+        pages = range(64, 4096)
+        return PAGE * (64 + bisect.bisect_left(pages, True, key=lambda count: self.passes(path, mode, count * PAGE)))
 
     def size(self, path, mode):
         """How many bytes a run writes."""
-        with open(path, "rb") as log, tempfile.TemporaryFile() as output:
-            subprocess.run([self.program.path, *self.arguments[mode]], stdin=log, stdout=output, check=True, timeout=SECONDS)
+        with tempfile.TemporaryFile() as output:
+            self.run(path, mode, stdout=output, check=True)
             return os.fstat(output.fileno()).st_size
 
     def calls(self, path, mode):
@@ -130,20 +130,18 @@ class Meter:
         return self.program.ended(process)
 
 
-def wrong_steps(meter, shape, nothing):
-    """Each byte costs so many steps more than a run on no log."""
-    log = shape.log(SIZE)
-    steps = (meter.steps(meter.put(shape.name, log), shape.mode) - nothing) / len(log)
-    if steps > shape.steps * FACTOR:
-        return findings.most(shape.name, shape.steps * FACTOR, steps, "steps a byte")
-    return None
+def counted(path):
+    """The steps of a log of each shape, less those of a run on no log, side by side."""
+    with tempfile.TemporaryDirectory() as room, ThreadPoolExecutor(needs.processors()) as pool:
+        meter = Meter(devices.Program(path), ARGUMENTS, pathlib.Path(room))
+        nothing = meter.steps(meter.put("nothing", b""), "pretty")
+        steps = pool.map(lambda shape: meter.steps(meter.put(shape.name, shape.log(SIZE)), shape.mode), SHAPES)
+        return {shape.name: [("steps", count - nothing)] for shape, count in zip(SHAPES, steps)}
 
 
 def ended(shape, log):
-    """How many bytes the groups have that end in a read, for each read in which some do, and for the end.
-
-    Their outputs are one write, or more if they are long.
-    """
+    """How many bytes the groups have that end in a read, for each read in which some do, and for the end. Their outputs are one
+    write, or more if they are long."""
     sizes = {}
     for read, group in log_model.groups(shape.mode, log):
         number = None if read is None else -(-read // CHUNK)
@@ -152,20 +150,18 @@ def ended(shape, log):
 
 
 def wrong_calls(meter, shape):
-    """One read takes each chunk, and one more the end. One write has the outputs for the groups that end in a chunk, or at the end.
-
-    If they are long, they are written in parts of LEAST bytes and more.
-    """
+    """One read takes each chunk, and one more the end. One write has the outputs for the groups that end in a chunk, or at the
+    end. If they are long, they are written in parts of LEAST bytes and more."""
     log = shape.log(SIZE * LONGER)
     path = meter.put(shape.name, log)
     given = meter.calls(path, shape.mode)
     if given.reads is None:
         return None
-    least = len(ended(shape, log))
+    least, reads = len(ended(shape, log)), -(-len(log) // CHUNK) + 1
     most = least + meter.size(path, shape.mode) // log_model.LEAST
-    if given[:2] != (0, -(-len(log) // CHUNK) + 1) or not least <= given.writes <= most:
-        return "%s: %s, not %d reads and %d to %d writes" % (shape.name, given, -(-len(log) // CHUNK) + 1, least, most)
-    return None
+    if given[:2] == (0, reads) and least <= given.writes <= most:
+        return None
+    return "%s: %s, not %d reads and %d to %d writes" % (shape.name, given, reads, least, most)
 
 
 def kept(shape, log):
@@ -178,6 +174,12 @@ def wrong_memory(meter, shape):
     short, long = shape.log(SIZE * LONGER // 2), shape.log(SIZE * LONGER)
     least = meter.least(meter.put(shape.name, short), shape.mode)
     most = least + SLACK + int(shape.memory * (kept(shape, long) - kept(shape, short)))
-    if not meter.passes(meter.put(shape.name, long), shape.mode, most):
-        return "%s: %d bytes pass in %d bytes of memory, and %d bytes not in %d" % (shape.name, len(short), least, len(long), most)
-    return None
+    if meter.passes(meter.put(shape.name, long), shape.mode, most):
+        return None
+    return "%s: %d bytes pass in %d bytes of memory, and %d bytes not in %d" % (shape.name, len(short), least, len(long), most)
+
+
+def measured_again(is_written):
+    """Writes the table again, or names each row whose bound left the band."""
+    needs.require("measure", "valgrind")
+    return measures.measured_again(MEASURED, counted(needs.built("ufmt_lines")), TOLD, is_written)

@@ -5,12 +5,12 @@ A mode is the name of the texts that are written: "pretty", or "plain" for `--pl
 import re
 
 from lib.model.document import STRUCTS, plain, pretty
-from lib.model.reading import DEBUG, TOKEN, PlainReader, PrettyReader
+from lib.model.reading import DEBUG, READERS, PlainReader, PrettyReader
 
-MODES = ("pretty", "plain")
-# The readers of texts, and what prints their documents in the other mode.
-READERS = {"pretty": PlainReader(DEBUG), "plain": PrettyReader(DEBUG)}
+# What prints the documents of each mode, and what reads its texts: those of the other one.
 PRINTERS = {"pretty": pretty, "plain": plain}
+MODES = tuple(PRINTERS)
+OTHERS = {"pretty": PlainReader(DEBUG), "plain": PrettyReader(DEBUG)}
 # How long a plain text is at most that stays, if nothing else is said.
 LONGER_THAN = 40
 # How many bytes of outputs are written before a chunk's others are made.
@@ -44,7 +44,7 @@ def is_name(word):
 
 def begins_with_field(text, at):
     """Whether a field's name, a colon and a space are here."""
-    found = READERS["pretty"].name_at(text, at)
+    found = OTHERS["pretty"].name_at(text, at)
     return found is not None and text.startswith(": ", found[1])
 
 
@@ -70,15 +70,13 @@ def start_of(mode, text, at, opening):
     return opening, False
 
 
-def read_alone(reader, text, start):
-    """The document that begins here and where it ends, by a reader that looks back: it sees nothing of what is before."""
+def read_from(reader, text, start, is_alone=False):
+    """The document that begins here and where it ends. A reader looks back from a colon, for a quote: it sees nothing of what is
+    before."""
+    if not is_alone and not text.startswith(":", start):
+        return reader.document_at(text, start, 0)
     found = reader.document_at(text[start:], 0, 0)
     return found and (found[0], start + found[1])
-
-
-def read_from(mode, text, start):
-    """The same. The reader looks back from a colon alone, for a quote."""
-    return read_alone(READERS[mode], text, start) if text.startswith(":", start) else READERS[mode].document_at(text, start, 0)
 
 
 def leaves(document):
@@ -95,17 +93,14 @@ def stays(text, opening, after_name, longer_than, document, end, start):
     return after_name and document.kind == "map" and begins_with_field(text, opening + 1)
 
 
-def found_values(mode, text, read=None):
-    """The values of a text from the left on: where each begins and ends, its document and its bracket, and whether it is a map or a set after a name."""
-    read = read or (lambda start: read_from(mode, text, start))
+def found_values(mode, text, reader=None):
+    """The values of a text from the left on: where each begins and ends, its document and its bracket, and whether it is a map or
+    a set after a name. Another reader sees each alone."""
     at = 0
-    while True:
-        found = BRACKET.search(text, at)
-        if found is None:
-            return
+    while found := BRACKET.search(text, at):
         opening = found.start()
         start, after_name = start_of(mode, text, at, opening)
-        value = read(start)
+        value = read_from(reader or OTHERS[mode], text, start, is_alone=reader is not None)
         if value is None or isinstance(value[0], str) or not value[0].entries:
             at = opening + 1
             continue
@@ -116,14 +111,8 @@ def found_values(mode, text, read=None):
 def values(mode, text, longer_than=LONGER_THAN):
     """The values of a text from the left on: where each begins and ends, and its output, or None if it stays."""
     for start, end, document, opening, after_name in found_values(mode, text):
-        if mode == "pretty" and stays(text, opening, after_name, longer_than, document, end, start):
-            yield start, end, None
-        else:
-            yield start, end, PRINTERS[mode](document)
-
-
-# The readers of plain texts, by class.
-PLAIN_READERS = {TOKEN: PlainReader(TOKEN), DEBUG: READERS["pretty"]}
+        is_left = mode == "pretty" and stays(text, opening, after_name, longer_than, document, end, start)
+        yield start, end, None if is_left else PRINTERS[mode](document)
 
 
 def field_place(document, name):
@@ -138,11 +127,10 @@ def field_place(document, name):
 
 
 def field(text_class, line, name):
-    """Where the leaf of this field begins in a line, and the leaf: of the first value that is a struct with this field, where
-    the field is a leaf. None if there is none."""
+    """Where the leaf of this field begins in a line, and the leaf: of the first value that is a struct with this field, where the
+    field is a leaf. None if there is none."""
     text, wanted = decoded(line), decoded(name)
-    values_here = found_values("pretty", text, lambda start: read_alone(PLAIN_READERS[text_class], text, start))
-    for start, _end, document, _opening, _after_name in values_here:
+    for start, _end, document, _opening, _after_name in found_values("pretty", text, READERS["plain", text_class.name]):
         place = field_place(document, wanted) if document.kind in STRUCTS else None
         if place:
             return len(encoded(text[: start + place[0]])), encoded(place[1])
@@ -152,18 +140,12 @@ def field(text_class, line, name):
 def output(mode, group, longer_than=LONGER_THAN):
     """The group with its values in this mode."""
     text = decoded(group)
-    out, done = [], 0
+    out, done = "", 0
     for start, end, other in values(mode, text, longer_than):
         if other is not None:
-            out += [text[done:start], other]
+            out += text[done:start] + other
             done = end
-    return encoded("".join([*out, text[done:]]))
-
-
-def ended_lines(log):
-    """The lines of a log, each with its line feed, and what follows the last one."""
-    *lines, rest = log.split(b"\n")
-    return [line + b"\n" for line in lines], rest
+    return encoded(out + text[done:])
 
 
 def word_at(line):
@@ -192,9 +174,9 @@ def uncut_end_in(mode, line, inside):
 
 def groups(mode, log, end_in=end_in):
     """The groups of a log, each with the number of bytes after which it is known to end: its line's, or None for what is left at the end."""
-    lines, rest = ended_lines(log)
+    *lines, rest = log.split(b"\n")
     found, group, read = [], b"", 0
-    for line in lines:
+    for line in (line + b"\n" for line in lines):
         read += len(line)
         end = end_in(mode, line, group != b"")
         if end is None:
@@ -220,20 +202,16 @@ def whole_output(mode, log, longer_than=LONGER_THAN, end_in=end_in):
 
 def gathered(pieces):
     """Outputs as they are written: as soon as there are LEAST bytes, and at the end."""
-    found, waits = [], b""
+    found = [b""]
     for piece in pieces:
-        waits += piece
-        if len(waits) >= LEAST:
-            found.append(waits)
-            waits = b""
-    return found + [waits] * (waits != b"")
+        found[-1] += piece
+        found += [b""] * (len(found[-1]) >= LEAST)
+    return list(filter(None, found))
 
 
 def writes(mode, log, chunks, longer_than=LONGER_THAN):
-    """What is written after each chunk is read, and last after the end: a list for each, with a piece for each write.
-
-    The outputs for the groups that end in a chunk are one write, or more if they are long.
-    """
+    """What is written after each chunk is read, and last after the end: a list for each, with a piece for each write. The outputs
+    for the groups that end in a chunk are one write, or more if they are long."""
     whole = outputs(mode, log, longer_than)
     rounds, read, at = [], 0, 0
     for chunk in chunks:

@@ -1,7 +1,7 @@
 """Random logs, and how they are cut into chunks. One seed makes the same ones each time."""
 import itertools
 
-from lib.model.document import Block, plain, pretty, quoted
+from lib.model.document import Block, list_of, plain, pretty, quoted
 from lib.model.documents import DebugMaker
 
 # What is between words, or next to a text. A text begins only after a space or a line feed.
@@ -33,10 +33,8 @@ class Maker:
         """The text with a byte or a piece too many or too few, or with its lines changed."""
         at = self.random.randrange(len(text) + 1)
         form = self.random.randrange(6)
-        if form == 0:
-            return text[:at]
-        if form == 1:
-            return text[:at] + text[at + 1 :]
+        if form < 2:
+            return text[:at] + (text[at + 1 :] if form else b"")
         if form == 2:
             return text[:at] + self.random.choice(AFTER + BETWEEN) + text[at:]
         if form == 3:
@@ -49,11 +47,11 @@ class Maker:
         """Words with what is between them: few as a rule, but now and then a thousand."""
         if self.random.random() < 0.3:
             return b""
-        words = []
+        words = b""
         for _ in range(self.size(1000 if self.random.random() < 0.05 else 8)):
-            words.append(self.random.choice(SIGNS) if self.random.random() < 0.25 else self.documents.word())
-            words.append(self.random.choice(BETWEEN).decode("utf-8", "surrogateescape"))
-        return "".join(words).encode("utf-8", "surrogateescape")
+            words += (self.random.choice(SIGNS) if self.random.random() < 0.25 else self.documents.word()).encode()
+            words += self.random.choice(BETWEEN)
+        return words
 
     def open_group(self):
         """Lines of a group that doesn't end."""
@@ -88,13 +86,8 @@ class Maker:
         """The log in chunks, of which one read takes each: whole lines, bytes, or chunks of any size."""
         form = self.random.randrange(4)
         if form == 0 and len(log) < 3000:
-            pieces = [log[at : at + 1] for at in range(len(log))]
-        elif form == 1:
-            pieces = log.splitlines(keepends=True)
-        elif form == 2:
-            pieces = list(self.pieces(log))
-        else:
-            pieces = [log]
+            return [log[at : at + 1] for at in range(len(log))]
+        pieces = log.splitlines(keepends=True) if form == 1 else self.pieces(log) if form == 2 else [log]
         return [chunk for piece in pieces for chunk in whole(piece)]
 
     def pieces(self, log):
@@ -122,21 +115,21 @@ def lists(number):
     """A document in so many lists, or in as many as can be one too many."""
     document = "x"
     for _ in range(number if number <= 257 else 1):
-        document = Block("list", "", [(None, document)])
+        document = list_of(document)
     return document
 
 
 def each_number():
     """Lines, groups and texts with so many words, spaces, bytes, entries and blocks."""
-    one = Block("list", "", [(None, "1")])
+    one = list_of("1")
     for number in NUMBERS:
         for printed in (plain, pretty):
             text = printed(one).encode()
             yield from (b"a " * number + text, b" " * number + text, b"a" * number + b" " + text, b"[ " * number + text)
             yield from ((text + b" ") * number + text, b"a [1] b " + printed(lists(number)).encode())
-            yield printed(Block("list", "", [(None, "1")] * number)).encode()
+            yield printed(list_of(*["1"] * number)).encode()
             yield quoted("\u00e9\n" * number).encode() + b" " + text
-            yield b"a " + printed(Block("list", "", [(None, quoted(" " * number + "[1]"))])).encode()
+            yield b"a " + printed(list_of(quoted(" " * number + "[1]"))).encode()
         yield b"a [" + b"\n    b" * number + b"\n]\nb" + b"\n" * number + b"(" * number
         for printed in (plain, pretty):
             yield b"a " + printed(Block("open struct", "S" * number, [("f", "1")] * number)).encode()
@@ -145,10 +138,9 @@ def each_number():
 
 def each_length():
     """Long lines with a text at the end, which ends near the end of a chunk."""
-    for length in LENGTHS:
-        for text in (b" [1]", b" [\n    1,\n]", b'["'):
-            yield b"a" * (length - len(text)) + text
-            yield text + b"a" * (length - len(text) - 1) + b'"]'
+    for length, text in itertools.product(LENGTHS, (b" [1]", b" [\n    1,\n]", b'["')):
+        yield b"a" * (length - len(text)) + text
+        yield text + b"a" * (length - len(text) - 1) + b'"]'
 
 
 # More bytes than a short read would take. So many of them fill what ufmt_conv reads at most.
@@ -173,8 +165,7 @@ def first_logs():
     for lines in (each_byte(), each_number(), each_length()):
         log = b"\n".join(lines)
         yield log, maker.chunks(log)
-        log += b"\n"
-        yield log, whole(log)
+        yield log + b"\n", whole(log + b"\n")
     yield b"".join(each_first_byte()), each_first_byte()
     for log in (b"", b"\n", b" ", b"\0", b"\r\n", b"[\n", b"[\n ", b"[1]", b"[\n    1,\n]", b"a\n\n\n", b"\n" * 1000, b"[\n" * 1000, b"a\n" * 5000):
         yield log, [log] if log else []
@@ -184,5 +175,5 @@ def first_logs():
 def logs(count, seed):
     """Each log with its chunks: first those of each seed, then so many random ones."""
     maker = Maker(seed)
-    made = (maker.log() for _ in range(count))
-    return itertools.chain(first_logs(), ((log, maker.chunks(log)) for log in made))
+    yield from first_logs()
+    yield from ((log, maker.chunks(log)) for log in (maker.log() for _ in range(count)))

@@ -1,35 +1,33 @@
 """Makes random logs, runs ufmt_lines on each with and without `--plain`, and compares each of its reads and writes with those of a model,
 which shares no code with the project.
 
-The built ufmt_lines is crates/ufmt_lines/out/ufmt_lines, which `rt ci` leaves there. The logs that come first with each seed are followed by
-random ones. They are also run by ufmt_lines.by-rattle, if it is there. Then memory is measured on long logs of each shape, reads and
-writes are counted, and with valgrind, if there is one, steps.
+The built ufmt_lines is crates/ufmt_lines/out/ufmt_lines, which `rt ci` leaves there. The logs that come first with each seed are
+followed by random ones. They are also run by ufmt_lines.by-rattle, if it is there. Then memory is measured on long logs of each
+shape, reads and writes are counted, and with valgrind, if there is one, steps.
 
-A log of 200 lines has its values marked: those that are wanted are laid out, and each line comes back. On 100 times as many logs of
-nasty pieces the model is held to its laws: a log that `--plain` leaves as it is comes back, at three limits, and cuts of groups
-change no output.
+A log of 200 lines has its values marked: those that are wanted are laid out, and each line comes back. On 100 times as many logs
+of nasty pieces the model is held to its laws: a log that `--plain` leaves as it is comes back, at three limits, and cuts of
+groups change no output.
 
 Last the built ufmt_conv reads texts in chunks, and each of its reads and writes is compared too.
 """
 import concurrent.futures
-import contextlib
 import itertools
 import pathlib
+import shutil
 import sys
 import tempfile
 
+from lib import measures
 from lib.findings import ended
-from lib.log_model import devices, law, log_costs, log_model, logs, marked
+from lib.log_model import devices, law, log_costs, log_model, logs
 from lib.model import verdicts
 from lib.top import TOP
 
 sys.setrecursionlimit(20_000)
 
 # How many logs there are, how many a process runs, and how many texts ufmt_conv reads.
-COUNT = 60
-BATCH = 25
-TEXTS = 40
-ARGUMENTS = {"pretty": [], "plain": ["--plain"]}
+COUNT, BATCH, TEXTS = 60, 25, 40
 COMMANDS = ("lengths", "pretty", "plain")
 
 
@@ -44,65 +42,45 @@ def sent(mode, log, chunks):
 
 def wrong_runs(paths, batch):
     """The faults of runs of the programs on these logs."""
-    faults = []
-    programs = [devices.Program(path) for path in paths]
-    for log, chunks in batch:
-        for mode in log_model.MODES:
-            pieces, rounds = sent(mode, log, chunks)
-            for program in programs:
-                fault = devices.fault(program, ARGUMENTS[mode], pieces, rounds)
-                if fault:
-                    faults.append("%s, to %s, a log of %d bytes: %s" % (program.path.name, mode, len(log), fault))
+    faults, programs = [], [devices.Program(path) for path in paths]
+    for (log, chunks), mode in itertools.product(batch, log_model.MODES):
+        pieces, rounds = sent(mode, log, chunks)
+        for program in programs:
+            fault = devices.fault(program, log_costs.ARGUMENTS[mode], pieces, rounds)
+            if fault:
+                faults.append("%s, to %s, a log of %d bytes: %s" % (program.path.name, mode, len(log), fault))
     return faults
 
 
 def wrong_texts(path, seed):
-    """The faults of runs of ufmt_conv, which waits for the end of its input and writes its output at once.
-
-    Its reads take a long text in chunks of 64 KiB: one that is in the middle of them takes only their rest.
-    """
-    maker = logs.Maker(seed)
-    program = devices.Program(path)
-    faults = []
+    """The faults of runs of ufmt_conv, which waits for the end of its input and writes its output at once. Its reads take a long
+    text in chunks of 64 KiB: one that is in the middle of them takes only their rest."""
+    maker, program, faults = logs.Maker(seed), devices.Program(path), []
     given = [(text, maker.chunks(text)) for text in (maker.text() for _ in range(TEXTS)) if len(text) < logs.CHUNK]
     given += [(b"".join(chunks), chunks) for chunks in (logs.whole(b"a" * 150_000), logs.each_first_byte(), logs.each_last_byte())]
-    for text, chunks in given:
-        for command in COMMANDS:
-            status, output, line = verdicts.outcome(command, text)
-            last = [output.encode()] if output else []
-            fault = devices.fault(program, [command], chunks, [[] for _ in chunks] + [last], status, line.encode())
-            if fault:
-                faults.append("%s %s of %s: %s" % (path.name, command, devices.shown(text), fault))
+    for (text, chunks), command in itertools.product(given, COMMANDS):
+        status, output, line = verdicts.outcome(command, text)
+        last = [output.encode()] if output else []
+        fault = devices.fault(program, [command], chunks, [[] for _ in chunks] + [last], status, line.encode())
+        if fault:
+            faults.append("%s %s of %s: %s" % (path.name, command, devices.shown(text), fault))
     return faults
 
 
-def wrong_marks(paths):
-    """The faults of the marked log: of the model's, and of runs of the programs on it."""
-    faults, count = marked.faults()
-    return faults + wrong_runs(paths, [(marked.log(), logs.whole(marked.log()))]), count
-
-
-@contextlib.contextmanager
-def meter_of(path):
-    with tempfile.TemporaryDirectory() as room:
-        yield log_costs.Meter(devices.Program(path), ARGUMENTS, pathlib.Path(room))
-
-
-def steps_of_nothing(path):
-    with meter_of(path) as meter:
-        return meter.steps_of_nothing()
-
-
-def wrong_costs(paths, number, nothing):
-    """What is wrong with the costs of one shape. Steps are counted of the first program, unless there is no valgrind."""
+def wrong_costs(paths, number):
+    """What is wrong with the memory, the reads and the writes of one shape."""
     shape, faults = log_costs.SHAPES[number], []
     for path in paths:
-        with meter_of(path) as meter:
+        with tempfile.TemporaryDirectory() as room:
+            meter = log_costs.Meter(devices.Program(path), log_costs.ARGUMENTS, pathlib.Path(room))
             found = [log_costs.wrong_calls(meter, shape), log_costs.wrong_memory(meter, shape)]
-            if nothing is not None and path == paths[0]:
-                found.append(log_costs.wrong_steps(meter, shape, nothing))
-            faults += ["%s, %s" % (path.name, fault) for fault in found if fault]
+        faults += ["%s, %s" % (path.name, fault) for fault in found if fault]
     return faults
+
+
+def wrong_steps(path):
+    """The faults of the steps, which are counted of the first program."""
+    return list(measures.Table(log_costs.MEASURED).faults(log_costs.counted(path)))
 
 
 def both(path):
@@ -123,14 +101,14 @@ def built(program):
 def main(given):
     count = COUNT if given.count is None else given.count
     paths, converters = built(given.program)
-    tried, faults = 0, []
+    tried, (faults, values) = 0, law.wrong_marks()
     with concurrent.futures.ProcessPoolExecutor() as pool:
-        nothing = steps_of_nothing(paths[0])
-        jobs = [pool.submit(wrong_costs, paths, number, nothing) for number in range(len(log_costs.SHAPES))]
+        jobs = [pool.submit(wrong_costs, paths, number) for number in range(len(log_costs.SHAPES))]
+        if shutil.which("valgrind"):
+            jobs.append(pool.submit(wrong_steps, paths[0]))
         jobs += [pool.submit(wrong_texts, path, str(given.seed)) for path in converters]
         jobs.append(pool.submit(law.faults, count * 100, str(given.seed)))
-        marks, values = wrong_marks(paths)
-        faults += marks
+        jobs.append(pool.submit(wrong_runs, paths, [(law.marked_log(), logs.whole(law.marked_log()))]))
         pairs = logs.logs(count, str(given.seed))
         while batch := list(itertools.islice(pairs, BATCH)):
             tried += len(batch)
@@ -138,5 +116,5 @@ def main(given):
         for job in jobs:
             faults += job.result()
     names = ", ".join(path.name for path in paths + converters)
-    print("%d values of %s are laid out" % (values, marked.PATH.name))
+    print("%d values of %s are laid out" % (values, law.MARKED.name))
     return ended(faults, "%d logs with seed %s, costs of %d shapes, by %s" % (tried, given.seed, len(log_costs.SHAPES), names))

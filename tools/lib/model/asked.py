@@ -1,4 +1,5 @@
 """The requests that are made: options at each bound, and at random."""
+import itertools
 import random
 
 from lib.model import floats
@@ -9,29 +10,21 @@ FILLS = " *0\u00e9\u20ac\U0001f980\0\x7f"
 # What payloads are made of: words, escapes, characters of two to four bytes.
 KINDS = ("a", "ab\n", "\u00e9", "a\"\u20ac", "\x1b'", "\U0001f980")
 OFFSETS = (0, 1, 0xFFFFFF, 0x1000000, 0xFFFFFFF, 0x10000000, 0xFFFFFFDF, 0xFFFFFFFF, 2**32)
-
-
-# Options that each make a text longer than the buffer of 64 bytes in which the program counts steps, and huge ones.
+# An option that makes a text longer than the buffer of 64 bytes in which the program counts steps, and huge ones.
 LONG, HUGE = 100, (2**63, 2**64 - 1)
 
 
 def huge():
-    """Requests with one huge option each, with some that don't meet in a call, and with columns of each width around
-    numbers that are padded to each."""
-    some = Request(width=LONG, pad_length=LONG, per_row=LONG, payload=b"abc")
+    """Requests with one huge option each, with some that don't meet in a call, and with columns of each width around numbers that
+    are padded to each."""
+    some, product = Request(width=LONG, pad_length=LONG, per_row=LONG, payload=b"abc"), itertools.product
+    aligns, widths = (0, 1, 2), (65, 1000, LONG, *HUGE)
     for number in (LONG, *HUGE):
-        for align in (0, 1, 2):
-            for fill in " *\u20ac":
-                yield some._replace(width=number, align=align, fill=ord(fill))
-        for pad in (32, 48, 127):
-            for prefix in (0, 1):
-                yield some._replace(pad_length=number, pad=pad, prefix=prefix)
-        for width in (65, 1000, LONG, *HUGE):
-            for align in (0, 1, 2):
-                yield some._replace(pad_length=number, width=width, align=align)
-        for group in (0, 1, LONG, *HUGE):
-            for offset in (0, 0xFFFFFFFF, 2**32):
-                yield some._replace(per_row=number, group=group, offset=offset)
+        yield from (some._replace(width=number, align=align, fill=ord(fill)) for align, fill in product(aligns, " *\u20ac"))
+        yield from (some._replace(pad_length=number, pad=pad, prefix=prefix) for pad, prefix in product((32, 48, 127), (0, 1)))
+        yield from (some._replace(pad_length=number, width=width, align=align) for width, align in product(widths, aligns))
+        yield from (some._replace(per_row=number, group=group, offset=offset)
+                    for group, offset in product((0, 1, LONG, *HUGE), (0, 0xFFFFFFFF, 2**32)))
 
 
 class Asker:
@@ -47,11 +40,10 @@ class Asker:
             width, choice((0, 1, 2)), ord(choice((" ", choice(FILLS)))),
             choice((0, 1)), choice((48, 32, choice(range(128)))), choice(BOUNDS), choice((0, 1)),
             per_row, choice((0, 1, 2, 3, 4, 16, choice(BOUNDS))), choice(OFFSETS), choice((0, 1, 1)), payload,
-        )
+        ).data()
 
     def text(self, length):
-        kind = self.random.choice(KINDS)
-        return (kind * length)[:length].encode()
+        return (self.random.choice(KINDS) * length)[:length].encode()
 
     def number(self):
         """A number of some count of digits, or one near a bound of a type."""
@@ -63,17 +55,13 @@ class Asker:
 
 
 def made(seed):
-    """Requests of each two of the bounds as the width of a column and the length of a text, and as the length of a row
-    and that of what is dumped."""
+    """Requests of each two of the bounds as the width of a column and the length of a text, and as the length of a row and that
+    of what is dumped."""
     asker = Asker(seed)
-    for place, width in enumerate(BOUNDS):
-        for other, length in enumerate(BOUNDS):
-            per_row = BOUNDS[(place + other) % len(BOUNDS)]
-            yield asker.request(width, per_row, asker.text(length)).data()
-            yield asker.request(min(width, 130), asker.random.randrange(1, 41), asker.number()).data()
-            yield asker.request(0, per_row, asker.random.randbytes(length)).data()
-    for width in (32, 64):
-        for bits in floats.edges(width):
-            yield asker.request(1, 1, str(bits).encode()).data()
-    for length in (20_000, 70_000):
-        yield asker.request(length, length, asker.text(length)).data()
+    for (place, width), (other, length) in itertools.product(enumerate(BOUNDS), repeat=2):
+        per_row = BOUNDS[(place + other) % len(BOUNDS)]
+        yield asker.request(width, per_row, asker.text(length))
+        yield asker.request(min(width, 130), asker.random.randrange(1, 41), asker.number())
+        yield asker.request(0, per_row, asker.random.randbytes(length))
+    yield from (asker.request(1, 1, str(bits).encode()) for width in (32, 64) for bits in floats.edges(width))
+    yield from (asker.request(length, length, asker.text(length)) for length in (20_000, 70_000))

@@ -1,15 +1,15 @@
-"""How much each call may take of steps and of memory, by what a text has. Steps are by tools/data/costs/bytes.txt."""
+"""How much each call may take of steps and of memory, by what a text has. Steps are by tools/data/costs/bytes.txt, and by the
+factor of tools/lib/measures.py."""
 from typing import NamedTuple
 
 from lib import data
+from lib.measures import FACTOR
 from lib.model.features import DEBUG_DOC, DOC, Features, indentation
 
 TABLES = {part: {name: tuple(map(float, counts.split())) for name, counts in (row.split(" => ") for row in rows)}
           for part, rows in data.parts("costs/bytes.txt").items()}
 REQUESTED, DEBUG = TABLES["requests"], TABLES["debug calls"]["more"]
-# A byte of a leaf or a name that only debug documents have takes so much more than one of a word; and what a piece of one takes, and another quote
-# in a leaf in quotes.
-DEBUG_BYTE, PIECE, OTHER_QUOTE = 14, 75, 40
+DEBUG_BYTE, PIECE, OTHER_QUOTE = (count for count, in TABLES["debug leaves"].values())
 
 
 def total(*rows):
@@ -21,17 +21,13 @@ STEPS.update({"debug " + call: total(STEPS[call], DEBUG) for call in ("is_text",
 STEPS["debug is_debug"] = total(STEPS["is_token"], DEBUG)
 # A call that reads a text and then does another thing takes what both take.
 STEPS["read_field"] = total(STEPS["read"], STEPS["leaf_text"], STEPS["field_text"])
-# It may take so many times the steps, more than by a table of what was measured, since these numbers fit texts of any shape. If a step takes more
-# nanoseconds, on long texts, then steps are counted: steps that grow in another order are far beyond. Spaces of indentation are compared and
-# written several at once, and a text may be nearly all indentation, so of these steps it may take fewer more.
-MOST_STEPS = 1.8
-MOST_INDENTATION = 1.3
+# If a step takes more nanoseconds, on long texts, then steps are counted: steps that grow in another order are far beyond.
 NANOSECONDS = 3
 
 
 class Case(NamedTuple):
-    """What is known of a call's text: its features, its length in bytes, that of the text in the other mode, that of a
-    quoted text of it, and the bytes of indentation of the first two."""
+    """What is known of a call's text: its features, its length in bytes, that of the text in the other mode, that of a quoted
+    text of it, and the bytes of indentation of the first two."""
 
     features: Features
     length: int
@@ -54,16 +50,11 @@ def steps(call, case):
     found = case.features
     indents = case.indentation, case.other_indentation
     has = (1, *found[:9], case.others(case.length - indents[0]), case.others(case.other - indents[1]), *indents)
-    taken = [each * count for each, count in zip(STEPS[call], has)]
-    return int(MOST_STEPS * (sum(taken[:-2]) + debug_leaf_steps(call, found)) + MOST_INDENTATION * sum(taken[-2:]))
-
-
-def debug_leaf_steps(call, found):
-    """What a call on debug texts takes for leaves and names that only debug documents have, and for other quotes."""
-    if not call.startswith("debug "):
-        return 0
-    word_byte = STEPS[call][1]
-    return (word_byte + DEBUG_BYTE) * found.debug + PIECE * found.pieces + OTHER_QUOTE * found.other_quotes
+    taken = sum(each * count for each, count in zip(STEPS[call], has))
+    if call.startswith("debug "):
+        # For leaves and names that only debug documents have, and for other quotes.
+        taken += (STEPS[call][1] + DEBUG_BYTE) * found.debug + PIECE * found.pieces + OTHER_QUOTE * found.other_quotes
+    return int(FACTOR * taken)
 
 
 class Memory(NamedTuple):
@@ -77,13 +68,12 @@ class Memory(NamedTuple):
 
     def then(self, other):
         """Both, the second while the first is held."""
-        return Memory(*(one + another for one, another in zip(self, other)))
+        return Memory(*map(sum, zip(self, other)))
 
     def dropped(self):
         return self._replace(held=0)
 
 
-NOTHING = Memory()
 # How long a text is at most for which a conversion reserves memory at once.
 RESERVED = 1024
 # What an open block takes: its name, its entries, and the key that waits.
@@ -158,4 +148,4 @@ def memory(call, case):
         "Doc::text": text(case.quoted),
         "Doc::character": text(12),
     }
-    return made.get(call.removeprefix("debug "), NOTHING)
+    return made.get(call.removeprefix("debug "), Memory())

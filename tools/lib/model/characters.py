@@ -1,6 +1,6 @@
 """Characters of each class, byte order marks and other encodings, in each place of a text."""
 from lib import data
-from lib.model.document import Block, plain, pretty, quoted
+from lib.model.document import Block, list_of, plain, pretty, quoted
 
 TABLES = data.parts("texts/characters.txt")
 ENDS = [int(end, 16) for row in TABLES["ends"] for ends in row.split() for end in ends.split("-")]
@@ -10,7 +10,7 @@ PLANES = range(17)
 MARK = "\ufeff"
 ENCODINGS = ("utf-16-le", "utf-16-be", "utf-16", "utf-32-le", "utf-32-be", "utf-32")
 SAMPLES = ('[x, "y"]', '[\n    x,\n    "y",\n]', "Node { value: 1 }", "x", '"x"', "'x'", "()", "{a: (1,)}")
-# How many characters of a plane are in one text.
+# How many characters are in one text.
 CHARACTERS_EACH = 32_768
 
 
@@ -37,12 +37,12 @@ def any_character(random):
 
 def placed(character):
     """Texts with the character first, in the middle and last, between quotes and without them."""
-    row = [quoted(text) for text in (character, character + "a", "a" + character, "a" + character + "a")]
-    row += [quoted(character, "'"), quoted(2 * character + "a"), quoted("a" + 2 * character)]
+    words = character, character + "a", "a" + character, "a" + character + "a"
+    row = [*map(quoted, words), quoted(character, "'"), quoted(2 * character + "a"), quoted("a" + 2 * character)]
     document = Block("struct", "S", [("f%d" % number, leaf) for number, leaf in enumerate(row)])
-    keyed = Block("map", "", [(leaf, Block("list", "", [(None, leaf)])) for leaf in row])
+    keyed = Block("map", "", [(leaf, list_of(leaf)) for leaf in row])
     yield from (plain(document), pretty(keyed), quoted(character), quoted(character, "'"))
-    for word in (character, character + "a", "a" + character, "a" + character + "a"):
+    for word in words:
         yield from (word, "[%s]" % word, word + "(1)", "S { %s: 1 }" % word, '"%s"' % word, "'%s'" % word)
     for sample in SAMPLES[:3]:
         yield from (character + sample, sample + character)
@@ -54,12 +54,8 @@ def marked():
     """Byte order marks before, in and after texts, and texts in other encodings."""
     for sample in SAMPLES:
         for mark in (MARK, 2 * MARK, "\ufffe", "\x00", "\u2060", "\u200e"):
-            yield (mark + sample).encode()
-            yield (sample + mark).encode()
-            yield (sample[:1] + mark + sample[1:]).encode()
-        for encoding in ENCODINGS:
-            yield sample.encode(encoding)
-            yield (MARK + sample).encode(encoding)
+            yield from (text.encode() for text in (mark + sample, sample + mark, sample[:1] + mark + sample[1:]))
+        yield from (text.encode(encoding) for encoding in ENCODINGS for text in (sample, MARK + sample))
         yield sample.encode("utf-16-le")[:-1]
         yield "".join(character + "\x00" for character in sample).encode()
         yield sample.encode() + b"\x00\x00\x00"
@@ -73,28 +69,19 @@ def no_utf_8():
             yield before + wrong + after
 
 
-def planes():
-    """Each character there is, in quotes."""
-    for plane in PLANES:
-        for start in range(plane << 16, (plane + 1) << 16, CHARACTERS_EACH):
-            yield quoted("".join(map(chr, filter(is_scalar, range(start, start + CHARACTERS_EACH)))))
+def scalars(each):
+    """Each character there is, so many in a row."""
+    rows = ([*map(chr, filter(is_scalar, range(start, start + each)))] for start in range(0, 0x110000, each))
+    return filter(None, rows)
 
 
 def each_by_itself():
     """Each character there is in apostrophes, in lists."""
-    for start in range(0, 0x110000, 4096):
-        row = [(None, quoted(chr(code), "'")) for code in range(start, start + 4096) if is_scalar(code)]
-        if row:
-            yield plain(Block("list", "", row))
+    return (plain(list_of(*(quoted(character, "'") for character in row))) for row in scalars(4096))
 
 
 def texts():
-    seen = set()
-    for code in CODES:
-        for text in placed(chr(code)):
-            if text not in seen:
-                seen.add(text)
-                yield text.encode()
+    yield from map(str.encode, dict.fromkeys(text for code in CODES for text in placed(chr(code))))
     yield from marked()
     yield from no_utf_8()
-    yield from (text.encode() for text in planes())
+    yield from (quoted("".join(row)).encode() for row in scalars(CHARACTERS_EACH))

@@ -2,28 +2,24 @@
 from concurrent.futures import ThreadPoolExecutor
 from typing import NamedTuple
 
-from lib import findings
+from lib import findings, measures
 from lib.log_model import log_model
 from lib.model import bounds, shapes
-from lib.model.costs import SECONDS, rough
+from lib.model.costs import MEASURED, SECONDS, rough
 from lib.model.features import features, indentation
 from lib.model.document import list_of, plain, pretty
 
-# A text has a document of each shape, of so many bytes or of some times that. Steps are not counted of texts that have
-# more bytes besides their indentation.
-COUNTED_SIZE = 512
-MOST_COUNTED = 128 * 1024
+# A text has a document of each shape, of so many bytes or of some times that. Steps are not counted of texts that have more bytes
+# besides their indentation.
+COUNTED_SIZE, MOST_COUNTED = 512, 128 * 1024
 # What a run takes before it reads: a chunk of 64 KiB is made, byte by byte.
 START_STEPS, START_BYTES, CHUNK = 1_200_000, 70_000, 64 * 1024
-# Each command's steps for a byte of its input, and of a line of it, besides those of its conversion. A byte of
-# indentation costs fewer: when it is read, and when it is looked at for the end of its line too.
+# Each command's steps for a byte of its input, and of a line of it, besides those of its conversion. A byte of indentation costs
+# fewer: when it is read, and when it is looked at for the end of its line too.
 BYTE_STEPS, LINE_STEPS = 40, 600
 READ_INDENTATION, SPLIT_INDENTATION = 1, 17
-# What a read of few bytes takes more, for each command: half as many steps again as were measured. It goes over these bytes, and not over a
-# chunk or what was read before.
+# So many reads of few bytes are counted. A read goes over these bytes, and not over a chunk or what was read before.
 READ_BYTES, READS = 10, 2000
-READ_STEPS = {"ufmt_conv pretty": 50, "ufmt_lines": 580, "ufmt_lines --plain": 320, "ufmt_lines, a long line": 250, "ufmt_lines --plain, a long line": 250,
-              "ufmt_lines --plain, a long group": 240}
 # What is before the text of a line, as in a log.
 STAMP = "12:00: "
 
@@ -37,10 +33,6 @@ class Run(NamedTuple):
     case: bounds.Case
 
 
-def one_of_each(size):
-    return list_of(*(make(size) for make in shapes.documents().values()))
-
-
 def document_runs(name, document):
     found = features(document)
     texts = plain(document), pretty(document)
@@ -48,23 +40,20 @@ def document_runs(name, document):
     yield Run(name, "plain", texts[1].encode(), bounds.case_of(found, *texts[::-1]))
 
 
-def lengths_run(name, data):
-    case = bounds.Case(rough(""), len(data), 8 * data.count(b"\n") + 30, indentation=indentation(data.decode()))
-    return Run(name, "lengths", data, case)
-
-
 def runs():
     made = shapes.documents()
-    yield from document_runs("a list of each shape", one_of_each(COUNTED_SIZE))
-    yield from document_runs("a long list of each shape", one_of_each(32 * COUNTED_SIZE))
+    few, many = (list_of(*(make(size) for make in made.values())) for size in (COUNTED_SIZE, 32 * COUNTED_SIZE))
+    yield from document_runs("a list of each shape", few)
+    yield from document_runs("a long list of each shape", many)
     for name in ("a wide list of an empty map", "a wide list of letters", "a text of all kinds"):
         yield from document_runs(name, made[name](16 * COUNTED_SIZE))
     for name in ("a deep list of letters", "a deep list, of a list each"):
         yield from document_runs(name, made[name](128 * COUNTED_SIZE))
-    yield lengths_run("short lines", pretty(one_of_each(COUNTED_SIZE)).encode())
-    yield lengths_run("empty lines", b"\n" * 16 * COUNTED_SIZE)
-    yield lengths_run("one line", b"x" * 64 * COUNTED_SIZE)
-    yield lengths_run("many lines", b"x\n" * 1024 * COUNTED_SIZE)
+    of_lengths = {"short lines": pretty(few), "empty lines": "\n" * 16 * COUNTED_SIZE, "one line": "x" * 64 * COUNTED_SIZE,
+                  "many lines": "x\n" * 1024 * COUNTED_SIZE}
+    for name, text in of_lengths.items():
+        case = bounds.Case(rough(""), len(text.encode()), 8 * text.count("\n") + 30, indentation=indentation(text))
+        yield Run(name, "lengths", text.encode(), case)
 
 
 def run_steps(run):
@@ -81,11 +70,9 @@ def byte_steps(data, case, of_indentation):
 
 def run_memory(run):
     """The input, the output, and for lengths a number for each line, each of which grows."""
-    grown = [bounds.text(len(run.data)), bounds.text(run.case.other, bounds.RESERVED), bounds.text(8 * run.data.count(b"\n"), 32)]
-    taken = bounds.Memory(allocations=5, bytes=START_BYTES, growths=2, most=START_BYTES)
-    for one in grown:
-        taken = taken.then(one)
-    return taken._replace(held=0)
+    start = bounds.Memory(allocations=5, bytes=START_BYTES, growths=2, most=START_BYTES)
+    output, numbers = bounds.text(run.case.other, bounds.RESERVED), bounds.text(8 * run.data.count(b"\n"), 32)
+    return start.then(bounds.text(len(run.data))).then(output).then(numbers).dropped()
 
 
 def past_steps(name, most, steps):
@@ -106,14 +93,7 @@ def run_faults(counter, program, run):
 def conv_faults(counter, program):
     """The faults of all runs of ufmt_conv, and how many runs were counted."""
     made = list(runs())
-    return [fault for run in made for fault in run_faults(counter, program, run)], len(made)
-
-
-def read_steps(counter, arguments, name, data):
-    """What each read takes more, if a read takes few bytes."""
-    few = counter.steps(arguments, data, name, seconds=SECONDS, most_read=READ_BYTES)[0]
-    whole = counter.steps(arguments, data, name, seconds=SECONDS)[0]
-    return (few - whole) // (len(data) // READ_BYTES)
+    return sum((run_faults(counter, program, run) for run in made), []), len(made)
 
 
 def short_reads(programs):
@@ -126,13 +106,20 @@ def short_reads(programs):
     yield "ufmt_lines --plain, a long group", [logs, "--plain"], b"[\n" + b"    word,\n" * READS + b"]\n"
 
 
+def read_steps(counter, programs):
+    """What runs take more in which each read takes few bytes: a row for each."""
+    rows = {}
+    for name, words, data in short_reads(programs):
+        few = counter.steps(words, data, "short reads, " + name, seconds=SECONDS, most_read=READ_BYTES)[0]
+        whole = counter.steps(words, data, "short reads, " + name, seconds=SECONDS)[0]
+        rows["%d reads of %d bytes, %s" % (READS, READ_BYTES, name)] = [("steps", few - whole)]
+    return rows
+
+
 def short_read_faults(counter, programs):
     """The faults of runs in which each read takes few bytes, and how many were counted."""
-    if not counter.valgrind:
-        return [], 0
-    found = {name: read_steps(counter, words, "short reads, " + name, data) for name, words, data in short_reads(programs)}
-    return [findings.most("%s, a read of %d bytes" % (name, READ_BYTES), READ_STEPS[name], steps, "steps more")
-            for name, steps in found.items() if steps > READ_STEPS[name]], len(found)
+    found = read_steps(counter, programs) if counter.valgrind else {}
+    return list(measures.Table(MEASURED).faults(found, is_whole=False)), len(found)
 
 
 class LogGroup(NamedTuple):
@@ -145,36 +132,31 @@ class LogGroup(NamedTuple):
 
 
 def lines(is_plain):
-    """A group for each shape."""
+    """A group for each shape, with its values in the other mode by the model of logs."""
+    mode = "plain" if is_plain else "pretty"
     for name, make in {**shapes.documents(), **shapes.debug_documents()}.items():
         document = make(4 * COUNTED_SIZE)
-        texts = plain(document), pretty(document)
-        text, other = texts[::-1] if is_plain else texts
-        yield LogGroup(name, STAMP + text, output_of(STAMP + text, is_plain), bounds.case_of(features(document), text, other))
+        text, other = (pretty(document), plain(document)) if is_plain else (plain(document), pretty(document))
+        output = log_model.output(mode, (STAMP + text).encode()).decode()
+        yield LogGroup(name, STAMP + text, output, bounds.case_of(features(document), text, other))
     for name, make in shapes.no_texts().items():
         text = STAMP + make(4 * COUNTED_SIZE)
         # A line that ends with a bracket isn't the last of its group. Only with `--plain` a group has several lines.
         if text[-1] not in "[\n" and (is_plain or "\n" not in text):
-            output = output_of(text, is_plain)
+            output = log_model.output(mode, text.encode()).decode()
             yield LogGroup(name, text, output, bounds.case_of(rough(text), text, output))
 
 
-def output_of(group, is_plain):
-    """The group with its values in the other mode, by the model of logs."""
-    return log_model.output("plain" if is_plain else "pretty", group.encode()).decode()
-
-
 def line_steps(line):
-    """A text is scanned, and then converted. Each byte is copied, and looked at for the end of its line. A bracket at which no value
-    begins takes no more."""
-    scanned = bounds.steps("debug is_text", line.case) + bounds.steps("debug convert into", line.case)
-    copied = byte_steps(line.group, line.case, SPLIT_INDENTATION)
-    return scanned + copied + LINE_STEPS * (2 + line.group.count("\n"))
+    """A text is scanned, and then converted. Each byte is copied, and looked at for the end of its line. A bracket at which no
+    value begins takes no more."""
+    made = bounds.steps("debug is_text", line.case) + bounds.steps("debug convert into", line.case)
+    return made + byte_steps(line.group, line.case, SPLIT_INDENTATION) + LINE_STEPS * (2 + line.group.count("\n"))
 
 
 def line_faults(counter, program, is_plain):
-    """The faults of runs of ufmt_lines on a log of all shapes, on each group by itself and on the short groups in turn, and how many
-    groups were counted."""
+    """The faults of runs of ufmt_lines on a log of all shapes, on each group by itself and on the short groups in turn, and how
+    many groups were counted."""
     arguments, name = [program] + ["--plain"] * is_plain, "ufmt_lines --plain" if is_plain else "ufmt_lines"
     log = list(lines(is_plain))
     data = "".join(line.group + "\n" for line in log).encode()
@@ -207,21 +189,17 @@ def one_line_faults(counter, arguments, name, line):
     wrong = findings.over(line.name, counts[0], line_memory(line))
     if wrong or not counter.valgrind or not is_long(line):
         return [wrong] if wrong else []
-    return line_steps_faults(line, counter.steps(arguments, data, name, seconds=SECONDS)[0])
+    return past_steps(line.name, line_steps(line) + START_STEPS, counter.steps(arguments, data, name, seconds=SECONDS)[0])
 
 
 def short_line_faults(counter, arguments, name, log):
-    """What is wrong with the steps of short groups. One run reads them one by one: the outputs of those that have ended are written before
-    more is read. To the steps of each are added those of the start."""
+    """What is wrong with the steps of short groups. One run reads them one by one: the outputs of those that have ended are
+    written before more is read. To the steps of each are added those of the start."""
     parts = [(line.group + "\n").encode() for line in log]
     start, *steps, _after = counter.steps(arguments, b"".join(parts), name + ", in turn", seconds=SECONDS, parts=list(map(len, parts)))
     if len(steps) != len(log):
         return [findings.case("the steps of short groups", len(log), len(steps))]
-    return [fault for line, taken in zip(log, steps) for fault in line_steps_faults(line, start + taken)]
-
-
-def line_steps_faults(line, steps):
-    return past_steps(line.name, line_steps(line) + START_STEPS, steps)
+    return sum((past_steps(line.name, line_steps(line) + START_STEPS, start + taken) for line, taken in zip(log, steps)), [])
 
 
 def line_memory(line):

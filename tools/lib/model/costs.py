@@ -1,18 +1,21 @@
-"""Compares what each call takes of memory and steps with its bounds, on a text of each shape."""
+"""Compares what each call takes of memory and steps with its bounds, on a text of each shape.
+
+What calls took is in tools/data/measured/texts.txt too: the steps of each call of the proved program that `rt ci` leaves
+(tools/lib/measures.py). Without that table only the bounds of bounds.py hold.
+"""
 from typing import NamedTuple
 
 from lib import findings, measures
 from lib.model import asked, bounds, shapes
 from lib.model.document import plain, pretty
 from lib.model.features import DOC, Features, features, indentation, past_ascii
-from lib.model.reading import DEBUG, PlainReader, PrettyReader
+from lib.model.reading import MODES, PRINTERS, READERS
 
 # Of texts whose steps are counted, and of those whose memory is. Of these, steps are counted where a call was slow.
 COUNTED_SIZE, TIMED_SIZE = 4 * 1024, 64 * 1024
 # Texts are counted side by side in so many parts.
 PARTS = 4
 SECONDS = 600
-# What calls took when they were measured. Without it, only the bounds of bounds.py hold.
 MEASURED = "texts"
 # And so many for all requests: they take less than one, and with the steps counted less than ten.
 REQUEST_SECONDS = 30
@@ -20,8 +23,6 @@ REQUEST_SECONDS = 30
 SMALL = 64
 # A call of so many nanoseconds is quick.
 SOME_TIME = 10_000_000
-# The readers of debug texts, and what prints their documents in the other mode.
-DEBUG_MODES = {"plain": (PlainReader(DEBUG), pretty), "pretty": (PrettyReader(DEBUG), plain)}
 
 
 class Sample(NamedTuple):
@@ -55,38 +56,40 @@ def no_text_case(text, other=""):
 
 def debug_case(text, mode):
     """What is known of a text that is no token text: it may be a debug text."""
-    reader, other = DEBUG_MODES[mode]
-    document = reader.read(text)
-    return no_text_case(text) if document is None else bounds.case_of(features(document), text, other(document))
+    document = READERS[mode, "debug"].read(text)
+    return no_text_case(text) if document is None else bounds.case_of(features(document), text, PRINTERS[mode](document))
 
 
 def sample(name, text, cases=None, other=""):
     """A text, and its case in each mode if it is a token text. If it is a debug text, the other mode has the other text."""
-    known = dict(cases or {mode: no_text_case(text, other) for mode in DEBUG_MODES}, leaf=leaf_case(text))
-    known.update({"debug " + mode: cases[mode] if cases else debug_case(text, mode) for mode in DEBUG_MODES})
+    known = dict(cases or {mode: no_text_case(text, other) for mode in MODES}, leaf=leaf_case(text))
+    known.update({"debug " + mode: cases[mode] if cases else debug_case(text, mode) for mode in MODES})
     return Sample(name, text.encode(), known)
+
+
+def part_of(shapes_of_kind, size, number):
+    """The names of one part of these shapes, each with what it makes of this size."""
+    return [(name, make(size)) for name, make in list(shapes_of_kind.items())[number::PARTS]]
 
 
 def samples(size, number):
     """The texts of one part: both texts of each document, and texts of none."""
-    for name, make in list(shapes.documents().items())[number::PARTS]:
-        document = make(size)
+    for name, document in part_of(shapes.documents(), size, number):
         found, texts = features(document), (plain(document), pretty(document))
         cases = {"plain": bounds.case_of(found, *texts), "pretty": bounds.case_of(found, *texts[::-1])}
-        yield from (sample("%s, %s" % (name, mode), text, cases) for mode, text in zip(DEBUG_MODES, texts))
-    for name, make in list(shapes.debug_documents().items())[number::PARTS]:
-        document = make(size)
+        yield from (sample("%s, %s" % (name, mode), text, cases) for mode, text in zip(MODES, texts))
+    for name, document in part_of(shapes.debug_documents(), size, number):
         texts = plain(document), pretty(document)
         # A leaf has one text.
-        yield from (sample("%s, %s" % (name, mode), text, other=other) for mode, text, other in zip(DEBUG_MODES, dict.fromkeys(texts), texts[::-1]))
-    for name, make in list(shapes.no_texts().items())[number::PARTS]:
-        yield sample(name, make(size))
+        for mode, text, other in zip(MODES, dict.fromkeys(texts), texts[::-1]):
+            yield sample("%s, %s" % (name, mode), text, other=other)
+    yield from (sample(name, text) for name, text in part_of(shapes.no_texts(), size, number))
 
 
-def request_sample(request):
-    """A request, and what is known of its calls: the length of the buffer and of the payload."""
-    length = SMALL + len(request.payload)
-    return Sample("the request %s" % (tuple(request),), request.data(), {"request": bounds.Case(Features(), length, 0)})
+def requested():
+    """Requests with huge options, and what is known of their calls: the length of the buffer and of the payload."""
+    cases = ((one, bounds.Case(Features(), SMALL + len(one.payload), 0)) for one in asked.huge())
+    return [Sample("the request %s" % (tuple(one),), one.data(), {"request": case}) for one, case in cases]
 
 
 def calls_of(line):
@@ -94,8 +97,7 @@ def calls_of(line):
     for half in line.split("; "):
         name, _, calls = half.partition(": ")
         kind = "debug " if name.startswith("debug ") else ""
-        for call in calls.split(", ")[:-1]:
-            yield name, kind + call.rpartition(" ")[0]
+        yield from ((name, kind + call.rpartition(" ")[0]) for call in calls.split(", ")[:-1])
 
 
 def memory_fault(name, call, case, counts):
@@ -113,69 +115,52 @@ def steps_fault(name, call, case, steps):
     return findings.most(name, most, steps, "steps") if steps > most else None
 
 
-class Run(NamedTuple):
-    """A run of the program that makes each call on these texts: its lines, and what was counted of each call."""
+class Run:
+    """A run of the program that makes each call on these texts, with what was counted of each call: steps, or memory."""
 
-    texts: list
-    lines: list
-    counts: list
+    def __init__(self, counter, program, texts, name, is_counted, seconds):
+        data = b"".join(b"%d\n%s" % (len(one.data), one.data) for one in texts)
+        output, counts = counter.run([program, "costs"], data, name, seconds=seconds)
+        self.texts, self.lines = texts, output.decode().splitlines()
+        self.counts = counter.steps([program, "costs"], data, name, seconds=seconds) if is_counted else counts
 
     def calls(self):
-        """Each call: its text, its line, the half that it is in, its name, and its counts."""
-        counted = iter(self.counts)
-        return [(one, line, half, call, next(counted)) for one, line in zip(self.texts, self.lines) for half, call in calls_of(line)]
+        """Each call: its text, the half of the line that it is in, its name, and its counts."""
+        made = ((one, half, call) for one, line in zip(self.texts, self.lines) for half, call in calls_of(line))
+        return [(*each, counts) for each, counts in zip(made, self.counts)]
 
     def faults(self, fault):
-        """The text and the line of each call with which something is wrong, and what `fault` says of it."""
-        found = ((one, line, fault("%s of %s, %s" % (call, one.name, half), call, one.cases[half], counts))
-                 for one, line, half, call, counts in self.calls())
-        return [(one, line, wrong) for one, line, wrong in found if wrong]
+        """The text of each call with which something is wrong, and what `fault` says of it."""
+        found = ((one, fault("%s of %s, %s" % (call, one.name, half), call, one.cases[half], counts))
+                 for one, half, call, counts in self.calls())
+        return [(one, wrong) for one, wrong in found if wrong]
 
     def rows(self):
         """The steps of each text's calls, a row for each half of a line. What the marks around a call take isn't in them."""
         around, rows = min(self.counts), {}
-        for one, _line, half, call, steps in self.calls():
+        for one, half, call, steps in self.calls():
             rows.setdefault("%s: %s" % (one.name, half), []).append(("%s: steps" % call, steps - around))
         return rows
 
 
-def run_of(counter, program, texts, name, is_counted, seconds):
-    """The run of the program on these texts, with steps or with memory."""
-    data = b"".join(b"%d\n%s" % (len(one.data), one.data) for one in texts)
-    output, counts = counter.run([program, "costs"], data, name, seconds=seconds)
-    return Run(texts, output.decode().splitlines(), counter.steps([program, "costs"], data, name, seconds=seconds) if is_counted else counts)
-
-
 def slow_faults(counter, program, run, name, seconds):
     """The faults of texts with a slow call: its steps decide, not the clock."""
-    slow = {one.name: one for one, _line, _is in run.faults(is_slow)}
+    slow = list({one.name: one for one, _ in run.faults(is_slow)}.values())
     if not slow or not counter.valgrind:
         return []
-    return [wrong for _, _, wrong in run_of(counter, program, list(slow.values()), "slow texts of " + name, True, seconds).faults(steps_fault)]
+    return [wrong for _, wrong in Run(counter, program, slow, "slow texts of " + name, True, seconds).faults(steps_fault)]
 
 
 def counted_faults(counter, program, texts, name, is_counted, seconds):
     """The faults of these texts, how many calls were counted, and the lines with the calls' results."""
-    run = run_of(counter, program, texts, "%s of %s" % ("steps" if is_counted else "memory", name), is_counted, seconds)
+    run = Run(counter, program, texts, "%s of %s" % ("steps" if is_counted else "memory", name), is_counted, seconds)
     made = sum(len(list(calls_of(line))) for line in run.lines)
     if len(run.lines) != len(texts) or len(run.counts) < made:
         return ["%d lines and %d counts of %d texts" % (len(run.lines), len(run.counts), len(texts))], made, []
-    wrong = [wrong for _, _, wrong in run.faults(steps_fault if is_counted else memory_fault)]
+    wrong = [wrong for _, wrong in run.faults(steps_fault if is_counted else memory_fault)]
     if is_counted and measures.Table(MEASURED).rows:
         wrong += measures.Table(MEASURED).faults(run.rows(), is_whole=False)
     return wrong + ([] if is_counted else slow_faults(counter, program, run, name, seconds)), made, run.lines
-
-
-def requested():
-    return list(map(request_sample, asked.huge()))
-
-
-def measured_rows(counter, program):
-    """The rows of all texts and requests."""
-    rows = {}
-    for texts in [*(list(samples(COUNTED_SIZE, number)) for number in range(PARTS)), requested()]:
-        rows.update(run_of(counter, program, texts, "measured", True, SECONDS).rows())
-    return rows
 
 
 def request_faults(counter, program, is_counted):
@@ -188,3 +173,11 @@ def part_faults(counter, program, number, is_counted):
     """The faults of one part of the texts, and how many calls were counted."""
     part = list(samples(COUNTED_SIZE if is_counted else TIMED_SIZE, number))
     return counted_faults(counter, program, part, "part %d" % number, is_counted, SECONDS)[:2]
+
+
+def measured_rows(counter, program):
+    """The rows of all texts and requests."""
+    rows = {}
+    for texts in [*(list(samples(COUNTED_SIZE, number)) for number in range(PARTS)), requested()]:
+        rows.update(Run(counter, program, texts, "measured", True, SECONDS).rows())
+    return rows

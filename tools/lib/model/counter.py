@@ -6,13 +6,23 @@ import shutil
 import subprocess
 from typing import NamedTuple, Optional
 
+from lib.top import TOP
+
 HERE = pathlib.Path(__file__).resolve().parent
 CALLGRIND = ("--tool=callgrind", "--combine-dumps=yes", "--zero-before=counts_begin", "--dump-before=counts_end")
 
 
+def programs_of(program):
+    """The built programs by their names: those that `rt ci` leaves, or a probe_model that is named, with those that the same
+    compiler made."""
+    program = pathlib.Path(program or TOP / "crates/probe_model/out/probe_model").resolve()
+    found = {name: TOP / "crates" / name / "out" / program.name.replace("probe_model", name) for name in ("ufmt_conv", "ufmt_lines")}
+    return dict(found, probe_model=program)
+
+
 class Counts(NamedTuple):
-    """What a call takes. `held` is what is held with its result, `most` what was held at once, and `left` how many
-    blocks were never freed, after the result was dropped."""
+    """What a call takes. `held` is what is held with its result, `most` what was held at once, and `left` how many blocks were
+    never freed, after the result was dropped."""
 
     allocations: int
     bytes: int
@@ -43,17 +53,16 @@ class Counter:
             subprocess.run(["cc", "-O2", "-shared", "-fPIC", "-o", self.library, HERE / "counter.c", "-ldl"], check=True)
 
     def run(self, arguments, data, name, seconds=None, refused=0):
-        """Runs a program, and returns its standard output and its counts: of the whole run, or of each call that it marks. Of each such call,
-        the allocation or growth of this number is refused, if it isn't 0."""
-        path = self.emptied(name, "counts")
-        output = self.ran(arguments, data, name, path, seconds, COUNTS_REFUSE=str(refused))
-        return output, counts_in(path)
+        """Runs a program, and returns its standard output and its counts: of the whole run, or of each call that it marks. Of
+        each such call, the allocation or growth of this number is refused, if it isn't 0."""
+        path = self.written(name, "counts")
+        return self.ran(arguments, data, name, path, seconds, COUNTS_REFUSE=refused), counts_in(path)
 
     def run_refused(self, arguments, data, name, number, seconds):
         """Runs a program, and returns how it ended. Of the whole run, the allocation or growth of this number is refused, if it isn't 0."""
-        path = self.emptied(name, "counts")
+        path = self.written(name, "counts")
         try:
-            ran = self.ended(arguments, data, name, path, seconds, COUNTS_REFUSE=str(number), COUNTS_REFUSE_OF="run")
+            ran = self.ended(arguments, data, name, path, seconds, COUNTS_REFUSE=number, COUNTS_REFUSE_OF="run")
         except subprocess.TimeoutExpired:
             return Ended(None, b"", b"", None)
         counts = counts_in(path)
@@ -63,9 +72,9 @@ class Counter:
     def steps(self, arguments, data, name, seconds=None, most_read=None, parts=()):
         """Runs a program with valgrind, and returns the steps of each part that it counts. A read takes at most so many bytes. If the
         input has parts of these sizes, the steps are those of the start and of each part, which a read doesn't go past."""
-        path = self.emptied(name, "steps")
+        path = self.written(name, "steps")
         asked = {"COUNTS_PARTS": " ".join(map(str, parts))} if parts else {}
-        asked.update({"COUNTS_READ": str(most_read)} if most_read is not None else {})
+        asked.update({"COUNTS_READ": most_read} if most_read is not None else {})
         self.ran([self.valgrind, *CALLGRIND, "--callgrind-out-file=%s" % path, *arguments], data, name, "/dev/null", seconds, **asked)
         steps = [int(found) for found in re.findall(rb"^summary: (\d+)", path.read_bytes(), re.M)]
         path.unlink()
@@ -81,20 +90,17 @@ class Counter:
     def ended(self, arguments, data, name, path, seconds, **asked):
         """Runs a program to its end, with the library before it, which is asked by these variables."""
         # A file is read in whole chunks, which a pipe isn't.
-        given = self.file(name, "input")
-        given.write_bytes(data)
+        given = self.written(name, "input", data)
+        asked = {key: str(value) for key, value in asked.items()}
         room = dict(os.environ, LD_PRELOAD=str(self.library), COUNTS=str(path), **asked)
         with open(given, "rb") as device:
             ran = subprocess.run([str(argument) for argument in arguments], stdin=device, capture_output=True, env=room, timeout=seconds)
         given.unlink()
         return ran
 
-    def file(self, name, kind):
-        return self.room / ("%s.%s" % (re.sub(r"\W", "-", name), kind))
-
-    def emptied(self, name, kind):
-        path = self.file(name, kind)
-        path.write_bytes(b"")
+    def written(self, name, kind, data=b""):
+        path = self.room / ("%s.%s" % (re.sub(r"\W", "-", name), kind))
+        path.write_bytes(data)
         return path
 
 

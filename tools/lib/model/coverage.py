@@ -2,13 +2,14 @@
 
 A cell is a tuple. It begins with the name of its table, and ends with the mode in which the text was read.
 """
+import itertools
+
 from lib.model import characters, debug_refused, types
 from lib.model.debug_leaves import SHAPES, shape
 from lib.model.features import is_of_tokens
 from lib.model.document import STRUCTS, Block, unquoted
-from lib.model.reading import is_debug_name
+from lib.model.reading import MODES, is_debug_name
 
-MODES = ("plain", "pretty")
 PLACES = ("entry of a list", "entry of a set", "key", "value", "field of a struct", "field of a tuple", "field without names")
 DEBUG_PLACES = (*PLACES, "field of an open struct")
 BLOCKS = ("list", "set", "map", "struct", "tuple", "unnamed")
@@ -29,33 +30,14 @@ PLACE_IN = {"list": "entry of a list", "set": "entry of a set", "map": "value", 
             "tuple": "field of a tuple", "unnamed": "field without names"}
 
 
-def power(number):
-    """The least power of two that is not below the number."""
-    return 1 << (number - 1).bit_length() if number > 0 else 0
+def power(number, exact=0):
+    """The least power of two that is not below the number. Up to a bound, the number itself."""
+    return 1 << (number - 1).bit_length() if number > exact else number
 
 
-def powers(last):
-    return [1 << exponent for exponent in range(last.bit_length())]
-
-
-def depth_class(depth):
-    return 255 if depth == 255 else power(depth)
-
-
-def length_class(length):
-    return length if length <= EXACT_LENGTH else power(length)
-
-
-def entries_class(count):
-    return MANY if count >= MANY else count if count <= EXACT_ENTRIES else power(count)
-
-
-def lengths(last):
-    return [*range(1, EXACT_LENGTH + 1), *(size for size in powers(last) if size > EXACT_LENGTH)]
-
-
-def counts(last):
-    return [*range(1, EXACT_ENTRIES + 1), *(size for size in powers(last) if size > EXACT_ENTRIES)]
+def powers(last, exact=0):
+    """The numbers up to the bound, and the powers of two above it."""
+    return [*range(1, exact + 1), *(1 << exponent for exponent in range(exact.bit_length(), last.bit_length()))]
 
 
 def kind_of(document):
@@ -87,33 +69,29 @@ class Walk:
             document, depth, place, outer = stack.pop()
             kind = kind_of(document)
             self.add("kind within kinds", outer, place, kind)
-            self.add("kind by depth", depth_class(depth), kind)
+            self.add("kind by depth", depth if depth == 255 else power(depth), kind)
             if isinstance(document, str):
                 self.leaf(document, kind)
                 continue
             count = len(document.entries)
-            self.add("entries", kind, entries_class(count))
-            self.names(document, kind)
+            self.add("entries", kind, MANY if count >= MANY else power(count, EXACT_ENTRIES))
+            self.add("length of a name", kind, power(len(document.name), EXACT_LENGTH))
             for number, (before, value) in enumerate(document.entries):
+                if document.kind in STRUCTS:
+                    self.add("length of a name", "field", power(len(before), EXACT_LENGTH))
                 for inner, inside in [(PLACE_IN[kind], value)] + [("key", before)] * (kind == "map"):
                     self.add("kind in a place", inner, position(number, count), kind_of(inside))
                     stack.append((inside, depth + 1, inner, place))
         return self.cells
 
-    def names(self, block, kind):
-        self.add("length of a name", kind, length_class(len(block.name)))
-        for name, _value in block.entries if block.kind in STRUCTS else ():
-            self.add("length of a name", "field", length_class(len(name)))
-
     def leaf(self, leaf, kind):
-        self.add("length of a leaf", kind, length_class(len(leaf)))
+        self.add("length of a leaf", kind, power(len(leaf), EXACT_LENGTH))
         if kind in DEBUG_LEAVES and len(shape(leaf)) <= NOTED_PIECES:
             self.add("shape of a leaf", shape(leaf))
         if kind == "character":
             self.add("character in apostrophes", ord(unquoted(leaf)))
         if kind == "text" and 2 < len(leaf) <= NOTED_LENGTH:
-            text = unquoted(leaf)
-            for number, character in enumerate(text):
+            for number, character in enumerate(text := unquoted(leaf)):
                 self.add("character in quotes", position(number, len(text)), ord(character))
 
 
@@ -129,19 +107,19 @@ def cells(data, document, mode, judged):
 
 def pairs(*lists):
     """Each choice of one of each list."""
-    return [(first, *rest) for first in lists[0] for rest in pairs(*lists[1:])] if lists else [()]
+    return list(itertools.product(*lists))
 
 
 def wanted():
     """The cells by their tables, without their modes."""
-    inner, only_debug = [0, *(depth for depth in DEPTHS if depth != 255)], DEBUG_LEAVES + OPEN_STRUCTS
+    inner, only_debug, of_length = (0, *DEPTHS[:-1]), DEBUG_LEAVES + OPEN_STRUCTS, powers(131072, EXACT_LENGTH)
     yield "kind in a place", pairs(PLACES, POSITIONS, BLOCKS + LEAVES) + pairs(DEBUG_PLACES, POSITIONS, only_debug)
     yield "kind in a place", pairs(("field of an open struct",), POSITIONS, BLOCKS + LEAVES)
     yield "kind within kinds", pairs(PLACES, PLACES, BLOCKS + LEAVES)
     yield "kind by depth", pairs(inner, BLOCKS + LEAVES + only_debug) + pairs((255,), (*LEAVES, *DEBUG_LEAVES, "empty open struct"))
-    yield "length of a leaf", pairs(("word", "debug word"), lengths(131072)) + pairs(("text", "quotes"), lengths(131072)[2:])
-    yield "length of a name", pairs(("struct", "tuple", "field", *OPEN_STRUCTS), lengths(4096))
-    yield "entries", pairs((*BLOCKS, "open struct"), counts(1024))
+    yield "length of a leaf", pairs(("word", "debug word"), of_length) + pairs(("text", "quotes"), of_length[2:])
+    yield "length of a name", pairs(("struct", "tuple", "field", *OPEN_STRUCTS), powers(4096, EXACT_LENGTH))
+    yield "entries", pairs((*BLOCKS, "open struct"), powers(1024, EXACT_ENTRIES))
     yield "shape of a leaf", pairs(SHAPES)
     yield "character in apostrophes", pairs(characters.CODES)
     yield "character in quotes", pairs(POSITIONS, characters.CODES)

@@ -27,45 +27,32 @@ PRINTED = tuple(map(data.text_of, data.parts("texts/pieces.txt")["printed"]))
 
 def letter_of(found):
     word, in_quotes, colons = found.groups()
-    if colons:
-        return "C"
-    if not (word or in_quotes):
-        return "L" if found[0] == "'" else "U"
     if in_quotes:
-        if QUOTED_TEXT.fullmatch(in_quotes):
-            return "t"
-        return "c" if QUOTED_CHARACTER.fullmatch(in_quotes) else "o"
-    if WORD.fullmatch(word):
-        return "w"
-    return "p" if word.isascii() else "u"
-
-
-def pieces(leaf):
-    """The pieces of a leaf after its start."""
-    start = START.match(leaf)
-    return list(PIECE.finditer(leaf, start.end() if start else 0))
+        return "t" if QUOTED_TEXT.fullmatch(in_quotes) else "c" if QUOTED_CHARACTER.fullmatch(in_quotes) else "o"
+    if word:
+        return "w" if WORD.fullmatch(word) else "p" if word.isascii() else "u"
+    return "C" if colons else "L" if found[0] == "'" else "U"
 
 
 def shape(leaf):
-    letter = "" if START.match(leaf) is None else "W" if leaf[0] == "(" else "A"
-    return letter + "".join(letter_of(found) for found in pieces(leaf))
+    start = START.match(leaf)
+    pieces = PIECE.finditer(leaf, start.end() if start else 0)
+    return ("" if start is None else "W" if leaf[0] == "(" else "A") + "".join(map(letter_of, pieces))
 
 
 def is_shape(letters):
     """Whether a leaf that only debug documents have can have this shape."""
     if letters in ("w", "t", "c", "U") or any(letter in STARTS for letter in letters[1:]):
         return False
-    if letters[0] == "A" and (len(letters) == 1 or letters[1] not in WORDS):
-        return False
     pairs = [*zip(letters, letters[1:] + " ")]
-    if any(a == LIFETIMES and b not in WORDS for a, b in pairs):
+    if any(a in "A" + LIFETIMES and b not in WORDS for a, b in pairs):
         return False
     return not any((a in WORDS and b in WORDS) or (b == COLONS and a in QUOTES + COLONS) for a, b in pairs)
 
 
 # All shapes of up to three pieces.
-ROWS = ("".join(letters) for count in (1, 2, 3) for letters in itertools.product(STARTS + WORDS + QUOTES + COLONS + UNITS + LIFETIMES, repeat=count))
-SHAPES = list(filter(is_shape, ROWS))
+LETTERS = STARTS + WORDS + QUOTES + COLONS + UNITS + LIFETIMES
+SHAPES = [row for count in (1, 2, 3) for row in map("".join, itertools.product(LETTERS, repeat=count)) if is_shape(row)]
 
 
 def is_in_word(character):
@@ -82,9 +69,7 @@ def joined(pieces):
             found = found[:-1] + "."
         if piece[0] == "'" and found[-2:-1] == "'" and found[-1] not in "\"'":
             found += "a"
-        if piece[0] == "\\" and found.endswith("'"):
-            piece = "." + piece[1:]
-        if found.startswith("[") and found.endswith("]:") and piece[0] == "\\":
+        if piece[0] == "\\" and (found.endswith("'") or (found.startswith("[") and found.endswith("]:"))):
             piece = "." + piece[1:]
         found += piece
     return found
@@ -134,10 +119,8 @@ class LeafMaker:
     def piece(self, letter, length):
         if letter in WORDS:
             return self.word(letter, length)
-        if letter == UNITS:
-            return "()"
-        if letter == LIFETIMES:
-            return "'"
+        if letter in UNITS + LIFETIMES:
+            return "()" if letter == UNITS else "'"
         if letter == "W":
             return "(" + self.word(self.random.choice(WORDS), length) + ")"
         if letter == "A":
@@ -155,13 +138,10 @@ class LeafMaker:
 
     def of_length(self, kind, length):
         """A leaf of so many characters: a word, or with quotes."""
-        if kind == "word":
-            return self.word("p", length)
-        return "b" + '"' + "x" * (length - 3) + '"'
+        return self.word("p", length) if kind == "word" else 'b"' + "x" * (length - 3) + '"'
 
     def name(self, length):
-        form = self.random.random()
-        if form < 0.5 or length < 4:
+        if self.random.random() < 0.5 or length < 4:
             return self.any_word(length)
         half = self.random.randrange(1, length - 2)
         return self.any_word(half) + ":" * self.random.choice((1, 2)) + self.any_word(max(length - half - 2, 1))

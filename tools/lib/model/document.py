@@ -11,8 +11,8 @@ INDENT = "    "
 class Block(NamedTuple):
     """A list, a set, a map, a struct, an open struct or a tuple. An open struct ends in two dots.
 
-    An entry is a pair: what is before the colon, and a document. Before the colon a map has a document, and
-    a struct of either kind has a name. The other kinds have None.
+    An entry is a pair: what is before the colon, and a document. Before the colon a map has a document, and a struct of either
+    kind has a name. The other kinds have None.
     """
 
     kind: str
@@ -28,87 +28,63 @@ def tuple_of(*values, name=""):
     return Block("tuple", name, [(None, value) for value in values])
 
 
-# ---- The layout of blocks. A row has what opens the block after its name, and what closes it.
+# ---- The layout of blocks: what opens a block after its name, and what closes it.
 
-PLAIN_FRAMES = {
-    "list": ("[", "]"),
-    "set": ("{", "}"),
-    "map": ("{", "}"),
-    "struct": (" { ", " }"),
-    "open struct": (" { ", ", .. }"),
-    "tuple": ("(", ")"),
-}
-PRETTY_FRAMES = {
-    "list": ("[\n", "]"),
-    "set": ("{\n", "}"),
-    "map": ("{\n", "}"),
-    "struct": (" {\n", "}"),
-    "open struct": (" {\n", "}"),
-    "tuple": ("(\n", ")"),
-}
+PLAIN_FRAMES = {"list": ("[", "]"), "set": ("{", "}"), "map": ("{", "}"), "tuple": ("(", ")"),
+                "struct": (" { ", " }"), "open struct": (" { ", ", .. }")}
+PRETTY_FRAMES = {"list": ("[\n", "]"), "set": ("{\n", "}"), "map": ("{\n", "}"), "tuple": ("(\n", ")"),
+                 "struct": (" {\n", "}"), "open struct": (" {\n", "}")}
 # The kinds of blocks with a name before each value.
 STRUCTS = ("struct", "open struct")
 # What a block without entries has after its name.
 EMPTY = {"list": "[]", "map": "{}", "open struct": " { .. }"}
-DOTS_LINE = "..\n"
 
 
 def plain(document):
     """The plain text. Entries have a comma and a space between them."""
-    out = []
-    add_plain(document, out)
-    return "".join(out)
+    return "".join(converted(document, False))
 
 
-def add_plain(document, out):
+def pretty(document, depth=0):
+    """The pretty text, in so many blocks. An entry begins on a line of its own, indented, and a comma comes after it, but none
+    after dots."""
+    return "".join(converted(document, True, depth))
+
+
+def is_single(block):
+    """Whether a comma comes after the only field in plain text."""
+    return block.kind == "tuple" and block.name == "" and len(block.entries) == 1
+
+
+def converted(document, is_pretty, depth=0, out=None):
+    """The pieces in which a conversion to this mode writes a document. See pieces.py."""
+    out = [] if out is None else out
     if isinstance(document, str):
         out.append(document)
-        return
+        return out
     kind, name, entries = document
+    out += [name] * (name != "")
     if not entries:
-        out.append(name + EMPTY[kind])
-        return
-    opening, closing = PLAIN_FRAMES[kind]
-    out.append(name + opening)
-    for number, (before, value) in enumerate(entries):
-        if number > 0:
-            out.append(", ")
-        if before is not None:
-            add_plain(before, out)
-            out.append(": ")
-        add_plain(value, out)
-    if kind == "tuple" and name == "" and len(entries) == 1:
-        out.append(",")
-    out.append(closing)
-
-
-def pretty(document):
-    """The pretty text. An entry begins on a line of its own, indented, and a comma comes after it, but none after dots."""
-    out = []
-    add_pretty(document, 0, out)
-    return "".join(out)
-
-
-def add_pretty(document, depth, out):
-    if isinstance(document, str):
-        out.append(document)
-        return
-    kind, name, entries = document
-    if not entries:
-        out.append(name + EMPTY[kind])
-        return
-    opening, closing = PRETTY_FRAMES[kind]
-    out.append(name + opening)
+        out.append(EMPTY[kind])
+        return out
+    opening, closing = (PRETTY_FRAMES if is_pretty else PLAIN_FRAMES)[kind]
+    indentation = INDENT * (depth + 1) if is_pretty else ""
+    separator = ",\n" + indentation if is_pretty else ", "
+    between = opening + indentation
     for before, value in entries:
-        out.append(INDENT * (depth + 1))
+        out.append(between)
+        between = separator
         if before is not None:
-            add_pretty(before, depth + 1, out)
+            converted(before, is_pretty, depth + 1, out)
             out.append(": ")
-        add_pretty(value, depth + 1, out)
-        out.append(",\n")
+        converted(value, is_pretty, depth + 1, out)
     if kind == "open struct":
-        out.append(INDENT * (depth + 1) + DOTS_LINE)
-    out.append(INDENT * depth + closing)
+        out.append(separator)
+    if is_pretty:
+        out += [(".." if kind == "open struct" else ",") + "\n" + INDENT * depth, closing]
+    else:
+        out.append(".. }" if kind == "open struct" else "," * is_single(document) + closing)
+    return out
 
 
 # ---- Quoted leaves. The first rule that fits a character is its only spelling.
@@ -117,11 +93,7 @@ def add_pretty(document, depth, out):
 def spelled(character, quote):
     """A character as it is written between these quotes."""
     short = {"\0": r"\0", "\t": r"\t", "\n": r"\n", "\r": r"\r", "\\": "\\\\", quote: "\\" + quote}
-    if character in short:
-        return short[character]
-    if character < " " or character == "\x7f":
-        return "\\u{%x}" % ord(character)
-    return character
+    return short.get(character) or ("\\u{%x}" % ord(character) if character < " " or character == "\x7f" else character)
 
 
 # How each ASCII character is written between these quotes. Every other character is written as it is.
@@ -146,13 +118,7 @@ def unquoted(leaf):
     if leaf[0] not in "\"'" or not (QUOTED_TEXT.fullmatch(leaf) or QUOTED_CHARACTER.fullmatch(leaf)):
         return None
     letters = {"0": "\0", "t": "\t", "n": "\n", "r": "\r"}
-
-    def decoded(found):
-        if found[1] is not None:
-            return chr(int(found[1], 16))
-        return letters.get(found[2], found[2])
-
-    return ESCAPE.sub(decoded, leaf[1:-1])
+    return ESCAPE.sub(lambda found: chr(int(found[1], 16)) if found[1] else letters.get(found[2], found[2]), leaf[1:-1])
 
 
 def depth_of(document):

@@ -9,10 +9,8 @@ from lib.model.document import DEEPEST, STRUCTS, Block, plain, pretty, quoted, t
 
 LETTERS = "abcxyzABCXYZ0189_-"
 # Characters of one to four bytes, the ends of these ranges, and characters that have an escape.
-CHARACTERS = (
-    "\0\t\n\r\\\"'\x01\x08\x0b\x0c\x0e\x1b\x1f\x7f aZ~,:[]{}()\u0080\u00e9\u07ff\u0800\u20ac\ud7ff\ue000\ufffd\uffff"
-    "\U00010000\U0001f980\U0010ffff"
-)
+CHARACTERS = ("\0\t\n\r\\\"'\x01\x08\x0b\x0c\x0e\x1b\x1f\x7f aZ~,:[]{}()\u0080\u00e9\u07ff\u0800\u20ac\ud7ff\ue000\ufffd\uffff"
+              "\U00010000\U0001f980\U0010ffff")
 # One character of each length in bytes, and one of each escape. The longest texts are made only of these.
 KINDS_OF_CHARACTERS = "a\u00e9\u20ac\U0001f980\0\t\n\r\\\"'\x01\x1b"
 # Entries of wide blocks.
@@ -60,11 +58,9 @@ class Maker:
 
     def characters(self, length):
         form = self.random.random()
-        if form < 0.3:
-            return "".join(self.random.choices("ab c,:", k=length))
-        if form < 0.5:
+        if 0.3 <= form < 0.5:
             return "".join(characters.any_character(self.random) for _ in range(length))
-        return "".join(self.random.choices(CHARACTERS, k=length))
+        return "".join(self.random.choices("ab c,:" if form < 0.3 else CHARACTERS, k=length))
 
     def text(self, length):
         return quoted(self.characters(length))
@@ -74,10 +70,8 @@ class Maker:
 
     def leaf(self):
         form = self.random.random()
-        if form < 0.45:
-            return self.word()
         if form < 0.55:
-            return "()"
+            return self.word() if form < 0.45 else "()"
         return self.text(self.up_to(self.longest) - 1) if form < 0.8 else self.character()
 
     def small(self):
@@ -104,9 +98,6 @@ class Maker:
         name = self.word() if kind == "tuple" else ""
         return Block("tuple" if kind == "unnamed" else kind, name, [(None, value) for value in values])
 
-    def kind(self):
-        return self.random.choice(self.kinds)
-
     def document(self):
         """A document of any size."""
         nodes = self.up_to(MOST_NODES)
@@ -117,7 +108,7 @@ class Maker:
         """A document of so many nodes. They are split among its entries at random, so that it is deep and wide."""
         if nodes <= 1 or depth == DEEPEST:
             return self.empty() if self.random.random() < 0.1 else self.leaf()
-        kind = self.kind()
+        kind = self.random.choice(self.kinds)
         shares = cuts(self.random, nodes - 1, self.up_to(nodes - 1))
         if kind != "map":
             return self.block(kind, [self.grown(share, depth + 1) for share in shares])
@@ -130,10 +121,8 @@ class Maker:
 
     def deeper(self, place, document):
         """A block that has the document in this place."""
-        if place == "key":
-            return Block("map", "", [(document, self.leaf())])
-        if place == "value":
-            return Block("map", "", [(self.leaf(), document)])
+        if place in ("key", "value"):
+            return Block("map", "", [(document, self.leaf()) if place == "key" else (self.leaf(), document)])
         if place == "last of two":
             return Block(self.random.choice(("list", "set")), "", [(None, self.leaf()), (None, document)])
         return tuple_of(document, self.leaf()) if place == "first of two" else self.block(place, [document])
@@ -186,10 +175,8 @@ class Maker:
     def noise(self):
         """Bytes that are most often no text, and can be long."""
         length, form = self.up_to(100_000), self.random.randrange(4)
-        if form == 0:
-            return self.characters(length).encode()
-        if form == 1:
-            return self.random.choice(self.pieces).encode() * length
+        if form < 2:
+            return self.random.choice(self.pieces).encode() * length if form else self.characters(length).encode()
         return b"\n".join(b"a" * self.random.randrange(9) for _ in range(length // 4)) if form == 2 else self.random.randbytes(length)
 
     def data(self):

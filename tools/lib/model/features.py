@@ -57,52 +57,33 @@ def is_of_tokens(leaf):
 OTHER_QUOTE = {'"': "'", "'": '"'}
 
 
-def of_leaf(leaf, add, times):
-    size = len(leaf.encode()) * times
+def of_leaf(leaf, times):
+    """What a leaf or a name has that is there so often."""
+    size, past, escapes = len(leaf.encode()), past_ascii(leaf), leaf.count("\\")
     pieces = [found[0] for found in PIECE.finditer(leaf)]
     others = sum(piece.count(OTHER_QUOTE[piece[0]]) for piece in pieces if piece[0] in OTHER_QUOTE)
-    add(other_quotes=others * times)
     if not is_of_tokens(leaf):
-        escapes, past = leaf.count("\\"), past_ascii(leaf)
-        add(debug=size, pieces=len(pieces) * times, past=past * times, escapes=escapes * times, bare=times)
-        return
-    if leaf[:1] not in OTHER_QUOTE:
-        add(words=size, bare=times)
-        return
-    escapes = leaf.replace("\\\\", "\\").count("\\")
-    texts = times if leaf[0] == '"' else 0
-    add(quoted=size, escapes=escapes * times, past=past_ascii(leaf) * times, texts=texts, characters=times - texts)
-
-
-def of_block(block, add):
-    """What a block has besides its keys and values."""
-    kind, name, entries = block
-    names = [name] * (name != "") + [before for before, _value in entries if kind in STRUCTS]
-    for text in names:
-        of_leaf(text, add, 1)
-    if entries:
-        each = {"map": PAIR, "struct": FIELD, "open struct": FIELD}.get(kind, DOC)
-        add(blocks=1, entry_bytes=each * len(entries))
+        found = Features(debug=size, pieces=len(pieces), past=past, escapes=escapes, bare=1)
+    elif leaf[:1] not in OTHER_QUOTE:
+        found = Features(words=size, bare=1)
     else:
-        add(empties=1)
+        escapes -= leaf.count("\\\\")
+        found = Features(quoted=size, escapes=escapes, past=past, texts=leaf[0] == '"', characters=leaf[0] == "'")
+    return Features(*(count * times for count in found._replace(other_quotes=others)))
 
 
 def features(document):
-    found = dict.fromkeys(Features._fields, 0)
-
-    def add(**more):
-        for name, count in more.items():
-            found[name] += count
-
-    leaves, left = collections.Counter(), [document]
+    leaves, left, blocks, empties, entry_bytes = collections.Counter(), [document], 0, 0, 0
     while left:
         one = left.pop()
         if isinstance(one, str):
             leaves[one] += 1
             continue
-        of_block(one, add)
-        left += [value for _before, value in one.entries]
-        left += [before for before, _value in one.entries if one.kind == "map"]
-    for leaf, times in leaves.items():
-        of_leaf(leaf, add, times)
-    return Features(**found)
+        kind, name, entries = one
+        befores = [before for before, _value in entries if before is not None]
+        leaves.update([name] * (name != "") + befores * (kind in STRUCTS))
+        left += [value for _before, value in entries] + befores * (kind == "map")
+        blocks, empties = blocks + bool(entries), empties + (not entries)
+        entry_bytes += {"map": PAIR, "struct": FIELD, "open struct": FIELD}.get(kind, DOC) * len(entries)
+    of_blocks = Features(blocks=blocks, empties=empties, entry_bytes=entry_bytes)
+    return Features(*map(sum, zip(of_blocks, *(of_leaf(leaf, times) for leaf, times in leaves.items()))))

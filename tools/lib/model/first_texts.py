@@ -1,11 +1,12 @@
 """The texts that come first with every seed: each cell of the table of coverage, and each shape at each limit."""
+import itertools
+
 from lib import data
 from lib.model import characters, debug_refused, types
-from lib.model.coverage import DEBUG_PLACES, powers
-from lib.model.covering import Covering
-from lib.model.debug_covering import DebugCovering
+from lib.model.coverage import powers
+from lib.model.covering import Covering, DebugCovering
 from lib.model.debug_leaves import PRINTED
-from lib.model.document import DEEPEST, Block, plain, pretty, quoted
+from lib.model.document import DEEPEST, list_of, plain, pretty, quoted
 from lib.model.documents import CHARACTERS, KINDS_OF_CHARACTERS, LENGTHS, DebugMaker, Maker
 from lib.model.reading import document_of
 
@@ -49,31 +50,23 @@ def changed():
 
 def too_deep(maker):
     """In each place a chain that is almost too deep, and one that is."""
-    for depth in (DEEPEST - 1, DEEPEST, DEEPEST + 1):
-        for place in maker.places:
-            document = "x"
-            for _ in range(depth):
-                document = maker.deeper(place, document)
-            yield document
-
-
-def late_block():
-    """A block after more leaves than a number of two bytes counts."""
-    leaves = [(None, "x")] * 70_000
-    return Block("list", "", [*leaves, (None, document_of("S { a: 1 }")), (None, document_of("[y]"))])
+    for depth, place in itertools.product((DEEPEST - 1, DEEPEST, DEEPEST + 1), maker.places):
+        document = "x"
+        for _ in range(depth):
+            document = maker.deeper(place, document)
+        yield document
 
 
 def first_texts(seed):
     """All of them."""
     maker, debug_maker = Maker(seed), DebugMaker(seed)
-    covering = Covering(maker)
-    debug_covering = DebugCovering(debug_maker, DEBUG_PLACES)
+    covering, debug_covering = Covering(maker), DebugCovering(debug_maker)
     yield from (b"", b"\n", b"()", b"[]", b"{}", b'""', b"''", b"x\n")
     yield from in_both_modes(at_bounds())
     yield from in_both_modes(types.first_documents(maker.random))
     for each in (too_deep(maker), too_deep(debug_maker), covering.documents(), debug_covering.documents()):
         yield from in_both_modes(each)
-    yield from in_both_modes([*PRINTED, Block("list", "", [(None, leaf) for leaf in PRINTED])])
+    yield from in_both_modes([*PRINTED, list_of(*PRINTED)])
     yield from debug_refused.texts()
     yield from changed()
     for number, document in enumerate(covering.many()):
@@ -82,9 +75,8 @@ def first_texts(seed):
         yield from (quoted(character * length).encode() for length in (1, 255, 256, 257, 4097))
         yield quoted(character, "'").encode()
     yield from (quoted(character * 100_000).encode() for character in KINDS_OF_CHARACTERS)
-    yield from in_both_modes([late_block()])
-    for length in LENGTHS:
-        yield from (b"x" * length, b" " * length)
-    for size in powers(131072):
-        yield maker.characters(size).encode()[: covering.within(size) - 1] + b"]"
+    # Blocks after more leaves than a number of two bytes counts.
+    yield from in_both_modes([list_of(*["x"] * 70_000, document_of("S { a: 1 }"), document_of("[y]"))])
+    yield from (byte * length for length in LENGTHS for byte in (b"x", b" "))
+    yield from (maker.characters(size).encode()[: covering.within(size) - 1] + b"]" for size in powers(131072))
     yield from characters.texts()

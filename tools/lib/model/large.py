@@ -18,15 +18,10 @@ def listed(leaf, count):
     return plain, "[\n%s]" % ("    %s,\n" % leaf * count), list_of(*[leaf] * count)
 
 
-def single(leaf):
-    """A leaf: its plain text, its pretty text, and itself."""
-    return leaf, leaf, leaf
-
-
 # Each makes a document, by its name. Of those that the model judges the last has as many words as it can in a minute.
 DOCUMENTS = {
-    "a long word": lambda: single("x" * SIZE),
-    "a long text": lambda: single('"%s"' % ("a" * SIZE)),
+    "a long word": lambda: ("x" * SIZE,) * 3,
+    "a long text": lambda: ('"%s"' % ("a" * SIZE),) * 3,
     "a list of long words": lambda: listed("x" * 65536, SIZE // 65536),
     "a list of short words": lambda: listed("x", SIZE // 3),
     "a list of fewer short words": lambda: listed("x", 1_500_000),
@@ -63,10 +58,8 @@ def command_runs(number):
 def verdict(text, document, other):
     """The line of probe_model on one of both texts of a document. Other is the document's other text."""
     is_leaf, is_pretty = text == other, text[1:2] == "\n"
-    by_plain, by_pretty = (
-        half(text, *[document if is_text else None] * 2, mode) for mode, is_text in ((False, not is_pretty), (True, is_leaf or is_pretty))
-    )
-    return "plain: %s; pretty: %s; leaf: %s\n" % (by_plain, by_pretty, leaf_verdict(text))
+    documents = (False, None if is_pretty else document), (True, document if is_leaf or is_pretty else None)
+    return "plain: %s; pretty: %s; leaf: %s\n" % (*(half(text, each, each, mode) for mode, each in documents), leaf_verdict(text))
 
 
 def verdict_runs():
@@ -76,19 +69,14 @@ def verdict_runs():
             yield name, "probe_model", [], "%d\n%s" % (len(text), text), verdict(text, document, other)
 
 
-def limited():
-    resource.setrlimit(resource.RLIMIT_CPU, (SECONDS, SECONDS))
-
-
 def run_fault(program, arguments, data, wanted):
     """What is wrong with a run, or None."""
-    ran = subprocess.run([str(program), *arguments], input=data.encode(), capture_output=True, preexec_fn=limited)
+    ran = subprocess.run([str(program), *arguments], input=data.encode(), capture_output=True,
+                         preexec_fn=lambda: resource.setrlimit(resource.RLIMIT_CPU, (SECONDS, SECONDS)))
     if ran.returncode != 0:
         return "status %d: %s" % (ran.returncode, ran.stderr[-200:].decode("utf-8", "replace"))
     given = ran.stdout.decode()
-    if given != wanted:
-        return "wanted %d bytes, got %d that start with %r" % (len(wanted), len(given), given[:60])
-    return None
+    return None if given == wanted else "wanted %d bytes, got %d that start with %r" % (len(wanted), len(given), given[:60])
 
 
 def run_faults(programs, runs):

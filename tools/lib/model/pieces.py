@@ -1,31 +1,31 @@
 """Which pieces a writer is passed, and by which call: the model's rules.
 
-A piece is noted as `t` if it should come by `write_str`, or as `c` if it should come by `write_char`; then its bytes, and a
-byte that no text has.
+A piece is noted as `t` if it should come by `write_str`, or as `c` if it should come by `write_char`; then its bytes, and a byte
+that no text has.
 
-A document is printed in these pieces: the bracket or the name with which a block begins, even if the name is empty; with
-the first entry ` {` in a struct and `(` in a tuple; before the first entry a line feed in pretty mode, and a space before
-the first field in plain mode; `, ` between entries in plain mode; four spaces for each level of indentation; a field's
-name; `: `; `,` and a line feed after an entry in pretty mode; before a closing bracket the space or the comma that plain
-mode has there; and the bracket. A leaf is one piece. Only a name or a leaf can be an empty piece. The dots that end a
-struct are `, ..` in plain mode, and in pretty mode `..` and a line feed, after the indentation of the fields. Without fields
-` {`, the dots and the bracket are one piece.
+A document is printed in these pieces: the bracket or the name with which a block begins, even if the name is empty; with the
+first entry ` {` in a struct and `(` in a tuple; before the first entry a line feed in pretty mode, and a space before the first
+field in plain mode; `, ` between entries in plain mode; four spaces for each level of indentation; a field's name; `: `; `,` and
+a line feed after an entry in pretty mode; before a closing bracket the space or the comma that plain mode has there; and the
+bracket. A leaf is one piece. Only a name or a leaf can be an empty piece. The dots that end a struct are `, ..` in plain mode,
+and in pretty mode `..` and a line feed, after the indentation of the fields. Without fields ` {`, the dots and the bracket are
+one piece.
 
-A value with a text or a character in it has these pieces for it: a quote, each escape, each stretch without escapes, and
-a quote. A character without an escape comes by `write_char`. All else comes by `write_str`.
+A value with a text or a character in it has these pieces for it: a quote, each escape, each stretch without escapes, and a quote.
+A character without an escape comes by `write_char`. All else comes by `write_str`.
 
-A conversion writes each event of a scan in at most two pieces, which are not empty: a leaf; `[]` or `{}`; a block's name,
-and what opens the block, with the whole indentation of its first entry; a field's name, and `: `; `: ` after a key; what
-separates two entries, with the whole indentation of the second; and what closes a block, which in pretty mode is `,` with
-a line feed and the whole indentation, and then the bracket. Dots come after what separates two entries: in plain mode with
-the bracket, and in pretty mode with a line feed and the whole indentation, and then the bracket. Without fields it is the
-name, and ` {` with the dots and the bracket.
+A conversion writes each event of a scan in at most two pieces, which are not empty: a leaf; `[]` or `{}`; a block's name, and
+what opens the block, with the whole indentation of its first entry; a field's name, and `: `; `: ` after a key; what separates
+two entries, with the whole indentation of the second; and what closes a block, which in pretty mode is `,` with a line feed and
+the whole indentation, and then the bracket. Dots come after what separates two entries: in plain mode with the bracket, and in
+pretty mode with a line feed and the whole indentation, and then the bracket. Without fields it is the name, and ` {` with the
+dots and the bracket.
 """
 import functools
 import re
 import zlib
 
-from lib.model.document import EMPTY, INDENT, STRUCTS
+from lib.model.document import EMPTY, INDENT, STRUCTS, converted, is_single
 
 END = b"\xff"
 OPENING = {"list": "[", "set": "{", "map": "{"}
@@ -34,8 +34,6 @@ CLOSING = {"list": "]", "set": "}", "map": "}", "struct": "}", "open struct": "}
 OF_STRUCT = ((" {", " "), (" {", "\n"))
 START = {"struct": OF_STRUCT, "open struct": OF_STRUCT, "tuple": (("(",), ("(", "\n"))}
 OTHER_START = ((), ("\n",))
-# What opens a block in a conversion, after its name.
-CONVERTED_OPENING = {"list": "[", "set": "{", "map": "{", "struct": " {", "open struct": " {", "tuple": "("}
 
 
 def digest(data):
@@ -99,60 +97,19 @@ def printed(document, is_pretty, of_leaf=by_text, depth=0):
 
 
 def printed_ending(document, is_pretty, depth):
-    kind, name, entries = document
+    kind, _name, entries = document
     if not entries:
         return by_text(EMPTY[kind] if kind == "open struct" else CLOSING[kind]) if kind in (*OPENING, "open struct") else b""
     if is_pretty:
         dots = indents(depth + 1) + by_text("..\n") if kind == "open struct" else b""
         return dots + indents(depth) + by_text(CLOSING[kind])
-    single = (",",) if kind == "tuple" and name == "" and len(entries) == 1 else ()
-    return by_text(*{"struct": (" ",), "open struct": (", ..", " ")}.get(kind, single), CLOSING[kind])
-
-
-# ---- Conversions.
-
-
-def converted(document, is_pretty, depth=0):
-    """The pieces in which a conversion to this mode writes a document."""
-    if isinstance(document, str):
-        return by_text(document)
-    kind, name, entries = document
-    if not entries:
-        return by_text(name, EMPTY[kind]) if name else by_text(EMPTY[kind])
-    inside = depth + 1 if is_pretty else 0
-    line = "\n" + INDENT * inside
-    opening = CONVERTED_OPENING[kind] + (line if is_pretty else " " * (kind in STRUCTS))
-    separator = by_text("," + (line if is_pretty else " "))
-    out = [by_text(name, opening) if name else by_text(opening)]
-    for number, (before, value) in enumerate(entries):
-        if number > 0:
-            out.append(separator)
-        if before is not None:
-            out.append(by_text(before) if kind in STRUCTS else converted(before, is_pretty, inside))
-            out.append(by_text(": "))
-        out.append(converted(value, is_pretty, inside))
-    if kind == "open struct":
-        out.append(separator)
-    out.append(converted_ending(document, is_pretty, depth))
-    return b"".join(out)
-
-
-def converted_ending(document, is_pretty, depth):
-    kind, name, entries = document
-    if is_pretty:
-        return by_text((".." if kind == "open struct" else ",") + "\n" + INDENT * depth, CLOSING[kind])
-    if kind == "open struct":
-        return by_text(".. }")
-    is_single = kind == "tuple" and name == "" and len(entries) == 1
-    return by_text(" " * (kind == "struct") + "," * is_single + CLOSING[kind])
-
-
-# ---- What a half of a line says.
+    return by_text(*{"struct": (" ",), "open struct": (", ..", " ")}.get(kind, (",",) * is_single(document)), CLOSING[kind])
 
 
 def of_text(document, is_pretty):
     """The pieces of a text that was read as this document in this mode."""
-    return "pieces printed %s, converted %s" % (digest(printed(document, is_pretty)), digest(converted(document, not is_pretty)))
+    pieces = printed(document, is_pretty), by_text(*converted(document, not is_pretty))
+    return "pieces printed %s, converted %s" % tuple(map(digest, pieces))
 
 
 ZEROS = re.compile(r"(-?)(0*)([0-9]+)(?:(\.)(0*)([0-9]+))?")

@@ -1,8 +1,8 @@
 """Where a text stops to be that of a value of a type, and what is expected there.
 
-A type is one of `values.py`. What comes before and after the entries of a block is here, by its mode. A text is taken from the front. It stops
-at the first piece that doesn't fit: a name, a number, a text or a character in quotes, or what is around entries. A set or a map whose keys
-don't ascend, and an array of another length, stops where it begins.
+A type is one of `values.py`. What comes before and after the entries of a block is here, by its mode. A text is taken from the
+front. It stops at the first piece that doesn't fit: a name, a number, a text or a character in quotes, or what is around entries.
+A set or a map whose keys don't ascend, and an array of another length, stops where it begins.
 """
 import re
 import string
@@ -10,18 +10,13 @@ import string
 from lib.model.document import DEEPEST, unquoted
 from lib.model.reading import DEBUG, NO_UTF8, PlainReader, PrettyReader
 
-WORDS = {
-    "Name": "a name of the type",
-    "Number": "a number of the type",
-    "Character": "a character in apostrophes",
-    "Text": "a text in quotation marks",
-    "Punctuation": "punctuation",
-    "Order": "keys in ascending order",
-    "Count": "another number of values or blocks",
-    "End": "the end of the text",
-}
+WORDS = {"Name": "a name of the type", "Number": "a number of the type", "Character": "a character in apostrophes",
+         "Text": "a text in quotation marks", "Punctuation": "punctuation", "Order": "keys in ascending order",
+         "Count": "another number of values or blocks", "End": "the end of the text"}
 # A byte past ASCII is of a character.
 NAME_BYTES = (string.ascii_letters + string.digits + "_").encode() + bytes(range(0x80, 0x100))
+# What comes after a name that is over there.
+NAME_ENDS = re.compile(rb": (?!\})|\((?!\))|[ ,\[\]{})]|\Z")
 # A leaf in these quotes, as far as its end shows: a backslash takes the next byte with it.
 IN_QUOTES = {b'"': re.compile(rb'"[^"\\]*(?:\\.[^"\\]*)*"', re.DOTALL), b"'": re.compile(rb"'[^'\\]*(?:\\.[^'\\]*)*'", re.DOTALL)}
 # What `{:?}` writes: of a block with entries its beginning, and its end.
@@ -43,7 +38,7 @@ class Texts:
 
     def line(self, blocks):
         """What begins a line in so many blocks."""
-        return b"    " * blocks if self.is_pretty else b""
+        return b"    " * (blocks * self.is_pretty)
 
     def piece(self, piece, at, expected="Punctuation"):
         if not self.data.startswith(piece, at):
@@ -52,14 +47,7 @@ class Texts:
 
     def is_named(self, name, at):
         """Whether this name comes next, and is over there."""
-        if not self.data.startswith(name, at):
-            return False
-        after = self.data[at + len(name) : at + len(name) + 3]
-        if after[:1] == b":":
-            return after[1:2] == b" " and after[2:3] != b"}"
-        if after[:1] == b"(":
-            return after[1:2] != b")"
-        return after[:1] in (b"", b" ", b",", b"[", b"]", b"{", b"}", b")")
+        return self.data.startswith(name, at) and NAME_ENDS.match(self.data, at + len(name)) is not None
 
     def quoted_end(self, quote, at):
         """Where a leaf in these quotes ends, or None if none is there. Many types ask for the same one."""
@@ -78,9 +66,8 @@ class Texts:
 
     def before_first(self, kind, at, blocks):
         """What comes before the first entry of a block, which is in so many blocks with this one."""
-        braces = kind == "struct" and not self.is_pretty
         opening = b"" if kind in ("list", "set", "map") else OPENINGS[kind]
-        return self.piece(opening + (b" " if braces else b"\n" if self.is_pretty else b"") + self.line(blocks), at)
+        return self.piece(opening + (b"\n" if self.is_pretty else b" " * (kind == "struct")) + self.line(blocks), at)
 
     def after(self, at):
         return self.piece(b",\n" if self.is_pretty else b"", at)
@@ -90,14 +77,13 @@ class Texts:
 
     def ending(self, kind, name, count, blocks):
         """What ends a block with so many entries, which is in so many blocks."""
-        lone = kind == "tuple" and not name and count == 1 and not self.is_pretty
-        space = b" " if kind == "struct" and not self.is_pretty else b""
-        return self.line(blocks) + (b"," if lone else b"") + space + CLOSINGS[kind]
+        if self.is_pretty:
+            return self.line(blocks) + CLOSINGS[kind]
+        return b"," * (kind == "tuple" and not name and count == 1) + b" " * (kind == "struct") + CLOSINGS[kind]
 
     def fields(self, kind, at, blocks):
-        start = self.piece(kind.name.encode(), at, "Name")
-        inner = self.opened(start, blocks)
-        at = start
+        at = self.piece(kind.name.encode(), at, "Name")
+        inner = self.opened(at, blocks)
         for number, (name, value) in enumerate(kind.fields):
             at = self.piece(self.later(inner), at) if number else self.before_first(kind.kind, at, inner)
             if name:
@@ -139,31 +125,23 @@ LATER_BYTES = bytes(range(0x80, 0xC0))
 def line_and_column(data, at):
     """Both from 1. A column counts the bytes that begin a character."""
     before = data[:at]
-    line = before.count(b"\n") + 1
     last = before[before.rfind(b"\n") + 1 :]
-    return line, len(last.translate(None, LATER_BYTES)) + 1
+    return before.count(b"\n") + 1, len(last.translate(None, LATER_BYTES)) + 1
 
 
-def name_before(data, at):
-    """The name before the place with a colon and a space after it, or None if there is none."""
+def after_name(data, at):
+    """What is printed of the name before a place, if a colon and a space come after one."""
     before = data[:at]
-    if not before.endswith(b": "):
-        return None
-    name = before[len(before[:-2].rstrip(NAME_BYTES)) : -2]
+    name = before[len(before[:-2].rstrip(NAME_BYTES)) : -2] if before.endswith(b": ") else b""
     try:
-        return name.decode() or None
+        return ", after `%s: `" % name.decode() if name else ""
     except UnicodeDecodeError:
-        return None
-
-
-def after(name):
-    """What is printed of a name before a place."""
-    return "" if name is None else ", after `%s: `" % name
+        return ""
 
 
 def stopped(data, at, expected):
     """What is printed of a type by which the text stops here."""
-    place = *line_and_column(data, at), after(name_before(data, at))
+    place = *line_and_column(data, at), after_name(data, at)
     return "expected %s at line %d column %d%s, NotText { at: %d, expected: %s };" % (WORDS[expected], *place, at, expected)
 
 

@@ -2,7 +2,8 @@
 import re
 from typing import Callable, NamedTuple
 
-from lib.model.document import DEEPEST, DOTS_LINE, EMPTY, INDENT, PLAIN_FRAMES, PRETTY_FRAMES, QUOTED_CHARACTER, QUOTED_TEXT, WORD, Block
+from lib.model.document import (DEEPEST, EMPTY, INDENT, PLAIN_FRAMES, PRETTY_FRAMES, QUOTED_CHARACTER, QUOTED_TEXT, WORD, Block,
+                                is_single, plain, pretty)
 
 # ---- The leaves of each class. A call returns a leaf and where it ends, or None, or False.
 
@@ -11,8 +12,9 @@ NO_UTF8 = re.compile("[\ud800-\udfff]")
 
 
 class TextClass(NamedTuple):
-    """A class of texts: the leaf at a place, whether a leaf is a name, and whether a struct may end in dots."""
+    """A class of texts: its name, the leaf at a place, whether a leaf is a name, and whether a struct may end in dots."""
 
+    name: str
     leaf_at: Callable
     is_name: Callable
     has_open_structs: bool
@@ -24,12 +26,10 @@ def leaf_at(text, at):
         found = pattern.match(text, at)
         if found:
             return None if NO_UTF8.search(found[0]) else (found[0], found.end())
-    if text.startswith("()", at):
-        return "()", at + 2
-    return None
+    return ("()", at + 2) if text.startswith("()", at) else None
 
 
-TOKEN = TextClass(leaf_at, WORD.fullmatch, has_open_structs=False)
+TOKEN = TextClass("token", leaf_at, WORD.fullmatch, has_open_structs=False)
 
 # A leaf of the class DEBUG may begin with a word in parentheses, or with an address in brackets, a colon and a byte of a word. A
 # piece of it is bytes of a word, a text in quotation marks, one character or escape in apostrophes, any other apostrophe before
@@ -54,10 +54,8 @@ def debug_leaf_at(text, at):
     False says so, and that no block begins here either."""
     started = START.match(text, at)
     end = started.end() if started else at
-    found = PIECE.match(text, end)
-    while found:
+    while found := PIECE.match(text, end):
         end = found.end()
-        found = PIECE.match(text, end)
     if text.startswith('"', end) or NO_UTF8.search(text, at, end):
         return False
     return (text[at:end], end) if end > at else None
@@ -67,22 +65,19 @@ def is_debug_name(leaf):
     return not leaf.endswith(":") and not any(character in leaf for character in "\"'([")
 
 
-DEBUG = TextClass(debug_leaf_at, is_debug_name, has_open_structs=True)
+DEBUG = TextClass("debug", debug_leaf_at, is_debug_name, has_open_structs=True)
 
 
 # ---- The readers of plain and pretty texts. A call returns a document and where it ends, or None.
 
 
 def empty_at(text, at):
-    for kind in ("list", "map"):
-        if text.startswith(EMPTY[kind], at):
-            return Block(kind, "", []), at + 2
-    return None
+    return next(((Block(kind, "", []), at + 2) for kind in ("list", "map") if text.startswith(EMPTY[kind], at)), None)
 
 
 class Reader:
-    """A reader of one mode and one class. `entries_at` reads the entries of a block up to its closing bracket. `reached` is
-    where the last piece of a text ended that fits it, of the text that was read last."""
+    """A reader of one mode and one class. `reached` is where the last piece of a text ended that fits it, of the text that was
+    read last."""
 
     def __init__(self, text_class=TOKEN):
         self.text_class = text_class
@@ -91,9 +86,7 @@ class Reader:
     def read(self, text):
         self.reached, self.last = 0, text
         found = self.document_at(text, 0, 0)
-        if found is None or found[1] != len(text):
-            return None
-        return found[0]
+        return found[0] if found and found[1] == len(text) else None
 
     def place(self, text):
         """How many bytes at the front of a text are before the piece that doesn't fit, or all of them if none is."""
@@ -103,8 +96,7 @@ class Reader:
 
     def passed(self, at):
         """A piece of the text ended here."""
-        if at > self.reached:
-            self.reached = at
+        self.reached = max(self.reached, at)
         return at
 
     def document_at(self, text, at, depth):
@@ -112,18 +104,10 @@ class Reader:
         if found is False:
             return None
         found = found or empty_at(text, at)
-        name = ""
-        if found is not None:
-            document, end = found
-            is_name = isinstance(document, str) and self.text_class.is_name(document)
-            if not is_name:
-                self.passed(end)
-                return found
-            name, at = document, end
-        block = self.block_at(text, at, depth, name)
-        if block is None:
-            if found is not None:
-                self.passed(found[1])
+        name, start = found if found and isinstance(found[0], str) and self.text_class.is_name(found[0]) else ("", at)
+        block = self.block_at(text, start, depth, name) if name or not found else None
+        if found and block is None:
+            self.passed(found[1])
             return found
         return block or None
 
@@ -132,22 +116,18 @@ class Reader:
         without_fields = EMPTY["open struct"]
         if name and self.text_class.has_open_structs and text.startswith(without_fields, at):
             return Block("open struct", name, []), self.passed(at + len(without_fields))
-        for kind in ["struct", "tuple"] if name else ["list", "map", "tuple"]:
-            opening, _closing = self.frames[kind]
-            if text.startswith(opening, at):
-                opened = self.before_entry(text, at + len(opening), depth, True)
-                if opened is None:
-                    return None
-                self.passed(opened)
-                if depth == DEEPEST:
-                    return False
-                found = self.entries_at(text, at + len(opening), depth, kind)
-                return self.whole(text, found, depth, kind, name) or False
-        return None
+        kinds = ("struct", "tuple") if name else ("list", "map", "tuple")
+        kind = next((kind for kind in kinds if text.startswith(self.frames[kind][0], at)), None)
+        at += len(self.frames[kind][0]) if kind else 0
+        opened = self.before_entry(text, at, depth, True) if kind else None
+        if opened is None:
+            return None
+        self.passed(opened)
+        return depth < DEEPEST and self.whole(text, self.entries_at(text, at, depth, kind), depth, kind, name)
 
     def whole(self, text, found, depth, kind, name):
         if found is None:
-            return None
+            return False
         entries, at = found
         if kind == "map" and entries[0][0] is None:
             kind = "set"
@@ -155,15 +135,12 @@ class Reader:
             kind = "open struct"
         block = Block(kind, name, entries)
         end = self.closing(block, depth)
-        if not text.startswith(end, at):
-            return None
-        return block, self.passed(at + len(end))
+        return text.startswith(end, at) and (block, self.passed(at + len(end)))
 
     def ends_in_dots(self, text, at, depth, kind):
         """Whether dots and the end of a struct come here, after a field. A field's name may be two dots, too."""
-        if kind != "struct" or not self.text_class.has_open_structs:
-            return False
-        return text.startswith(self.closing(Block("open struct", "", []), depth), at)
+        may = kind == "struct" and self.text_class.has_open_structs
+        return may and text.startswith(self.closing(Block("open struct", "", []), depth), at)
 
     def name_at(self, text, at):
         found = self.text_class.leaf_at(text, at)
@@ -178,17 +155,14 @@ class Reader:
                 return None
             before, at = found[0], self.passed(found[1] + 2)
         found = self.document_at(text, at, depth + 1)
-        if found is not None and kind == "map" and not is_set and text.startswith(": ", found[1]):
+        if found and kind == "map" and not is_set and text.startswith(": ", found[1]):
             before = found[0]
             found = self.document_at(text, self.passed(found[1] + 2), depth + 1)
-        if found is None:
-            return None
-        return (before, found[0]), found[1]
+        return found and ((before, found[0]), found[1])
 
     def entries_at(self, text, at, depth, kind):
-        """At least one entry. In braces all have a colon, or none has."""
-        entries = []
-        more = self.before_entry(text, at, depth, True)
+        """At least one entry, up to the closing bracket. In braces all have a colon, or none has."""
+        entries, more = [], self.before_entry(text, at, depth, True)
         while more is not None:
             is_set = bool(entries) and entries[0][0] is None
             found = self.entry_at(text, self.passed(more), depth, kind, is_set)
@@ -196,13 +170,10 @@ class Reader:
                 return None
             entry, at = found
             entries.append(entry)
-            if (entry[0] is None) != (entries[0][0] is None):
-                return None
             at = self.after_entry(text, at)
-            if at is None:
+            if at is None or (entry[0] is None) != (entries[0][0] is None):
                 return None
-            is_last = self.ends_in_dots(text, at, depth, kind)
-            more = None if is_last else self.before_entry(text, at, depth, False)
+            more = None if self.ends_in_dots(text, at, depth, kind) else self.before_entry(text, at, depth, False)
         return (entries, at) if entries else None
 
 
@@ -210,14 +181,10 @@ class PlainReader(Reader):
     frames = PLAIN_FRAMES
 
     def closing(self, block, _depth):
-        closing = self.frames[block.kind][1]
-        is_single = block.kind == "tuple" and block.name == "" and len(block.entries) == 1
-        return "," + closing if is_single else closing
+        return "," * is_single(block) + self.frames[block.kind][1]
 
     def before_entry(self, text, at, _depth, is_first):
-        if is_first:
-            return at
-        return at + 2 if text.startswith(", ", at) else None
+        return at if is_first else at + 2 if text.startswith(", ", at) else None
 
     def after_entry(self, _text, at):
         return at
@@ -227,7 +194,7 @@ class PrettyReader(Reader):
     frames = PRETTY_FRAMES
 
     def closing(self, block, depth):
-        dots = INDENT * (depth + 1) + DOTS_LINE if block.kind == "open struct" else ""
+        dots = INDENT * (depth + 1) + "..\n" if block.kind == "open struct" else ""
         return dots + INDENT * depth + self.frames[block.kind][1]
 
     def before_entry(self, text, at, depth, _is_first):
@@ -239,6 +206,19 @@ class PrettyReader(Reader):
         return at + 2 if text.startswith(",\n", at) else None
 
 
+MODES = ("plain", "pretty")
+# A reader of each class of texts, by its mode and the name of the class, and what prints its documents in the other mode.
+READERS = {(mode, text_class.name): maker(text_class)
+           for mode, maker in zip(MODES, (PlainReader, PrettyReader)) for text_class in (TOKEN, DEBUG)}
+PRINTERS = {"plain": pretty, "pretty": plain}
+
+
+def converted(mode, name, text):
+    """The text in the other mode of what is a text of this mode, in the class of this name; or None."""
+    document = READERS[mode, name].read(text)
+    return None if document is None else PRINTERS[mode](document)
+
+
 def document_of(text):
     """The document of a plain debug text."""
-    return PlainReader(DEBUG).read(text)
+    return READERS["plain", "debug"].read(text)

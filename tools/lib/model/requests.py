@@ -23,8 +23,7 @@ from decimal import Decimal
 from typing import NamedTuple
 
 from lib.model import floats
-from lib.model.dumps import dump
-from lib.model.document import Block, add_pretty, list_of, plain, pretty, quoted, tuple_of
+from lib.model.document import Block, list_of, plain, pretty, quoted, tuple_of
 from lib.model.reading import document_of
 from lib.model.pieces import by_character, by_text, digest, of_value, printed, with_zeros
 
@@ -63,10 +62,13 @@ def asked(data):
 # ---- Lines, columns and hexadecimal texts.
 
 
+def spaces(count):
+    """So many spaces in pieces of 64, and last what is left."""
+    return [" " * 64] * (count // 64) + [" " * (count % 64)] * (count % 64 > 0)
+
+
 def filled(request, count):
-    if request.fill != 32:
-        return by_character(chr(request.fill)) * count
-    return by_text(" " * 64) * (count // 64) + (by_text(" " * (count % 64)) if count % 64 else b"")
+    return by_character(chr(request.fill)) * count if request.fill != 32 else by_text(*spaces(count))
 
 
 def in_column(request, text, pieces):
@@ -98,13 +100,6 @@ def with_places(number, places, width):
     return with_zeros(format(exact, "0%df" % width if width else "f"))
 
 
-def pretty_at(document, depth):
-    """The pretty text of a document at this depth."""
-    out = []
-    add_pretty(document, depth, out)
-    return "".join(out)
-
-
 def lines(request, text):
     """Lines by `pieces!`, a line by `uwrite!` and `uwriteln!`, and that line in a list in pretty mode."""
     in_a_list = by_text("[", "\n", "    ") + written_line(request, text, True, 1) + by_text(",\n", "]")
@@ -115,21 +110,18 @@ def plain_line(request, text):
     length = hexadecimal(request, len(text.encode()), 64)
     leaf, whole = quoted(text), by_text(text)
     pair = tuple_of(leaf, "()")
-    out = [whole * 2, of_value(leaf), printed(pair, True, of_value), length[1]]
-    out += [in_column(request, text, whole), in_column(request, leaf, of_value(leaf))]
-    out += [in_column(request, pretty(pair), printed(pair, True, of_value))]
-    out += [in_column(request, *length), in_column(request, "!", by_character("!"))]
-    return b"".join(out)
+    pieces = printed(pair, True, of_value)
+    columns = [(text, whole), (leaf, of_value(leaf)), (pretty(pair), pieces), length, ("!", by_character("!"))]
+    return b"".join([whole * 2, of_value(leaf), pieces, length[1], *(in_column(request, *each) for each in columns)])
 
 
 def line_of_each(request, text):
     zero, greatest = (hexadecimal(request, number, 32) for number in (0, 255))
     leaves = [of_value(quoted(item)) for item in (text, "", "x")]
     between = by_text(text)
-    out = [by_text(text, text, "", text, "x"), by_text("").join(leaves), between.join(leaves)]
-    out += [zero[1] + between + greatest[1]]
-    out += [between.join(in_column(request, item, by_text(item)) for item in (text, "", "x"))]
-    out += [by_text(", ").join(in_column(request, *number) for number in (zero, greatest))]
+    out = [by_text(text, text, "", text, "x"), by_text("").join(leaves), between.join(leaves), zero[1] + between + greatest[1]]
+    out.append(between.join(in_column(request, item, by_text(item)) for item in (text, "", "x")))
+    out.append(by_text(", ").join(in_column(request, *number) for number in (zero, greatest)))
     return b"".join(out)
 
 
@@ -141,7 +133,7 @@ def written_line(request, text, is_pretty, depth):
     out = [whole * 2, pieces, printed(single, True, of_value, depth), length[1]]
     out += [hexadecimal(request, len(text.encode()), 64, letter)[1] for letter in "bo"]
     out += [with_zeros(format(len(text.encode()), "0%dd" % request.width)), in_column(request, text, whole)]
-    out += [in_column(request, pretty_at(pair, depth) if is_pretty else plain(pair), pieces)]
+    out += [in_column(request, pretty(pair, depth) if is_pretty else plain(pair), pieces)]
     out += [in_column(request, *length), by_text("\n")]
     return b"".join(out)
 
@@ -200,19 +192,14 @@ def numbers(request, text):
 
 
 def in_both_modes(document):
+    """The pieces by `uDebug` in each mode."""
     return printed(document, False, of_value) + printed(document, True, of_value)
 
 
-def shown(document, displayed):
-    """The pieces by `uDebug` in each mode, and those by `uDisplay`."""
-    return in_both_modes(document) + displayed
-
-
 # Documents of small types and of collections of a leaf `x`.
-SMALL_TYPES = (
-    "[Some(x), None]", "[Ok(x), Err('c')]", "Reverse(x)", "[Less, Equal, Greater]", "[Included(x), Excluded(x), Unbounded]",
-    "Break(x)", "Continue(x)", "Cell { value: x }", "RefCell { value: <borrowed> }",
-)
+SMALL_TYPES = ("[Some(x), None]", "[Ok(x), Err('c')]", "Reverse(x)", "[Less, Equal, Greater]",
+               "[Included(x), Excluded(x), Unbounded]", "Break(x)", "Continue(x)", "Cell { value: x }",
+               "RefCell { value: <borrowed> }")
 COLLECTIONS = (*["[x, x, x]"] * 5, "{}", "{x}", "{x}", "{}", "{x: 7}", "{x: 7}")
 
 
@@ -221,7 +208,7 @@ def with_leaf(document, leaf):
     if isinstance(document, str):
         return leaf if document == "x" else document
     entries = [(leaf if before == "x" else before, with_leaf(value, leaf)) for before, value in document.entries]
-    return Block(document.kind, document.name, entries)
+    return document._replace(entries=entries)
 
 
 def ranges(leaf, length):
@@ -233,13 +220,11 @@ def ranges(leaf, length):
 
 def values(text):
     leaf = quoted(text)
-    out = [shown(leaf, by_text(text)) * 7]
-    out += [shown(quoted(character, "'"), by_character(character)) for character in text[:16]]
-    out += [shown(word, by_text(word)) for word in ("true", "false")]
+    out = [in_both_modes(quoted(character, "'")) + by_character(character) for character in text[:16]]
+    out += [in_both_modes(word) + by_text(word) for word in ("true", "false")]
     small, collections = ([in_both_modes(with_leaf(document_of(row), leaf)) for row in rows] for rows in (SMALL_TYPES, COLLECTIONS))
-    out += [*small, ranges(leaf, len(text.encode())), *collections]
-    out.append(shown(leaf, by_text(text)) * 5)
-    return b"".join(out)
+    shown = in_both_modes(leaf) + by_text(text)
+    return b"".join([shown * 7, *out, *small, ranges(leaf, len(text.encode())), *collections, shown * 5])
 
 
 def nested(request, text):
@@ -248,6 +233,34 @@ def nested(request, text):
     before = b"".join(by_text("[", "\n") + indent for indent in indents[1:])
     after = b"".join(by_text(",\n") + indent + by_text("]") for indent in indents[:-1][::-1])
     return by_text("[") * depth + by_text(text) + by_text("]") * depth + before + by_text(text) + after
+
+
+# ---- Dumps of bytes.
+
+
+def dump(request):
+    per_row = request.per_row or 16
+    rows = range(0, len(request.payload), per_row)
+    return b"".join(row_pieces(request, at, request.payload[at : at + per_row]) for at in rows)
+
+
+def row_pieces(request, at, row):
+    """The pieces of a row. A short one is one piece, which has the text of all of them."""
+    per_row = request.per_row or 16
+    group = request.group or per_row
+    pieces = []
+    if request.offset < 2**32:
+        digits = "%x" % (request.offset + at)
+        pieces += [piece for piece in ("0" * (8 - len(digits)), digits) if piece] + [": "]
+    pieces += [" " * (number > 0 and number % group == 0) + "%02x" % byte for number, byte in enumerate(row)]
+    if request.ascii:
+        missing = per_row - len(row)
+        for count in (missing, missing, (per_row - 1) // group - (len(row) - 1) // group):
+            pieces += spaces(count)
+        text = "".join(chr(byte) if 32 <= byte < 127 else "." for byte in row)
+        pieces += ["  "] + [text[start : start + 64] for start in range(0, len(text), 64)]
+    pieces.append("\n")
+    return by_text(*pieces) if per_row > 32 else by_text("".join(pieces))
 
 
 # ---- The line of a request.
@@ -261,6 +274,6 @@ def verdict(data):
         text = request.payload.decode()
     except UnicodeDecodeError:
         return line
-    said = [("lines", lines(request, text)), ("names", names(text)), ("numbers", numbers(request, text)), ("values", values(text)),
-            ("nested", nested(request, text))]
-    return ", ".join([line, *("%s %s" % (name, digest(pieces)) for name, pieces in said)])
+    said = {"lines": lines(request, text), "names": names(text), "numbers": numbers(request, text), "values": values(text),
+            "nested": nested(request, text)}
+    return ", ".join([line, *("%s %s" % (name, digest(pieces)) for name, pieces in said.items())])

@@ -1,9 +1,14 @@
 """Documents of each shape, token documents and debug documents, and texts of no token document, in any size."""
+from functools import partial
+
 from lib import data
 from lib.model.document import STRUCTS, Block, list_of, plain, quoted, tuple_of
 from lib.model.reading import document_of
 
 PLACES = ("list", "set", "key", "value", "struct", "tuple", "unnamed")
+# The kind and the name of the block of a place, and what is before the value.
+BLOCKS = {"key": ("map", "", None), "value": ("map", "", "k"), "tuple": ("tuple", "N", None), "unnamed": ("tuple", "", None),
+          "struct": ("struct", "S", "f"), "open struct": ("open struct", "S", "f")}
 TREE, ONLY_DOTS = document_of("Tree { size: 1, children: [] }"), document_of("S { .. }")
 # Leaves and rows of pieces, by their names.
 TABLES = {part: {name: [text.decode() for text in texts] for name, texts in rows.items()}
@@ -15,9 +20,8 @@ VALUES = {"a number": "-170141183460469231731687303715884105728", "a character":
 
 def placed(place, document):
     """A block that has the document in this place."""
-    kind = {"key": "map", "value": "map", "unnamed": "tuple"}.get(place, place)
-    before, value = (document, "v") if place == "key" else ({"value": "k", "struct": "f", "open struct": "f"}.get(place), document)
-    return Block(kind, {"tuple": "N", "struct": "S", "open struct": "S"}.get(place, ""), [(before, value)])
+    kind, name, before = BLOCKS.get(place, (place, "", None))
+    return Block(kind, name, [(document, "v") if place == "key" else (before, document)])
 
 
 def wide(place, value, size):
@@ -26,7 +30,7 @@ def wide(place, value, size):
     count = max(size // len(plain(block)), 2)
     if place in STRUCTS:
         return Block(place, "S", [("f%d" % number, value) for number in range(count)])
-    return Block(block.kind, block.name, block.entries * count)
+    return block._replace(entries=block.entries * count)
 
 
 def long_leaf(characters, size):
@@ -43,12 +47,11 @@ def deep(place, size):
 
 def deep_and_wide(place, size):
     """A chain with leaves before and after each block."""
-    document = "x"
-    depth = 20
+    document, depth = "x", 20
+    leaves = placed(place, "x").entries * (size // depth // 16)
     for _ in range(depth):
         block = placed(place, document)
-        leaves = placed(place, "x").entries * (size // depth // 16)
-        document = Block(block.kind, block.name, leaves + block.entries + leaves)
+        document = block._replace(entries=leaves + block.entries + leaves)
     return document
 
 
@@ -60,10 +63,10 @@ def around(place, document, size):
     return inner
 
 
-def halved(depth):
+def halved(size):
     """A list of two lists, each of two lists, and so on."""
     document = "x"
-    for _ in range(depth):
+    for _ in range(size.bit_length() - 4):
         document = list_of(document, document)
     return document
 
@@ -100,33 +103,36 @@ def repeated(document, size):
     return list_of(*[document] * (size // (len(plain(document).encode()) + 2)))
 
 
+def numbers(size, *more):
+    """A set of numbers, and then more of them."""
+    return Block("set", "", [(None, str(number)) for number in (*range(size // 6), *more)])
+
+
 def documents():
     """Each shape by its name, with a call that makes a document of a size."""
-    shapes = {name: lambda size, characters=characters: long_leaf(characters, size) for name, (characters,) in TABLES["characters of long leaves"].items()}
+    shapes = {name: partial(long_leaf, characters) for name, (characters,) in TABLES["characters of long leaves"].items()}
     shapes["a long word"] = lambda size: "x" * size
-    for name, (leaf,) in TABLES["leaves"].items():
-        shapes["a wide list of " + name] = lambda size, leaf=leaf: repeated(leaf, size)
-    for kind in ("list", "map"):
-        shapes["a wide list of an empty " + kind] = lambda size, kind=kind: repeated(Block(kind, "", []), size)
+    shapes.update({"a wide list of " + name: partial(repeated, leaf) for name, (leaf,) in TABLES["leaves"].items()})
+    shapes.update({"a wide list of an empty " + kind: partial(repeated, Block(kind, "", [])) for kind in ("list", "map")})
     for place in PLACES:
-        shapes["a wide " + place] = lambda size, place=place: wide(place, "x", size)
-        shapes["a wide list of a %s each" % place] = lambda size, place=place: repeated(placed(place, "x"), size)
-        shapes["a deep " + place] = lambda size, place=place: deep(place, size)
-        shapes["a deep and wide " + place] = lambda size, place=place: deep_and_wide(place, size)
-        shapes["a deep %s, of a %s each" % (place, place)] = lambda size, place=place: around(place, placed(place, "x"), size)
-    shapes["a deep list of letters"] = lambda size: around("list", "x", size)
-    shapes["lists of two"] = lambda size: halved(size.bit_length() - 4)
-    shapes["a wide list of trees"] = lambda size: repeated(TREE, size)
-    shapes["trees in trees"] = trees
-    shapes["a chain of nodes"] = chain
-    shapes["a map of keys in order"] = ordered_map
-    shapes["a set of numbers with one twice"] = lambda size: Block("set", "", [(None, str(number)) for number in [*range(size // 6), 7]])
-    shapes["a set of numbers in order"] = lambda size: Block("set", "", [(None, str(number)) for number in range(size // 6)])
-    shapes["long names"] = named
-    shapes["a long number"] = lambda size: "7" * size
-    for name, value in VALUES.items():
-        shapes[name] = lambda _size, value=value: value
-    return shapes
+        one = placed(place, "x")
+        shapes.update({"a wide " + place: partial(wide, place, "x"), "a wide list of a %s each" % place: partial(repeated, one),
+                       "a deep " + place: partial(deep, place), "a deep and wide " + place: partial(deep_and_wide, place),
+                       "a deep %s, of a %s each" % (place, place): partial(around, place, one)})
+    return {
+        **shapes,
+        "a deep list of letters": partial(around, "list", "x"),
+        "lists of two": halved,
+        "a wide list of trees": partial(repeated, TREE),
+        "trees in trees": trees,
+        "a chain of nodes": chain,
+        "a map of keys in order": ordered_map,
+        "a set of numbers with one twice": lambda size: numbers(size, 7),
+        "a set of numbers in order": numbers,
+        "long names": named,
+        "a long number": lambda size: "7" * size,
+        **{name: lambda _size, value=value: value for name, value in VALUES.items()},
+    }
 
 
 def in_a_row(row, size):
@@ -135,44 +141,35 @@ def in_a_row(row, size):
     return before + piece * (size // len(piece.encode())) + after
 
 
-def open_structs():
-    """Shapes of structs that end in dots."""
-    one, place = placed("open struct", "x"), "open struct"
-    return {
-        "a wide open struct": lambda size: wide(place, "x", size),
-        "a wide list of an open struct each": lambda size: repeated(one, size),
-        "a wide list of only dots": lambda size: repeated(ONLY_DOTS, size),
-        "a wide set of only dots": lambda size: wide("set", ONLY_DOTS, size),
-        "a wide open struct of only dots": lambda size: wide(place, ONLY_DOTS, size),
-        "a wide open struct of dots": lambda size: wide(place, "..", size),
-        "a deep open struct": lambda size: deep(place, size),
-        "a deep and wide open struct": lambda size: deep_and_wide(place, size),
-        "a deep open struct, of an open struct each": lambda size: around(place, one, size),
-        "a deep list of only dots": lambda size: around("list", ONLY_DOTS, size),
-        "long names of an open struct": lambda size: named(size, place),
-        "a long name and only dots": lambda size: Block(place, "S" * size, []),
-    }
-
-
 def debug_documents():
     """Each shape of debug documents that aren't token documents, in the same way."""
-    shapes = {"a long leaf, " + name: lambda size, row=row: in_a_row(row, size) for name, row in TABLES["long debug leaves"].items()}
-    for name, (leaf,) in TABLES["debug leaves"].items():
-        shapes["a wide list of " + name] = lambda size, leaf=leaf: repeated(leaf, size)
-    for place in PLACES:
-        shapes["a wide %s of points" % place] = lambda size, place=place: wide(place, "1.5", size)
-    # Nearly all of these texts is indentation, which is the same in both classes. So there are only two.
-    for place in ("list", "struct"):
-        shapes["a deep %s of paths" % place] = lambda size, place=place: around(place, "a::B", size)
-    shapes.update(open_structs())
-    shapes["long names past ASCII"] = lambda size: list_of(Block("struct", "\u20ac" * (size // 6), [("a:" * (size // 4) + "a", "x")]))
-    return shapes
+    one, place = placed("open struct", "x"), "open struct"
+    return {
+        **{"a long leaf, " + name: partial(in_a_row, row) for name, row in TABLES["long debug leaves"].items()},
+        **{"a wide list of " + name: partial(repeated, leaf) for name, (leaf,) in TABLES["debug leaves"].items()},
+        **{"a wide %s of points" % place: partial(wide, place, "1.5") for place in PLACES},
+        # Nearly all of these texts is indentation, which is the same in both classes. So there are only two.
+        **{"a deep %s of paths" % place: partial(around, place, "a::B") for place in ("list", "struct")},
+        "a wide open struct": partial(wide, place, "x"),
+        "a wide list of an open struct each": partial(repeated, one),
+        "a wide list of only dots": partial(repeated, ONLY_DOTS),
+        "a wide set of only dots": partial(wide, "set", ONLY_DOTS),
+        "a wide open struct of only dots": partial(wide, place, ONLY_DOTS),
+        "a wide open struct of dots": partial(wide, place, ".."),
+        "a deep open struct": partial(deep, place),
+        "a deep and wide open struct": partial(deep_and_wide, place),
+        "a deep open struct, of an open struct each": partial(around, place, one),
+        "a deep list of only dots": partial(around, "list", ONLY_DOTS),
+        "long names of an open struct": partial(named, kind=place),
+        "a long name and only dots": lambda size: Block(place, "S" * size, []),
+        "long names past ASCII": lambda size: list_of(Block("struct", "\u20ac" * (size // 6), [("a:" * (size // 4) + "a", "x")])),
+    }
 
 
 def no_texts():
     """Texts of no token document, in the same way. They are wrong at the end or at the start."""
     return {
-        **{name: lambda size, row=row: in_a_row(row, size) for name, row in TABLES["no texts"].items()},
+        **{name: partial(in_a_row, row) for name, row in TABLES["no texts"].items()},
         "an open list": lambda size: "[" + ", ".join("x" * (size // 3)),
         "an open list of numbers": lambda size: "[" + ", ".join(["65535"] * (size // 7)),
         "an open list of texts": lambda size: "[" + ", ".join(['"ab"'] * (size // 6)),

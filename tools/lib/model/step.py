@@ -19,10 +19,10 @@ import subprocess
 import sys
 import tempfile
 
+from lib import measures, needs
 from lib.findings import case, ended
 from lib.model import asked, characters, commands, costs, counter, coverage, documents, first_texts, large, verdicts
 from lib.programs import cases
-from lib.top import TOP
 
 sys.setrecursionlimit(20_000)
 
@@ -32,6 +32,7 @@ CONVERTED_EACH = 40
 COMMANDS = ("lengths", "pretty", "plain")
 # So many random texts there are. From BULK on the run takes minutes, and has all texts that there are.
 COUNT, BULK = 1000, 3000
+TOLD = "Of `x try texts`: steps of each call, in the order of its line"
 
 
 def shown(data):
@@ -39,15 +40,14 @@ def shown(data):
 
 
 def batches(texts):
-    batch, size = [], 0
+    found, size = [[]], 0
     for text in texts:
-        batch.append(text)
+        found[-1].append(text)
         size += len(text) + 1000
         if size > BATCH_BYTES:
-            yield batch
-            batch, size = [], 0
-    if batch:
-        yield batch
+            found.append([])
+            size = 0
+    return list(filter(None, found))
 
 
 def wrong_lines(program, texts):
@@ -93,29 +93,28 @@ def made(count, seed):
             yield makers[1].data()
 
 
-def text_jobs(pool, programs, count, seed):
-    """How many texts are judged, and the jobs that judge them."""
-    tried, jobs = 0, []
-    for batch in batches(made(count, seed)):
-        tried += len(batch)
-        jobs.append(pool.submit(judged, programs["probe_model"], programs["ufmt_conv"], batch))
-    return tried, jobs
-
-
 def cost_jobs(pool, programs, meter):
     """The jobs that count, and those that run the commands on large texts."""
     jobs = [pool.submit(large.faults, programs, number) for number in range(large.PARTS)]
     if meter.library is None:
         return jobs
     for is_counted in (True, False) if meter.valgrind else (False,):
-        for number in range(costs.PARTS):
-            jobs.append(pool.submit(costs.part_faults, meter, programs["probe_model"], number, is_counted))
-        jobs.append(pool.submit(costs.request_faults, meter, programs["probe_model"], is_counted))
+        probed = meter, programs["probe_model"]
+        jobs += [pool.submit(costs.part_faults, *probed, number, is_counted) for number in range(costs.PARTS)]
+        jobs.append(pool.submit(costs.request_faults, *probed, is_counted))
     jobs.append(pool.submit(commands.conv_faults, meter, programs["ufmt_conv"]))
     jobs.append(pool.submit(commands.short_read_faults, meter, programs))
-    for is_plain in (False, True):
-        jobs.append(pool.submit(commands.line_faults, meter, programs["ufmt_lines"], is_plain))
-    return jobs
+    return jobs + [pool.submit(commands.line_faults, meter, programs["ufmt_lines"], is_plain) for is_plain in (False, True)]
+
+
+def measured_again(is_written):
+    """Writes the table again, or names each row whose bound left the band."""
+    needs.require("measure", "cc", "valgrind")
+    programs = counter.programs_of(None)
+    with tempfile.TemporaryDirectory() as room:
+        meter = counter.Counter(pathlib.Path(room))
+        rows = {**costs.measured_rows(meter, programs["probe_model"]), **commands.read_steps(meter, programs)}
+    return measures.measured_again(costs.MEASURED, rows, TOLD, is_written)
 
 
 def result_of(job):
@@ -130,34 +129,20 @@ def counted(meter, number):
     """A message with what was counted."""
     if meter.library is None:
         return "%d costs counted: none of memory and steps, for want of a C compiler" % number
-    if not meter.valgrind:
-        return "%d costs counted, of memory; no steps, for want of valgrind" % number
-    return "%d costs counted, of memory and steps" % number
-
-
-def programs_of(program):
-    """The built programs by their names."""
-    program = pathlib.Path(program or TOP / "crates/probe_model/out/probe_model").resolve()
-    found = {name: TOP / "crates" / name / "out" / program.name.replace("probe_model", name) for name in ("ufmt_conv", "ufmt_lines")}
-    return dict(found, probe_model=program)
-
-
-def main_large(program):
-    """Passes texts of 16 MiB, and one of 1,500,000 words, to every call of the library."""
-    wrong, count = large.run_faults(programs_of(program), large.verdict_runs())
-    return ended(wrong, "%d texts of 16 MiB" % count)
+    return "%d costs counted, of memory%s" % (number, " and steps" if meter.valgrind else "; no steps, for want of valgrind")
 
 
 def main(given):
+    programs = counter.programs_of(given.program)
     if given.full:
-        return main_large(given.program)
-    programs = programs_of(given.program)
+        wrong, count = large.run_faults(programs, large.verdict_runs())
+        return ended(wrong, "%d texts of 16 MiB" % count)
     faults, cells, costs_counted = [], set(), 0
     with tempfile.TemporaryDirectory() as room, concurrent.futures.ProcessPoolExecutor() as pool:
         meter = counter.Counter(pathlib.Path(room))
         costing = cost_jobs(pool, programs, meter)
-        tried, judging = text_jobs(pool, programs, COUNT if given.count is None else given.count, given.seed)
-        for job in judging:
+        texts = batches(made(COUNT if given.count is None else given.count, given.seed))
+        for job in [pool.submit(judged, programs["probe_model"], programs["ufmt_conv"], batch) for batch in texts]:
             wrong, found = job.result()
             faults += wrong
             cells |= found
@@ -166,5 +151,5 @@ def main(given):
             wrong, number = result_of(job)
             faults += wrong
             costs_counted += number
-    texts = "%d texts with seed %s fill %d cells" % (tried, given.seed, len(cells))
-    return ended(faults, "%s, %s" % (texts, counted(meter, costs_counted)))
+    told = "%d texts with seed %s fill %d cells" % (sum(map(len, texts)), given.seed, len(cells))
+    return ended(faults, "%s, %s" % (told, counted(meter, costs_counted)))

@@ -8,7 +8,7 @@ from lib.model import values
 from lib.model.document import plain
 from lib.model.places import Texts, stop
 from lib.model.reading import document_of
-from lib.model.values import Choice, Decimal, Fields, Float, Keyed, List, Number, Quoted, Reversed, Word
+from lib.model.values import Choice, Decimal, Fields, Float, Keyed, List, Number, Quoted, Reversed, word
 
 
 def integers():
@@ -19,17 +19,17 @@ def integers():
         yield from {"NonZeroU" + name: Number(1, 2 * high - 1, False), "NonZeroI" + name: Number(low, high - 1, False)}.items()
 
 
-PLAIN = {**dict(integers()), "f32": Float(32), "f64": Float(64), "Decimal": Decimal(), "bool": Word("false", "true"), "char": Quoted("'"),
-         "String": Quoted('"'), "()": Word("()"), "Ordering": Word("Less", "Equal", "Greater", is_whole=True), "RangeFull": Word(".."),
-         "Tree": values.Tree(), "Node": values.Node()}
+PLAIN = {**dict(integers()), "f32": Float(32), "f64": Float(64), "Decimal": Decimal(), "bool": word("false", "true"),
+         "char": Quoted("'"), "String": Quoted('"'), "()": word("()"), "Ordering": Choice(("Less", "Equal", "Greater")),
+         "RangeFull": word(".."), "Tree": values.TREE, "Node": values.NODE}
 BYTE, CHARACTER, TEXT = PLAIN["u8"], PLAIN["char"], PLAIN["String"]
 PLAIN["Set"] = Fields("struct", "Set", [("channel", BYTE), ("level", PLAIN["i16"])])
 # What each makes of its parameters.
 GENERIC = {
     "Option": values.option,
-    "Result": lambda value, error: Choice(None, ("Err",), Ok=value, Err=error),
-    "Bound": lambda value: Choice("Unbounded", Included=value, Excluded=value),
-    "ControlFlow": lambda stop, value: Choice(None, Continue=value, Break=stop),
+    "Result": lambda value, error: Choice((), ("Err",), Ok=value, Err=error),
+    "Bound": lambda value: Choice(("Unbounded",), Included=value, Excluded=value),
+    "ControlFlow": lambda stop, value: Choice((), Continue=value, Break=stop),
     "Cell": lambda value: Fields("struct", "Cell", [("value", value)]),
     "Wrapping": lambda value: value,
     "Reverse": Reversed, "Vec": List, "BTreeSet": Keyed, "BTreeMap": Keyed,
@@ -41,10 +41,7 @@ def listed(text):
     depth, found = 0, [""]
     for sign in text:
         depth += (sign in "<([") - (sign in ">)]")
-        if sign == "," and not depth:
-            found.append("")
-        else:
-            found[-1] += sign
+        found += [""] if sign == "," and not depth else [found.pop() + sign]
     return [type_of(each.strip()) for each in found if each.strip()]
 
 
@@ -65,22 +62,18 @@ TYPES = {row[0]: type_of(row[2:]) for row in data.parts("texts/types.txt")["type
 NAMES = "abcdefghijkl"
 
 
-def mixed(kind, name, count):
-    """A struct or a tuple of so many numbers and characters in turn."""
-    names = NAMES[:count] if kind == "struct" else [None] * count
-    return Fields(kind, name, [(name, CHARACTER if number % 2 else BYTE) for number, name in enumerate(names)])
-
-
 # Each struct, tuple and variant of a user's types, and how its fields are printed: of its first, its last, all but that, or all in a row.
-SHAPES = [(mixed(kind, name, count), kind[0] + ("{first};" if count == 1 else "({row});"))
-          for kind, name in (("struct", "S"), ("tuple", "T")) for count in (1, 2, 3, 12)]
+# The first ones have so many numbers and characters in turn.
+MIXED = [BYTE, CHARACTER] * 6
+SHAPES = [(Fields(kind, name, list(zip(names, MIXED))[:count]), kind[0] + ("{first};" if count == 1 else "({row});"))
+          for kind, name, names in (("struct", "S", NAMES), ("tuple", "T", [None] * 12)) for count in (1, 2, 3, 12)]
 SHAPES += [
-    (Fields("struct", "Twelve", [(name, BYTE) for name in NAMES[:11]] + [("l", TEXT)]), "w(({others}), {last});"),
+    (Fields("struct", "Twelve", list(zip(NAMES, [BYTE] * 11 + [TEXT]))), "w(({others}), {last});"),
     (Fields("tuple", "One", [(None, TEXT)]), "o{first};"),
-    (Word("Started"), "e(0, None, None);"),
+    (word("Started"), "e(0, None, None);"),
     (Fields("tuple", "Said", [(None, BYTE), (None, TEXT)]), "e(1, Some(({row})), None);"),
     (Fields("struct", "Lost", [("since", BYTE), ("peers", List(BYTE))]), "e(2, None, Some(({row})));"),
-    (Word("Ended"), "e(3, None, None);"),
+    (word("Ended"), "e(3, None, None);"),
 ]
 KINDS = [*TYPES.values(), *(kind for kind, _form in SHAPES)]
 
@@ -126,10 +119,9 @@ def first_documents(random):
 
 def surely(kind, random):
     """A value of the type."""
-    while True:
-        document = kind.made(random)
-        if values.has(kind, document):
-            return document
+    while not values.has(kind, document := kind.made(random)):
+        pass
+    return document
 
 
 def made(random):

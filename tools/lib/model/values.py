@@ -3,10 +3,11 @@
 Each kind takes its text from a place in `Texts` of places.py, which says where what is around entries ends.
 """
 import itertools
+import operator
 import re
 
 from lib.model import floats
-from lib.model.document import Block, plain, quoted, unquoted
+from lib.model.document import Block, list_of, plain, quoted, tuple_of, unquoted
 from lib.model.places import Stop, Texts, stop
 
 DIGITS = re.compile(rb"[0-9]*")
@@ -27,7 +28,8 @@ class Number:
         digits = DIGITS.match(texts.data, at + minus)[0]
         is_written = digits and (digits == b"0" or digits[:1] != b"0") and len(digits) <= LONGEST
         number = int(digits) if is_written else 0
-        if not is_written or (minus and not number) or not (number or self.has_zero) or not self.low <= (-number if minus else number) <= self.high:
+        is_allowed = number or (self.has_zero and not minus)
+        if not is_written or not is_allowed or not self.low <= (-number if minus else number) <= self.high:
             raise Stop(at, "Number")
         return at + minus + len(digits)
 
@@ -49,24 +51,20 @@ class Number:
         return max(self.low, min(self.high, random.randrange(size, 10 * size)))
 
 
-class Spelled:
-    """A number whose text has these bytes: `is_text` says whether it is one."""
-
-    def taken(self, texts, at, _blocks):
-        text = self.bytes.match(texts.data, at)[0].decode()
-        if not self.is_text(text):
-            raise Stop(at, "Number")
-        return at + len(text)
+def spelled(text, is_number, at):
+    """Where a number with this text ends, if it is one."""
+    if not is_number:
+        raise Stop(at, "Number")
+    return at + len(text)
 
 
-class Float(Spelled):
-    bytes = FLOAT_BYTES
-
+class Float:
     def __init__(self, width):
         self.width = width
 
-    def is_text(self, text):
-        return 0 < len(text) <= LONGEST_FLOAT and floats.reads(text, self.width) is not None
+    def taken(self, texts, at, _blocks):
+        text = FLOAT_BYTES.match(texts.data, at)[0].decode()
+        return spelled(text, 0 < len(text) <= LONGEST_FLOAT and floats.reads(text, self.width) is not None, at)
 
     def made(self, random):
         """A float of the type, or what is nearly one."""
@@ -80,17 +78,20 @@ class Float(Spelled):
         return random.choice(("4", "4.50", "+4.5", "1E5", "1e5", "-NaN", "nan", "infinity", "-0", ".5", "4."))
 
 
-class Decimal(Spelled):
+def is_decimal(text):
+    found = len(text) <= LONGEST + MOST_PLACES and DECIMAL.fullmatch(text)
+    if not found or len(found[3] or "") > MOST_PLACES:
+        return False
+    value = int(text.replace(".", ""))
+    return -(2**63) <= value < 2**63 and (value != 0 or not found[1])
+
+
+class Decimal:
     """A signed number of 64 bits, with a point before its last digits, if there is one."""
 
-    bytes = DECIMAL_BYTES
-
-    def is_text(self, text):
-        found = len(text) <= LONGEST + MOST_PLACES and DECIMAL.fullmatch(text)
-        if not found or len(found[3] or "") > MOST_PLACES:
-            return False
-        value = int(text.replace(".", ""))
-        return -(2**63) <= value < 2**63 and (value != 0 or not found[1])
+    def taken(self, texts, at, _blocks):
+        text = DECIMAL_BYTES.match(texts.data, at)[0].decode()
+        return spelled(text, is_decimal(text), at)
 
     def made(self, random):
         """A number of the type, or one past its bounds, or what is nearly a number."""
@@ -112,25 +113,6 @@ def decimal_text(value, places):
     return "-" * (value < 0) + digits[:whole] + ("." + digits[whole:] if places else "")
 
 
-class Word:
-    """One of these words. `()` and `..` are punctuation. A truth value is found by its letters, and an ordering by its whole name."""
-
-    def __init__(self, *words, is_whole=False):
-        self.words, self.is_whole = words, is_whole
-
-    def taken(self, texts, at, _blocks):
-        for word in map(str.encode, self.words):
-            if texts.is_named(word, at) if self.is_whole else texts.data.startswith(word, at):
-                return at + len(word)
-        raise Stop(at, "Name" if self.words[0].isalpha() else "Punctuation")
-
-    def order(self, document):
-        return self.words.index(document)
-
-    def made(self, random):
-        return random.choice(self.words)
-
-
 class Quoted:
     def __init__(self, quote):
         self.quote = quote
@@ -150,43 +132,42 @@ class Quoted:
 
 
 class Choice:
-    """A leaf, or one of some tuples with a value: `None`, `Some(x)`, `Ok(x)`, `Err(x)`. Those names are found by their letters alone
-    that are listed, and others if they are over there."""
+    """One of some leaves, or of some tuples with a value: `Less`, `None`, `Some(x)`, `Ok(x)`, `()`. Those that are listed are
+    found by their letters alone, and others if the name is over there."""
 
-    def __init__(self, leaf, by_letters=(), **variants):
-        self.leaf, self.by_letters, self.variants = leaf, by_letters, variants
+    def __init__(self, leaves, by_letters=(), **variants):
+        self.leaves, self.by_letters, self.variants = leaves, by_letters, variants
+        self.names = [*leaves, *variants]
 
     def taken(self, texts, at, blocks):
-        for name in ([self.leaf] if self.leaf else []) + list(self.variants):
-            data = name.encode()
-            if not (texts.data.startswith(data, at) if name in self.by_letters else texts.is_named(data, at)):
-                continue
-            if name == self.leaf:
-                return at + len(data)
-            return texts.fields(Fields("tuple", name, [(None, self.variants[name])]), at, blocks)
-        raise Stop(at, "Name")
+        for name, data in zip(self.names, map(str.encode, self.names)):
+            if texts.data.startswith(data, at) if name in self.by_letters else texts.is_named(data, at):
+                fields = Fields("tuple", name, [(None, self.variants.get(name))])
+                return at + len(data) if name in self.leaves else fields.taken(texts, at, blocks)
+        raise Stop(at, "Name" if self.names[0].isalpha() else "Punctuation")
 
     def order(self, document):
         if isinstance(document, str):
-            return (-1, 0)
-        name = document.name
-        return (list(self.variants).index(name), self.variants[name].order(document.entries[0][1]))
+            return (self.names.index(document),)
+        return self.names.index(document.name), self.variants[document.name].order(document.entries[0][1])
 
     def made(self, random):
-        if self.leaf and random.random() < 0.4:
-            return self.leaf
+        if not self.variants:
+            return random.choice(self.leaves)
+        if self.leaves and random.random() < 0.4:
+            return self.leaves[0]
         name = random.choice(list(self.variants))
-        return Block("tuple", name, [(None, self.variants[name].made(random))])
+        return tuple_of(self.variants[name].made(random), name=name)
 
 
 class Reversed(Choice):
     """`Reverse(n)` of numbers, in the opposite order."""
 
     def __init__(self, number):
-        super().__init__(None, ("Reverse",), Reverse=number)
+        super().__init__((), ("Reverse",), Reverse=number)
 
     def order(self, document):
-        return -self.variants["Reverse"].order(document.entries[0][1])
+        return -super().order(document)[1]
 
 
 class List:
@@ -208,7 +189,7 @@ class List:
         length = self.length
         if length is None or random.random() < 0.1:
             length = int(2 ** random.uniform(0, 5)) - 1
-        return Block("list", "", [(None, self.value.made(random)) for _ in range(length)])
+        return list_of(*(self.value.made(random) for _ in range(length)))
 
 
 class Fields:
@@ -244,7 +225,7 @@ class Keyed:
             return self.value.taken(texts, texts.piece(b": ", key), inner) if self.value else key
 
         _count, end = texts.entries("map" if self.value else "set", entry, at, blocks)
-        if not all(before < after for before, after in zip(orders, orders[1:])):
+        if not all(map(operator.lt, orders, orders[1:])):
             raise Stop(at, "Order")
         return end
 
@@ -254,38 +235,46 @@ class Keyed:
         if random.random() < 0.8:
             # In order, each once.
             keys = [next(equal) for _order, equal in itertools.groupby(sorted(keys, key=self.key.order), self.key.order)]
-        if not keys:
-            return Block("map", "", [])
-        return Block("map" if self.value else "set", "", [(key, self.value.made(random)) if self.value else (None, key) for key in keys])
+        entries = [(key, self.value.made(random)) if self.value else (None, key) for key in keys]
+        return Block("map" if self.value or not keys else "set", "", entries)
 
 
-class Tree:
+class Named:
+    """A type that has values of its own type in it: of the fields that are set below."""
+
+    def __init__(self, made):
+        self.made = made
+
     def taken(self, texts, at, blocks):
-        return TREE.taken(texts, at, blocks)
-
-    def made(self, random):
-        size = SIZE.made(random)
-        children = [self.made(random) for _ in range(random.choice((0, 0, 0, 1, 2)))]
-        return Block("struct", "Tree", [("size", size), ("children", Block("list", "", [(None, child) for child in children]))])
+        return self.fields.taken(texts, at, blocks)
 
 
-class Node:
-    def taken(self, texts, at, blocks):
-        return NODE.taken(texts, at, blocks)
-
-    def made(self, random):
-        value = SIZE.made(random)
-        following = "None" if random.random() < 0.5 else Block("tuple", "Some", [(None, self.made(random))])
-        return Block("struct", "Node", [("value", value), ("next", following)])
+def word(*words):
+    return Choice(words, words)
 
 
 def option(value):
-    return Choice("None", ("None", "Some"), Some=value)
+    return Choice(("None",), ("None", "Some"), Some=value)
 
 
 SIZE = Number(0, 2**64 - 1)
-TREE = Fields("struct", "Tree", [("size", SIZE), ("children", List(Tree()))])
-NODE = Fields("struct", "Node", [("value", SIZE), ("next", option(Node()))])
+
+
+def made_tree(random):
+    size = SIZE.made(random)
+    children = list_of(*(made_tree(random) for _ in range(random.choice((0, 0, 0, 1, 2)))))
+    return Block("struct", "Tree", [("size", size), ("children", children)])
+
+
+def made_node(random):
+    value = SIZE.made(random)
+    following = "None" if random.random() < 0.5 else tuple_of(made_node(random), name="Some")
+    return Block("struct", "Node", [("value", value), ("next", following)])
+
+
+TREE, NODE = Named(made_tree), Named(made_node)
+TREE.fields = Fields("struct", "Tree", [("size", SIZE), ("children", List(TREE))])
+NODE.fields = Fields("struct", "Node", [("value", SIZE), ("next", option(NODE))])
 
 
 def has(kind, document):

@@ -3,10 +3,9 @@ import re
 import struct
 
 from lib.model import floats
-from lib.model.dumps import dump
 from lib.model.document import quoted
 from lib.model.pieces import with_zeros
-from lib.model.requests import Request, hexadecimal, in_column, with_places
+from lib.model.requests import Request, dump, hexadecimal, in_column, with_places
 
 SPEC = re.compile(r"\{:?(?:(.)([<^>]))?(#?)(0?)(\d*)([xXbo?]?)\}")
 ALIGNS = "<^>"

@@ -5,14 +5,12 @@ program does what the row wants.
 """
 from lib import data
 from lib.model import places, types
-from lib.model.document import Block, plain, pretty, quoted
-from lib.model.reading import DEBUG, TOKEN, PlainReader, PrettyReader
+from lib.model.document import Block, list_of, plain, pretty, quoted, tuple_of
+from lib.model.reading import DEBUG, MODES, READERS, TOKEN, converted
 from lib.model.shown import events, field_text, parts, text_of
 from lib.model.verdicts import kinds
 from lib.rows.formats import dumped, formats
 
-CLASSES = {"token": TOKEN, "debug": DEBUG}
-READERS = {(mode, name): maker(text_class) for mode, maker in (("plain", PlainReader), ("pretty", PrettyReader)) for name, text_class in CLASSES.items()}
 LAID_OUT = {"plain": plain, "pretty": pretty}
 OTHER = {"plain": "pretty", "pretty": "plain"}
 # Where a leaf stands: by itself, in a list, as the key of a map, in a struct.
@@ -31,14 +29,9 @@ def or_nothing(found):
     return "nothing" if found is None else found
 
 
-def converted(mode, name, text):
-    document = READERS[mode, name].read(text)
-    return None if document is None else LAID_OUT[OTHER[mode]](document)
-
-
 def texts(words, cells):
     """A plain text and a pretty text, which are converted to each other."""
-    for mode, text, other in zip(("plain", "pretty"), cells, reversed(cells)):
+    for mode, text, other in zip(MODES, cells, reversed(cells)):
         yield text, other, or_nothing(converted(mode, *words, text))
 
 
@@ -55,8 +48,7 @@ def leaf(words, cells):
     """A leaf, which is read in each place or in none."""
     for mode, around in AROUND:
         text = around.replace("%s", cells[0])
-        is_read = converted(mode, words[0], text) is not None
-        yield text, " ".join(words[1:]), "is read" if is_read else "is refused"
+        yield text, " ".join(words[1:]), "is refused" if converted(mode, words[0], text) is None else "is read"
 
 
 def beginnings(words, cells):
@@ -91,9 +83,9 @@ def shown(words, cells):
 
 def kind(_words, cells):
     """Whether a text is a leaf and a name, in each class."""
-    found = [("%s %s" % (name, what)) for name, text_class in CLASSES.items() for what, holds in zip(("leaf", "name"), kinds(text_class, cells[0]))
-             if holds == "yes"]
-    yield cells[0], cells[1], ", ".join(found) or "nothing"
+    found = [("%s %s" % (text_class.name, what), holds) for text_class in (TOKEN, DEBUG)
+             for what, holds in zip(("leaf", "name"), kinds(text_class, cells[0]))]
+    yield cells[0], cells[1], ", ".join(what for what, holds in found if holds == "yes") or "nothing"
 
 
 def in_quotes(quote):
@@ -124,18 +116,14 @@ def told(words, cells):
     yield cells[0], cells[1], places.stopped(encoded(cells[0]), at, expected).split(", NotText")[0]
 
 
-def some(document):
-    return Block("tuple", "Some", [(None, document)])
-
-
 def nested(name, around):
     """The document of a node or a tree inside so many others, perhaps in an option."""
     if name.startswith("Option"):
-        return some(nested("Node", around))
-    document = "None" if name == "Node" else Block("list", "", [])
+        return tuple_of(nested("Node", around), name="Some")
+    document = "None" if name == "Node" else list_of()
     for _ in range(around + 1):
         value = Block("struct", name, [("value", "1"), ("next", document)] if name == "Node" else [("size", "1"), ("children", document)])
-        document = some(value) if name == "Node" else Block("list", "", [(None, value)])
+        document = tuple_of(value, name="Some") if name == "Node" else list_of(value)
     return value
 
 
