@@ -7,17 +7,17 @@ use ufmt::{Formatter, Full, uWrite};
 
 /// The place of a builder's calls: the first entry of a list, in one mode.
 #[derive(Clone, Copy)]
-struct Place {
+struct Place<'a> {
     mode: &'static str,
     is_pretty: bool,
     depth: u8,
     /// The pieces before the builder, with a bar after each.
     before: &'static str,
     /// A list of the number 7, at the builder's depth.
-    list: &'static str,
+    list: &'a str,
 }
 
-const PLAIN: Place = Place {
+const PLAIN: Place<'static> = Place {
     mode: "plain",
     is_pretty: false,
     depth: 0,
@@ -25,7 +25,7 @@ const PLAIN: Place = Place {
     list: "[7]",
 };
 
-const PRETTY: Place = Place {
+const PRETTY: Place<'static> = Place {
     mode: "pretty",
     is_pretty: true,
     depth: 1,
@@ -57,7 +57,7 @@ impl Calls {
     }
 
     // The pieces before the builder, and those of its calls.
-    fn of(alloc: Global, place: Place, rows: &[CallWithPieces]) -> Result<Self, AllocError> {
+    fn of(alloc: Global, place: Place<'_>, rows: &[CallWithPieces]) -> Result<Self, AllocError> {
         let mut calls = Calls {
             text: String::new(alloc),
             pieces: Vec::new(alloc),
@@ -86,7 +86,7 @@ fn call_in_list<W: uWrite<Error = Full>>(block: Block, f: &mut Formatter<W>) -> 
 }
 
 fn call_at<W: uWrite<Error = Full>>(
-    place: Place,
+    place: Place<'_>,
     block: Block,
     f: &mut Formatter<W>,
 ) -> Result<Left, Full> {
@@ -103,7 +103,7 @@ fn call_at<W: uWrite<Error = Full>>(
 
 // What the calls leave over this writer, and whether mode and depth are as before.
 fn call_over<W: uWrite<Error = Full>>(
-    place: Place,
+    place: Place<'_>,
     block: Block,
     writer: W,
 ) -> (Result<Left, Full>, bool, W) {
@@ -117,7 +117,7 @@ fn call_over<W: uWrite<Error = Full>>(
 // that piece has this length.
 fn is_left(
     block: Block,
-    place: Place,
+    place: Place<'_>,
     calls: &Calls,
     (number, length, last, is_ok): (usize, usize, LastCall, bool),
 ) -> bool {
@@ -131,7 +131,7 @@ fn is_left(
 }
 
 // The number of the first piece whose refusal leaves something wrong.
-fn wrong_number(block: Block, place: Place, calls: &Calls) -> Option<usize> {
+fn wrong_number(block: Block, place: Place<'_>, calls: &Calls) -> Option<usize> {
     let mut number = 0usize;
     for (name, length) in &calls.pieces {
         number = number.saturating_add(1);
