@@ -68,6 +68,8 @@ def main(given):
     folder, kept = repository / "crates" / given.crate, repository / "out" / "trusting"
     # The name of a crate stands for all of its functions.
     paths = given.items or [given.crate]
+    if not kept.is_dir():
+        print("the first check of a repository also checks library functions, and may say nothing for minutes", flush=True)
     kept.mkdir(parents=True, exist_ok=True)
     run = subprocess.Popen(command(folder, kept, given.crate, lines, paths, given.jobs, given.tests), cwd=folder, text=True,
                            start_new_session=True, stdout=subprocess.PIPE, stderr=subprocess.STDOUT)

@@ -49,6 +49,7 @@ class Check(unittest.TestCase):
         self.checker = self.kit / "bin" / "rattle"
         self.checker.parent.mkdir(parents=True)
         (self.room / "crates.txt").write_text(CRATES)
+        (self.room / "out" / "trusting").mkdir(parents=True)
         for crate, (root, _) in CALLS.items():
             self.touch(self.crates / crate / root)
         self.answer(b"", 0)
@@ -106,14 +107,18 @@ class Check(unittest.TestCase):
         source = self.crates / "small" / "inner" / "crates" / "nested" / "src" / "lib.rt"
         self.touch(source)
         (self.crates / "small" / "inner" / "crates.txt").write_text("nested: core\n")
+        run(self.command(source.parent, "nested"))
         self.says(run(self.command(source.parent, "nested")), 0, b"checked: the libraries are trusted\n")
 
     def test_what_the_checker_kept(self):
-        """It stays from one run to the next."""
+        """It stays from one run to the next. The first run of a repository says that it takes longer."""
         kept = self.room / "out" / "trusting" / "kept"
-        self.touch(kept)
+        kept.touch()
         run(self.command(self.room, "small"))
         self.assertTrue(kept.exists())
+        shutil.rmtree(self.room / "out")
+        self.assertTrue(run(self.command(self.room, "small")).output.startswith(b"the first check of a repository "))
+        self.assertTrue(kept.parent.is_dir())
 
     def test_wrong_words(self):
         for words, status in ((["--help"], 0), ([], 2), (["--job", "x", "small"], 2)):
