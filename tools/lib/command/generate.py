@@ -1,7 +1,8 @@
 """Writes the files that have a call, impl, clause or proof for each number of fields, docs/API.md and docs/PROMISES.md.
 
-Run it after a change in tools/lib/by_count or in its templates, tools/data/by_count, and `rt fmt` in the crates of these files after that.
-docs/API.md changes with the public calls, and docs/PROMISES.md with the comments of promises in the sources. With `--check` it writes nothing: it compares the files with what it would write, but for spaces, line ends and last commas.
+Run it after a change in tools/lib/by_count or in its templates, tools/data/by_count. It runs `rt fmt` in the crates of these
+files. docs/API.md changes with the public calls, and docs/PROMISES.md with the comments of promises in the sources. With
+`--check` it writes nothing: it compares the files with what it would write, but for spaces, line ends and last commas.
 """
 
 
@@ -9,11 +10,24 @@ def add_arguments(parser):
     parser.add_argument("--check", action="store_true", help="compares the files, and prints a line for each that differs")
 
 
+def formatted(files):
+    """Formats the crates of these files, as docs/API.md shows lines of them."""
+    from lib.running import output_of
+    from lib.top import TOP
+
+    for crate in sorted({name.split("/")[1] for name, _ in files}):
+        output_of(["rt", "fmt"], cwd=TOP / "crates" / crate)
+
+
 def main(given):
-    from lib import generated
+    from lib import generated, needs
     from lib.api import page as calls
     from lib.by_count import step as by_count
     from lib.promises import page as promises
 
-    parts = by_count, calls, promises
-    return max(part.main(given) if given.check else generated.write(part.files()) for part in parts)
+    if given.check:
+        return max(part.main(given) for part in (by_count, calls, promises))
+    needs.require("generate", "rt")
+    generated.write(by_count.files())
+    formatted(by_count.files())
+    return max(generated.write(part.files()) for part in (calls, promises))
