@@ -1,9 +1,11 @@
-//! Types whose `fmt` is written by hand with builders. `example_print` has most of them by `fields!`.
+//! Types whose `fmt` is written by hand with builders. `example_print` has the same types by
+//! `fields!`, and `by_fields` has `S`.
 ghost use Rattle.std.specs.Prelude.{[], ◌∷◌};
 ghost use Rattle.ufmt.specs.Document.{Document, pretty_part};
 ghost use Rattle.ufmt.specs.ValueDocuments.{named_struct, named_tuple, number, option_document};
 ghost use Rattle.test_rows.specs.declared.by_builders.Node.TheFolds.{fold-Node};
 ghost use Rattle.test_rows.specs.declared.by_builders.Letter.TheVariants.{A, B, C};
+ghost use Rattle.test_rows.specs.declared.by_builders.Y.TheVariants.{W, Z};
 
 use ufmt::{Formatter, uDebug, uWrite};
 
@@ -26,6 +28,25 @@ impl<T: uDebug, U: uDebug> uDebug for Pair<T, U> {
     }
 }
 
+/// A struct of two values of one type.
+#[derive(Drop)]
+pub struct Nested<T> {
+    pub first: T,
+    pub second: T,
+}
+
+impl<T: uDebug> uDebug for Nested<T> {
+    ghost document = { λ n. named_struct "Nested"
+        (("first", T.document n.first) ∷ ("second", T.document n.second) ∷ []) };
+
+    fn fmt<W: uWrite>(&self, f: &mut Formatter<W>) -> Result<(), W::Error> {
+        let mut nested = f.debug_struct("Nested")?;
+        nested.field("first", &self.first)?;
+        nested.field("second", &self.second)?;
+        nested.finish()
+    }
+}
+
 /// A struct with a name of one letter.
 #[derive(Drop)]
 pub struct S<M, N> {
@@ -45,7 +66,60 @@ impl<M: uDebug, N: uDebug> uDebug for S<M, N> {
     }
 }
 
+/// A struct with braces and no fields.
+#[derive(Drop)]
+pub struct Braces {}
+
+impl uDebug for Braces {
+    ghost document = { λ _. named_struct "Braces" [] };
+
+    fn fmt<W: uWrite>(&self, f: &mut Formatter<W>) -> Result<(), W::Error> {
+        f.debug_struct("Braces")?.finish()
+    }
+}
+
+/// A struct with parentheses and no fields.
+#[derive(Drop)]
+pub struct Parens();
+
+impl uDebug for Parens {
+    ghost document = { λ _. named_tuple "Parens" [] };
+
+    fn fmt<W: uWrite>(&self, f: &mut Formatter<W>) -> Result<(), W::Error> {
+        f.debug_tuple("Parens")?.finish()
+    }
+}
+
+/// A struct with two fields without names.
+#[derive(Drop)]
+pub struct Tuple<T, U>(pub T, pub U);
+
+impl<T: uDebug, U: uDebug> uDebug for Tuple<T, U> {
+    ghost document = { λ t. named_tuple "Tuple" (T.document t.0 ∷ U.document t.1 ∷ []) };
+
+    fn fmt<W: uWrite>(&self, f: &mut Formatter<W>) -> Result<(), W::Error> {
+        let mut tuple = f.debug_tuple("Tuple")?;
+        tuple.field(&self.0)?;
+        tuple.field(&self.1)?;
+        tuple.finish()
+    }
+}
+
 /// A struct around one value.
+#[derive(Drop)]
+pub struct I32<T>(pub T);
+
+impl<T: uDebug> uDebug for I32<T> {
+    ghost document = { λ x. named_tuple "I32" (T.document x.0 ∷ []) };
+
+    fn fmt<W: uWrite>(&self, f: &mut Formatter<W>) -> Result<(), W::Error> {
+        let mut tuple = f.debug_tuple("I32")?;
+        tuple.field(&self.0)?;
+        tuple.finish()
+    }
+}
+
+/// Another struct around one value.
 #[derive(Drop)]
 pub struct X<T>(pub T);
 
@@ -88,6 +162,28 @@ impl<T: uDebug> uDebug for Letter<T> {
                 builder.field("x", x)?;
                 builder.field("y", y)?;
                 builder.finish()
+            }
+        }
+    }
+}
+
+/// An enum around one value, or none.
+#[derive(Drop)]
+pub enum Y<T> {
+    W,
+    Z(T),
+}
+
+impl<T: uDebug> uDebug for Y<T> {
+    ghost document = { elim [ W ↦ named_tuple "W" [] | Z x ↦ named_tuple "Z" (T.document x ∷ []) ] };
+
+    fn fmt<W: uWrite>(&self, f: &mut Formatter<W>) -> Result<(), W::Error> {
+        match self {
+            Y::W => f.debug_tuple("W")?.finish(),
+            Y::Z(value) => {
+                let mut tuple = f.debug_tuple("Z")?;
+                tuple.field(value)?;
+                tuple.finish()
             }
         }
     }

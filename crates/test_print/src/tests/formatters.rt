@@ -1,5 +1,8 @@
 //! Tests of the formatter's own calls: `write_str`, `write_char` and `pretty`.
+ghost use Rattle.std.specs.Prelude.{[], ⊤};
+
 use super::asserts::same;
+use std::alloc::AllocError;
 use test_rows::printed::{Printed, print_to};
 use test_rows::rows::are_ok;
 use test_rows::writers::Recorded;
@@ -18,6 +21,65 @@ fn write_str_and_write_char_reach_the_writer(rt: HostRuntime) {
     let left = (are_ok(&by_text) && are_ok(&by_formatter), f.is_pretty());
     same(&rt, (left, f.depth()), ((true, false), 0), "what is left");
     same(&rt, text.as_str(), "aébé", "by both");
+}
+
+// A writer that counts its calls of `write_char`. Its text is not known.
+#[derive(Drop)]
+struct Noted {
+    text: String,
+    characters: u32,
+}
+
+impl uWrite for Noted {
+    type Error = AllocError;
+
+    ghost seen = { record { known = λ _. ⊥; text = λ _. []; room = λ _. 0; failed = λ _. ⊤; identity = λ _. []; whole_buffer = λ _. [] } };
+
+    fn write_str(&mut self, s: &str) -> Result<(), AllocError> {
+        if s.is_empty() {
+            return Ok(());
+        }
+        self.text.push_str(s)
+    }
+
+    fn write_char(&mut self, c: char) -> Result<(), AllocError> {
+        self.characters = self.characters.saturating_add(1);
+        let mut bytes = [0u8; 4];
+        self.write_str(c.encode_utf8(&mut bytes))
+    }
+}
+
+#[test]
+fn write_char_calls_write_char_of_the_writer(rt: HostRuntime) {
+    let mut noted = Noted {
+        text: String::new(rt.alloc()),
+        characters: 0,
+    };
+    let mut reference = &mut noted;
+    let outcome = uWrite::write_char(&mut reference, 'é');
+    same(
+        &rt,
+        (outcome.is_ok(), noted.characters),
+        (true, 1),
+        "by a reference",
+    );
+    let outcome = Formatter::new(&mut noted).write_char('a');
+    same(
+        &rt,
+        (outcome.is_ok(), noted.characters),
+        (true, 2),
+        "over a reference",
+    );
+    let mut f = Formatter::new(noted);
+    let outcomes = [f.write_char('b'), f.write_str("c")];
+    let noted = f.into_inner();
+    same(
+        &rt,
+        (are_ok(&outcomes), noted.characters),
+        (true, 3),
+        "by a formatter",
+    );
+    same(&rt, noted.text.as_str(), "éabc", "the text");
 }
 
 // Writes an empty text by the writer and by a formatter, and a character of four bytes.

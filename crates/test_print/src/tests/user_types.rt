@@ -10,6 +10,7 @@ use std::alloc::{AllocError, Global};
 use std::borrow::CowStr;
 use std::collections::{BTreeMap, VecDeque};
 use std::rc::Rc;
+use test_rows::by_fields::S;
 use test_rows::rows::{Table, map};
 use test_rows::{by_builders, forwarded, put_filled, put_rows};
 
@@ -27,7 +28,14 @@ fn node_by_builders(alloc: Global) -> Result<by_builders::Node, AllocError> {
     Ok(by_builders::Node { value, next })
 }
 
-fn settings(alloc: Global) -> Result<by_builders::S<BTreeMap<i32, i32>, i32>, AllocError> {
+fn settings(alloc: Global) -> Result<S<BTreeMap<u64, u64>, u64>, AllocError> {
+    let m = map(alloc, &[(1u64, 2u64)])?;
+    Ok(S { m, n: 3 })
+}
+
+fn settings_by_builders(
+    alloc: Global,
+) -> Result<by_builders::S<BTreeMap<i32, i32>, i32>, AllocError> {
     let m = map(alloc, &[(1i32, 2i32)])?;
     Ok(by_builders::S { m, n: 3 })
 }
@@ -87,18 +95,21 @@ fn pairs(alloc: Global) -> Result<Json, AllocError> {
     Ok(Json::Object(pairs))
 }
 
-// Values of two types are printed by `fields!` and by builders, to which a `Node` goes back by `begin_field` and
+// Each value is printed by `fields!` and by builders, to which a `Node` goes back by `begin_field` and
 // `end_field`. A derive of Rust's `Debug` prints the same.
 #[test]
 fn fields_and_builders_print_as_by_core_fmt(rt: HostRuntime) {
     let mut table = Table::new(rt.alloc());
     put_rows!(table;
-        texts(&Braces {}) => "Braces";
-        texts(&Parens()) => "Parens";
-        texts(&I32(0i32)) => "I32(0)~\nI32(\n    0,\n)";
-        texts(&Tuple(0i32, 0u64)) => "Tuple(0, 0)~\nTuple(\n    0,\n    0,\n)";
+        same_texts(&Braces {}, &by_builders::Braces {}) => "Braces";
+        same_texts(&Parens(), &by_builders::Parens()) => "Parens";
+        same_texts(&I32(0i32), &by_builders::I32(0u64)) => "I32(0)~\nI32(\n    0,\n)";
+        same_texts(&Tuple(0i32, 0u64), &by_builders::Tuple(0u64, 0i32)) => "Tuple(0, 0)~\nTuple(\n    0,\n    0,\n)";
         same_texts(&Pair { x: 0i32, y: 0u64 }, &by_builders::Pair { x: 0u64, y: 0i32 }) => "Pair { x: 0, y: 0 }~\nPair {\n    x: 0,\n    y: 0,\n}";
-        texts(&Nested { first: Pair { x: 0u64, y: 0u64 }, second: Pair { x: 0u64, y: 0u64 } }) => "\
+        same_texts(
+            &Nested { first: Pair { x: 0u64, y: 0u64 }, second: Pair { x: 0u64, y: 0u64 } },
+            &by_builders::Nested { first: by_builders::Pair { x: 0i32, y: 0i32 }, second: by_builders::Pair { x: 0i32, y: 0i32 } }
+        ) => "\
 Nested { first: Pair { x: 0, y: 0 }, second: Pair { x: 0, y: 0 } }~
 Nested {
     first: Pair {
@@ -114,8 +125,8 @@ Nested {
         same_texts(&Letter::B(0i32, 1), &by_builders::Letter::B(0u64, 1)) => "B(0, 1)~\nB(\n    0,\n    1,\n)";
         same_texts(&Letter::C { x: 0u64, y: 1 }, &by_builders::Letter::C { x: 0i32, y: 1 }) => "C { x: 0, y: 1 }~\nC {\n    x: 0,\n    y: 1,\n}";
         same_texts(&X(0i32), &by_builders::X(0u64)) => "X(0)~\nX(\n    0,\n)";
-        texts(&Y::Z(0i32)) => "Z(0)~\nZ(\n    0,\n)";
-        texts(&Y::W::<u64>) => "W";
+        same_texts(&Y::Z(0i32), &by_builders::Y::Z(0u64)) => "Z(0)~\nZ(\n    0,\n)";
+        same_texts(&Y::W::<u64>, &by_builders::Y::W::<i32>) => "W";
         same_texts_of_made(node(rt.alloc()), node_by_builders(rt.alloc())) => "\
 Node { value: 1, next: Some(Node { value: 0, next: None }) }~
 Node {
@@ -127,7 +138,8 @@ Node {
         },
     ),
 }";
-        texts_of_made(settings(rt.alloc())) => "S { m: {1: 2}, n: 3 }~\nS {\n    m: {\n        1: 2,\n    },\n    n: 3,\n}";
+        same_texts_of_made(settings(rt.alloc()), settings_by_builders(rt.alloc()))
+            => "S { m: {1: 2}, n: 3 }~\nS {\n    m: {\n        1: 2,\n    },\n    n: 3,\n}";
         same_texts(&[InPrettyMode(Some(1u64))], &[by_builders::InPrettyMode(Some(1i32))])
             => "[Some(\n    1,\n)]~\n[\n    Some(\n        1,\n    ),\n]";
     );
