@@ -16,10 +16,10 @@ use ufmt_scan::scan::ScanError;
 use ufmt_scan::valid_up_to;
 
 // Promise (programs): A conversion for C writes the other text. It returns `no_text` if and only if the input
-// isn't a text, with the place in `detail`. `ufmt_unquote` and, with each escape of Rust, `ufmt_unquote_debug`
-// undo `ufmt_quote`, or say how far the input is right. Also: `ufmt_is_text`, `ufmt_unquote`,
-// `ufmt_unquote_debug`.
-// Promise (programs): For bytes that aren't UTF-8, C gets how many at the front are. Such bytes and
+// isn't a text, with the place in `detail`. `ufmt_unquote` undoes `ufmt_quote`, and `ufmt_unquote_debug` reads
+// each escape of Rust, too. Where they fail, they say how much of the input is right. Also: `ufmt_is_text`,
+// `ufmt_unquote`, `ufmt_unquote_debug`.
+// Promise (programs): If bytes aren't UTF-8, a call from C says how many at the front are. Such bytes and
 // meaningless options change nothing. Also: `ufmt_quote`.
 /// Writes the text in the mode `to` of the documents of the class with this text in the other mode. Returns
 /// `BAD_OPTION` if there is no such class or mode, and else `NO_TEXT` only if no document of the class has

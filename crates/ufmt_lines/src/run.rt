@@ -33,8 +33,8 @@ const CHUNK: usize = 64 * 1024;
 
 // Promise (programs): `run` of `ufmt_lines` writes each line, or with `--plain` each group of lines, with its
 // values in the other mode, except those that stay. If writing fails, it has written a prefix, and for any
-// other fault whole groups. It never gives up an input of known bytes with fewer than 2^64 - 1 of them. Also:
-// `run::print`, `laws::groups_are_the_text`, `laws::lines_are_made_pretty`.
+// other fault whole groups. It never gives up on an input of known bytes that is shorter than 2^64 - 1 bytes.
+// Also: `run::print`, `laws::groups_are_the_text`, `laws::lines_are_made_pretty`.
 /// Reads the input to its end, and writes each group of lines with its values converted. The outputs for
 /// all groups that have ended are written before more is read. Memory is kept for one read, the longest
 /// group and its output, and 1 MiB of outputs.
