@@ -11,7 +11,7 @@ NOISE = ("logic ", "statements ", "library ", "crate ", "checked ", "so far: che
 PLACE = re.compile(r"^note: (\S+?:\d+):\d+: it is not proved that (.*) \(`(.+)`\)$")
 UNPROVED = re.compile(r"^fn (\S+): no proof: expected answers in \./(\S+); .* did not prove (.*)$")
 GOAL = re.compile(r"^note: `(\S+)` of (\S+) must prove: ")
-ADVICE = re.compile(r"note: (?:a goal may be false|to see how far|\.)|\S+\.antt:\d+:\d+: note: ")
+ADVICE = re.compile(r"note: (?:a goal may be false|to see how far|\.)|\S+\.antt:\d+:\d+: note: |so far: (?!\d+ of )")
 START = re.compile(r"^    (\S+( .*)?) = \?$")
 CALL = re.compile(r"^  \| (c\.\S+): .*\.ensures \{\.(\w+)")
 ARM = re.compile(r"returns-in-(\w+)$")
