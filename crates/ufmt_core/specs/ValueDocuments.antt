@@ -1,10 +1,13 @@
 -- The documents of values, written with names in quotes and with lists.
 use Prim.Native.String.{String as Text}
-use Rattle.std.specs.Prelude.{ℕ, ℤ, pos, List, [], ◌∷◌, true, codes, Option, Some, None, Result, Ok, Err, String, string_bytes}
+use Rattle.std.specs.Prelude.{ℕ, ℤ, pos, List, [], ◌∷◌, true, codes, map, Option, Some, None, Result, Ok, Err, String, string_bytes, Vec, Box}
+use Rattle.std.specs.BTreeMap.{BTreeMap}
+use Rattle.std.specs.BTreeSet.{BTreeSet}
+use Rattle.std_alloc.specs.declared.vec.deque.VecDeque.{VecDeque}
 use lib.Ieee.{Float, binary32, binary64}
 use Rattle.std.specs.Borrow.{Bor}
 use Rattle.std.specs.Str.{chars}
-use Rattle.ufmt_core.specs.Document.{Document, leaf, struct_of, non_exhaustive_of, tuple_of, documents, Fields, no_fields, first_field}
+use Rattle.ufmt_core.specs.Document.{Document, leaf, struct_of, non_exhaustive_of, tuple_of, list_of, set_of, map_of, pairs_of, documents, Fields, no_fields, first_field}
 use Rattle.ufmt_core.specs.Decimal.{decimal}
 use Rattle.ufmt_core.specs.FloatText.{float_text}
 use Rattle.ufmt_core.specs.Quoted.{quoted_char, quoted_text}
@@ -63,3 +66,23 @@ option_document f (Some x) = named_tuple "Some" (f x ∷ [])
 abbrev pub result_document : {T E : Type 0} → (T → Document) → (E → Document) → Result T E → Document
 result_document f g (Ok x) = named_tuple "Ok" (f x ∷ [])
 result_document f g (Err e) = named_tuple "Err" (g e ∷ [])
+
+-- the value in a box
+abbrev pub box_document : {T A : Type 0} → (T → Document) → Box T A → Document
+box_document f b = f b.value
+
+-- the items of a vector, as a list
+abbrev pub vec_document : {T A : Type 0} → (T → Document) → Vec T A → Document
+vec_document f v = list_of (documents (map f v.items))
+
+-- the items of a `VecDeque`
+abbrev pub deque_document : {T A : Type 0} → (T → Document) → VecDeque T A → Document
+deque_document f q = list_of (documents (map f q.items))
+
+-- the items of a sorted set
+abbrev pub sorted_set_document : {T : Type 0} → (T → Document) → BTreeSet T → Document
+sorted_set_document f s = set_of (documents (map f s.keys))
+
+-- the entries of a sorted map
+abbrev pub sorted_map_document : {K V : Type 0} → (K → Document) → (V → Document) → BTreeMap K V → Document
+sorted_map_document f g m = map_of (pairs_of (map (λ e. (f e.0, g e.1)) m.entries))

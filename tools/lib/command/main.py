@@ -11,6 +11,7 @@ COMMANDS = {
     "new": "lib.command.new", "update": "lib.command.update", "check": "lib.command.check", "test": "lib.command.test", "try": "lib.command.trying",
     "ci": "lib.command.ci", "bench": "lib.command.bench", "measure": "lib.command.measure", "dist": "lib.command.dist", "install": "lib.command.install",
     "uninstall": "lib.command.uninstall", "edits": "lib.command.edits", "clauses": "lib.command.clauses", "forms": "lib.command.forms",
+    "fields": "lib.command.fields",
     "generate": "lib.command.generate", "list": "lib.command.listing", "rust": "lib.rust.command",
 }
 

@@ -1,6 +1,5 @@
 //! `uDebug` of `BTreeSet` and `BTreeMap`, which print in the order of their keys.
-ghost use Rattle.std.specs.Prelude.{map};
-ghost use Rattle.ufmt_core.specs.Document.{documents, map_of, pairs_of, set_of};
+ghost use Rattle.ufmt_core.specs.ValueDocuments.{sorted_map_document, sorted_set_document};
 
 use crate::formatter::Formatter;
 use crate::map::fmt_map;
@@ -12,7 +11,7 @@ use std::collections::{BTreeMap, BTreeSet};
 
 /// Prints the items as a set, in order.
 impl<T: uDebug + Ord, A: Allocator> uDebug for BTreeSet<T, A> {
-    ghost document = { λ s. set_of (documents (map T.document s.keys)) };
+    ghost document = { sorted_set_document T.document };
 
     fn fmt<W: uWrite>(&self, f: &mut Formatter<W>) -> Result<(), W::Error> {
         fmt_set(self.iter(), f)
@@ -21,8 +20,7 @@ impl<T: uDebug + Ord, A: Allocator> uDebug for BTreeSet<T, A> {
 
 /// Prints the entries as a map, in the order of their keys.
 impl<K: uDebug + Ord, V: uDebug, A: Allocator> uDebug for BTreeMap<K, V, A> {
-    ghost document = { λ m. map_of
-        (pairs_of (map (λ e. (K.document e.0, V.document e.1)) m.entries)) };
+    ghost document = { sorted_map_document K.document V.document };
 
     fn fmt<W: uWrite>(&self, f: &mut Formatter<W>) -> Result<(), W::Error> {
         fmt_map(self.iter(), f)
