@@ -6,7 +6,7 @@ ghost use Rattle.ufmt.specs.ValueDocuments.{integer, named_struct, number};
 ghost use Rattle.ufmt_parse.specs.Values.{is_i16, is_u8};
 
 use ufmt::{Formatter, fields, uDebug, uWrite};
-use ufmt_parse::{Fault, ParseMode, Parser, parse_fields, uParse};
+use ufmt_parse::{Fault, ParseMode, Parser, parse_fields, prove_fields, uParse};
 
 /// The level of a channel.
 #[derive(Clone, Copy, PartialEq, Eq, Debug, Drop)]
@@ -30,8 +30,7 @@ impl<A: Copy> uParse<A> for Set {
     ghost holds_no_memory = { ⊤ };
 
     fn prove_value(&self) {
-        let _channel = self.channel;
-        let _level = self.level;
+        prove_fields!(A, self, Set { channel, level })
     }
 
     fn parse_from<M: ParseMode>(alloc: A, parser: &mut Parser<'_, M>) -> Result<Set, Fault> {

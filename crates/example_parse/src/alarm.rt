@@ -9,7 +9,7 @@ mod tests;
 
 use std::alloc::Global;
 use ufmt::{Formatter, fields, uDebug, uWrite};
-use ufmt_parse::{Expected, Fault, ParseError, ParseMode, Parser, parse, parse_fields, uParse};
+use ufmt_parse::{Expected, Fault, ParseError, ParseMode, Parser, parse, parse_fields, prove_fields, uParse};
 
 /// What a node of a network reports.
 #[derive(Drop)]
@@ -30,7 +30,7 @@ impl uParse<Global> for Alarm {
     ghost is_value = { λ a. is_u16 a.node };
 
     fn prove_value(&self) {
-        let _node = self.node;
+        prove_fields!(Global, self, Alarm { node, text })
     }
 
     fn parse_from<M: ParseMode>(alloc: Global, parser: &mut Parser<'_, M>) -> Result<Alarm, Fault> {

@@ -8,7 +8,7 @@ ghost use Rattle.ufmt_parse.specs.Values.{is_i16, is_u8};
 mod tests;
 
 use ufmt::{Formatter, fields, uDebug, uWrite};
-use ufmt_parse::{Expected, Fault, ParseError, ParseMode, Parser, parse, parse_fields, uParse};
+use ufmt_parse::{Expected, Fault, ParseError, ParseMode, Parser, parse, parse_fields, prove_fields, uParse};
 
 /// Sets the level of a channel.
 #[derive(Clone, Copy, PartialEq, Eq, Debug, Drop)]
@@ -32,8 +32,7 @@ impl<A: Copy> uParse<A> for Set {
     ghost holds_no_memory = { ⊤ };
 
     fn prove_value(&self) {
-        let _channel = self.channel;
-        let _level = self.level;
+        prove_fields!(A, self, Set { channel, level })
     }
 
     fn parse_from<M: ParseMode>(alloc: A, parser: &mut Parser<'_, M>) -> Result<Set, Fault> {

@@ -4,7 +4,7 @@ ghost use Rattle.ufmt.specs.ValueDocuments.{float64, named_struct, number};
 ghost use Rattle.ufmt_parse.specs.Values.{is_f64, is_u8};
 
 use ufmt::{Formatter, fields, uDebug, uWrite};
-use ufmt_parse::{Fault, ParseMode, Parser, parse_fields, uParse};
+use ufmt_parse::{Fault, ParseMode, Parser, parse_fields, prove_fields, uParse};
 
 /// What a sensor measured.
 #[derive(Clone, Copy, PartialEq, Debug, Drop)]
@@ -28,8 +28,7 @@ impl<A: Copy> uParse<A> for Sample {
     ghost holds_no_memory = { ⊤ };
 
     fn prove_value(&self) {
-        let _channel = self.channel;
-        uParse::<A>::prove_value(&self.celsius);
+        prove_fields!(A, self, Sample { channel, celsius })
     }
 
     fn parse_from<M: ParseMode>(alloc: A, parser: &mut Parser<'_, M>) -> Result<Sample, Fault> {

@@ -4,7 +4,7 @@ ghost use Rattle.ufmt.specs.ValueDocuments.{named_struct, number};
 ghost use Rattle.ufmt_parse.specs.Values.{is_i64, is_u8};
 
 use ufmt::{Decimal, Formatter, fields, uDebug, uWrite};
-use ufmt_parse::{Fault, ParseMode, Parser, parse_fields, uParse};
+use ufmt_parse::{Fault, ParseMode, Parser, parse_fields, prove_fields, uParse};
 
 /// What a power supply shows: as many places as its display has.
 #[derive(Clone, Copy, PartialEq, Debug, Drop)]
@@ -28,8 +28,7 @@ impl<A: Copy> uParse<A> for Supply {
     ghost holds_no_memory = { ⊤ };
 
     fn prove_value(&self) {
-        let _channel = self.channel;
-        uParse::<A>::prove_value(&self.volts);
+        prove_fields!(A, self, Supply { channel, volts })
     }
 
     fn parse_from<M: ParseMode>(alloc: A, parser: &mut Parser<'_, M>) -> Result<Supply, Fault> {

@@ -4,7 +4,7 @@ ghost use Rattle.ufmt.specs.ValueDocuments.{named_struct, number, option_documen
 ghost use Rattle.ufmt_parse.specs.Values.{is_u8};
 
 use ufmt::{Formatter, fields, uDebug, uWrite};
-use ufmt_parse::{Fault, ParseMode, Parser, parse_fields, uParse};
+use ufmt_parse::{Fault, ParseMode, Parser, parse_fields, prove_fields, uParse};
 
 /// A struct of truth values and an option, whose documents are choices.
 #[derive(Drop)]
@@ -36,7 +36,7 @@ impl<A: Copy> uParse<A> for Switch {
     ghost is_value = { λ s. IfSome s.next is_u8 };
 
     fn prove_value(&self) {
-        <Option<u8> as uParse<A>>::prove_value(&self.next);
+        prove_fields!(A, self, Switch { is_on, next, is_lit })
     }
 
     fn parse_from<M: ParseMode>(alloc: A, parser: &mut Parser<'_, M>) -> Result<Switch, Fault> {

@@ -25,6 +25,7 @@ mod macros;
 mod name;
 mod place;
 mod placed;
+mod proving;
 mod round_trips;
 mod std_impls;
 mod uparse;

@@ -22,7 +22,7 @@ HEAD = """# API
 What you can call, by the crate that you name. `./x generate` writes this page from the sources: a call has its signature, its clauses and the first sentence of its comment. A heading has the path below the crate: `pieces::Each` of `ufmt` is `use ufmt::pieces::Each;`. `Builder` has none: name its aliases, such as `DebugList`. Where there is a call for each number of fields, such as `struct_0` to `struct_12`, the one with two fields stands for all. [PROMISES.md](PROMISES.md) has the laws of each crate, and the CALLING page of a crate says how to use it. [GLOSSARY.md](GLOSSARY.md) explains the words that aren't of clauses.
 """
 # Other macros are called by these.
-MACROS = {"fields", "variants", "uwrite", "uwriteln", "pieces", "parse_fields", "parse_variants", "assert_snapshot"}
+MACROS = {"fields", "variants", "uwrite", "uwriteln", "pieces", "parse_fields", "parse_variants", "prove_fields", "prove_variants", "assert_snapshot"}
 # A call for each number of fields: the page has the one with two.
 ONE_OF_MANY = re.compile(r"_(?!2$)\d+$")
 ALIAS = re.compile(r"pub type (\w+).*= (\w+)")

@@ -39,35 +39,31 @@ impl%(parsed)s uParse<Global> for %(name)s%(parameter)s {
     ghost is_value = { λ %(value)s };
 
     fn prove_value(&self) {
-%(shown)s    }
+        prove_fields!(Global, self, %(name)s { %(names)s })
+    }
 
     fn parse_from<M: ParseMode>(alloc: Global, parser: &mut Parser<'_, M>) -> Result<%(name)s%(parameter)s, Fault> {
         parse_fields!(alloc, parser, %(name)s { %(names)s })
     }
 }
 """
-SHOWN = {"read": "        let _%(field)s = self.%(field)s;\n", "call": "        uParse::<Global>::prove_value(&self.%(field)s);\n", "": ""}
 
 
 def kinds():
-    rows = (line.split(" | ", 3) for line in TABLE.read_text().splitlines() if not line.startswith("#"))
-    made = {}
-    for name, kind, document, rest in rows:
-        value, _, shown = rest.rpartition("|")
-        made[name] = (kind, document, value.strip(), shown.strip())
-    return made
+    rows = (re.split(r" \|(?: |$)", line, maxsplit=3) for line in TABLE.read_text().splitlines() if not line.startswith("#"))
+    return {kind: (type_of, document, value.strip()) for kind, type_of, document, value in rows}
 
 
 def struct(name, drawn, table):
     rows = [("abc"[i], *table[kind]) for i, kind in enumerate(drawn)]
-    values = [value.replace("s.x", "s." + field) for field, _, _, value, _ in rows if value]
+    values = [value.replace("s.x", "s." + field) for field, _, _, value in rows if value]
     generic = "parameter" in drawn
     return STRUCT % {
         "told": ", ".join(drawn), "name": name, "parameter": "<T>" * generic, "printed": "<T: uDebug>" * generic,
         "parsed": "<T: uParse<Global>>" * generic, "names": ", ".join(row[0] for row in rows),
         "fields": "".join("    pub %s: %s,\n" % row[:2] for row in rows),
-        "documents": "".join('("%s", %s) ∷ ' % (field, document.replace("s.x", "s." + field)) for field, _, document, _, _ in rows),
-        "value": "s. " + " × ".join(values) if values else "_. ⊤", "shown": "".join(SHOWN[row[4]] % {"field": row[0]} for row in rows)}
+        "documents": "".join('("%s", %s) ∷ ' % (field, document.replace("s.x", "s." + field)) for field, _, document, _ in rows),
+        "value": "s. " + " × ".join(values) if values else "_. ⊤"}
 
 
 def draws(given, table):
