@@ -95,7 +95,7 @@ pub(crate) fn count_digits(n: u64) -> usize
     count
 }
 
-/// Takes the last `places` digits off a number that has more, and counts them.
+/// Removes the last `places` digits from a number that has more, and adds them to the count.
 #[inline(always)]
 fn cut(n: u64, count: usize, unit: u64, places: usize) -> (u64, usize)
     requires small { (count < 100) × (places < 20) }
