@@ -8,9 +8,10 @@ use Rattle.std.proofs.lemmas.Bool.Decides.{nat_tests}
 use Rattle.std.proofs.lemmas.List.{length-map, map-append, replicate_more}
 use Rattle.std.proofs.lemmas.List.Elements.{All-append, All-nil, All-cons}
 use Rattle.ufmt_core.specs.Bytes.{zero_digit}
-use Rattle.ufmt_core.specs.Decimal.{decimal, decimal_byte, last_digits, numeral, sign_of, value_in_base}
+use Rattle.ufmt_float.specs.Text.{last_digits}
+use Rattle.ufmt_core.specs.Decimal.{decimal, decimal_byte, numeral, sign_of, value_in_base}
 use Rattle.ufmt_core.proofs.DecimalTexts.{decimal-in_base}
-use Rattle.ufmt_core.proofs.LastDigits.{length-last_digits}
+use Rattle.ufmt_float.proofs.Puts.{length-last_digits}
 use Rattle.ufmt_core.proofs.Numerals.{numeral-denotes}
 use Rattle.ufmt_core.proofs.NumeralTexts.{text-digit, text-step}
 use Rattle.ufmt_fixed.specs.Text.{fixed_digits, point_and_last}

@@ -8,15 +8,12 @@ use Rattle.std.proofs.lemmas.Nat.{le-div}
 use Rattle.std.specs.Int.{from_bool}
 use Rattle.std.proofs.Math.Dec.{ltb}
 use Rattle.std.proofs.lemmas.Bool.{ltb-true, ltb-false}
-use Rattle.ufmt_core.specs.Decimal.{decimal_byte, decimal, last_digits}
+use Rattle.ufmt_float.specs.Text.{last_digits}
+use Rattle.ufmt_float.proofs.Puts.{length-last_digits}
+use Rattle.ufmt_core.specs.Decimal.{decimal_byte, decimal}
 use Rattle.ufmt_core.proofs.DecimalTexts.{decimal-in_base}
 use Rattle.ufmt_core.proofs.NumeralTexts.{text-digit, text-step, text-nonempty}
 use Rattle.ufmt_core.proofs.WrittenDigits.{IsWrittenFrom}
-
-pub length-last_digits : (count n : ℕ) → length (last_digits count n) ≡ count
-unfolding last_digits
-length-last_digits zero n = refl
-length-last_digits (suc count) n = omega (arith, length-append (last_digits count (n / 10)) (decimal_byte (n % 10) ∷ []), length-last_digits count (n / 10))
 
 -- the last two digits are the tens and the ones
 pub last_digits-two : (n : ℕ) → n < 100 → last_digits 2 n ≡ decimal_byte (n / 10) ∷ decimal_byte (n % 10) ∷ []

@@ -1,8 +1,7 @@
 -- Decimal texts of whole numbers: which text denotes which number.
-use Rattle.std.specs.Prelude.{◌≡◌, ℕ, zero, suc, ◌+◌, ◌*◌, ◌/◌, ◌%◌, ◌^◌, ◌<◌, List, [], ◌∷◌, ◌++◌, map, length, slice_index, codes, ℤ, pos, negsuc, nat_abs}
+use Rattle.std.specs.Prelude.{◌≡◌, ℕ, zero, suc, ◌+◌, ◌*◌, ◌^◌, ◌<◌, List, [], ◌∷◌, ◌++◌, map, length, slice_index, codes, ℤ, pos, negsuc, nat_abs}
 use Rattle.std.specs.List.{All}
 use Rattle.std.specs.Int.Digits.{digits_of}
-use Rattle.ufmt_core.specs.Bytes.{zero_digit}
 use Rattle.ufmt_core.specs.Bytes.{zero_digit}
 
 -- the value of digits in a base, the highest first: the base to the power of the digits after it, for each digit
@@ -46,11 +45,6 @@ numeral base (suc n) = digits_of base (suc n)
 -- the text that denotes this number: `EachNumberIsDenoted` and `OneTextDenotes` leave only one
 unfoldable pub decimal : ℤ → List ℕ
 decimal z = sign_of z ++ map decimal_byte (numeral 10 (nat_abs z))
-
--- the last `count` digits of a number, with zeros before those of a shorter number
-unfoldable pub last_digits : ℕ → ℕ → List ℕ
-last_digits zero n = []
-last_digits (suc count) n = last_digits count (n / 10) ++ (decimal_byte (n % 10) ∷ [])
 
 -- `decimal` gives each number a text that denotes it
 abbrev pub EachNumberIsDenoted : Type 0

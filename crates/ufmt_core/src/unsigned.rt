@@ -1,12 +1,14 @@
 //! Decimal texts of unsigned numbers.
 ghost use Rattle.std.specs.Prelude.{◌≡◌, ◌+◌, ◌++◌, ◌/◌, ◌%◌, ◌^◌, ◌<◌, ◌≤◌, ℕ, pos, length, drop, IsAscii};
 ghost use Rattle.ufmt_core.specs.Document.{leaf};
-ghost use Rattle.ufmt_core.specs.Decimal.{decimal, decimal_byte, last_digits, EachNumberIsDenoted, OneTextDenotes, OneNumberIsDenoted};
+ghost use Rattle.ufmt_core.specs.Decimal.{decimal, EachNumberIsDenoted, OneTextDenotes, OneNumberIsDenoted};
+ghost use Rattle.ufmt_float.specs.Text.{last_digits};
 
 use crate::ascii::text_from;
 use crate::formatter::Formatter;
 use crate::uDebug;
 use crate::write::uWrite;
+use ufmt_float::put::digit_pair;
 
 // Promise (printing): The decimal digits of a whole number denote it and have no leading zeros, and no two
 // numbers share them.
@@ -16,25 +18,6 @@ pub fn decimal_is_one_text()
     ensures one_text { OneTextDenotes }
     ensures one_number { OneNumberIsDenoted }
 {}
-
-// The two digits of each number below 100, the tens first.
-static DIGIT_PAIRS: [u8; 200] = *b"\
-    00010203040506070809101112131415161718192021222324252627282930313233343536373839\
-    40414243444546474849505152535455565758596061626364656667686970717273747576777879\
-    8081828384858687888990919293949596979899";
-
-const _: () = prove!(DIGIT_PAIRS.len() == 2 * 100);
-
-/// Returns the two decimal digits of `i`, the tens first. `i` must be below 100.
-#[inline(always)]
-pub fn digit_pair(i: u8) -> (u8, u8)
-    requires { i < 100 }
-    ensures tens { result.0 ≡ decimal_byte (i / 10) }
-    ensures ones { result.1 ≡ decimal_byte (i % 10) }
-{
-    let at = 2 * i as usize;
-    (DIGIT_PAIRS[at], DIGIT_PAIRS[at + 1])
-}
 
 // A turn takes the remainder by 100, and writes it as a row of `DIGIT_PAIRS`, from the right:
 //

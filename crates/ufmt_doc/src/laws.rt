@@ -15,9 +15,9 @@ use ufmt::{plain_text, pretty_text};
 use ufmt_scan::convert::{convert, other_mode};
 use ufmt_scan::error::ReadError;
 
-// Promise (reading): What is written and read again, or converted there and back, is the same, and the
-// document or the text in between is returned too. A document comes back as its normal form. Also:
-// `laws::text_by_way_of_the_other`, `laws::normal_by_way_of_text`.
+// Promise (reading): A text comes back the same when it is read and printed again, or converted there and back.
+// A document that is printed and read again comes back as its normal form. The calls return the document or the
+// text in between too. Also: `laws::text_by_way_of_the_other`, `laws::normal_by_way_of_text`.
 /// Reads a text of a document of the class, and prints the document in the same mode. Returns the document
 /// and its text, which is the input. Fails with `NotText` if no document of the class has the text, and
 /// otherwise only with `OutOfMemory`.

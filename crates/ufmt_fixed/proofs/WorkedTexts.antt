@@ -1,7 +1,7 @@
 -- Texts of floats with decimals, computed. Each is what rustc prints.
 use Rattle.std.proofs.Common.{◌≡◌, ◌++◌, true, false, pos, negsuc, codes, refl, ap, arith, []}
 use lib.Ieee.{fin, nan, inf}
-use Rattle.ufmt_core.specs.Decimal.{last_digits}
+use Rattle.ufmt_float.specs.Text.{last_digits}
 use Rattle.ufmt_fixed.specs.Nearest.{nearest}
 use Rattle.ufmt_fixed.specs.Text.{fixed_text}
 use Rattle.ufmt_fixed.proofs.Puts.{one_digit}

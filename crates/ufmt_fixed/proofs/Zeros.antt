@@ -6,10 +6,12 @@ use borrow.Author.Tests.{lt-ltb}
 use lib.Count.{count_leading_zeros}
 use lib.Dec.{lit<, lit≤}
 use lib.Pow.{pow-add, pow_pos, pow_mono}
-use Rattle.ufmt_core.specs.Decimal.{decimal, last_digits}
+use Rattle.ufmt_float.specs.Text.{last_digits}
+use Rattle.ufmt_core.specs.Decimal.{decimal}
 use Rattle.ufmt_fixed.specs.Nearest.{nearest}
 use Rattle.ufmt_fixed.specs.Text.{fixed_digits}
-use Rattle.ufmt_fixed.proofs.Puts.{last_digits-none, one_digit}
+use Rattle.ufmt_fixed.proofs.Puts.{one_digit}
+use Rattle.ufmt_float.proofs.Puts.{last_digits-none}
 use Rattle.ufmt_fixed.proofs.Roundings.{nearest_none}
 use Rattle.ufmt_fixed.proofs.Texts.{fixed_with_zeros}
 

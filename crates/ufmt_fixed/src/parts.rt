@@ -20,7 +20,7 @@ pub(crate) enum Parts {
     },
 }
 
-/// Takes a float apart.
+/// Splits a float into its parts.
 #[inline(always)]
 pub(crate) fn parts_of<F: Float>(x: F) -> Parts
     ensures { AreParts (F.value x) result }

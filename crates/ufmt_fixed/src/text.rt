@@ -5,10 +5,11 @@ ghost use Rattle.ufmt_fixed.specs.Nearest.{nearest};
 ghost use Rattle.ufmt_fixed.specs.Text.{fixed_digits, fixed_text};
 
 use crate::parts::{Parts, parts_of};
-use crate::put::{put_byte, put_decimals, put_fixed, put_natural, put_point, put_sign};
+use crate::put::{put_decimals, put_fixed, put_natural, put_point};
 use crate::rounding::{is_below_half, long_digits, short_digits};
 use std::marker::Model;
 use ufmt_float::Float;
+use ufmt_float::put::{put_byte, put_sign};
 
 /// A text of a float below 2 ^ 63 with at most 19 decimals, whose digits together are a word.
 #[derive(Drop)]

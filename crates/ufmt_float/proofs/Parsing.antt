@@ -27,7 +27,7 @@ use Rattle.core.proofs.dec2flt.Rows.{AllDigits-append}
 use Rattle.core.proofs.fmt.DigitsParse.{decimal_is_IsNumeral}
 use Rattle.std.proofs.lemmas.Float.Parse.{parse_float-text_of}
 use Rattle.ufmt_float.specs.Text.{last_digits, fixed_text, plain_text, scientific_text, decimal_text, is_plain, more_digits}
-use Rattle.ufmt_float.proofs.Puts.{length-last_digits, length-digits}
+use Rattle.ufmt_float.proofs.Puts.{last_digits-none, last_digits-front, length-last_digits, length-digits}
 
 -- ---- digits
 
@@ -42,14 +42,14 @@ next_remainder : (n count : ℕ) → n / 10 ^ count % 10 * 10 ^ count + n % 10 ^
 next_remainder n count = sym (ap (λ x. n % x) (pow-succ' 10 count) ∙ mod-mul n {m = 10} {c = 10 ^ count} (omega arith) (power_pos 10 count (omega arith)))
 
 last_digits_value : (count n : ℕ) → AllDigits 10 (last_digits count n) × (digits_value 10 (last_digits count n) ≡ n % 10 ^ count)
-unfolding last_digits
-last_digits_value zero n = (tt, omega arith)
+last_digits_value zero n = rw (last_digits-none n) (tt, omega arith)
 last_digits_value (suc count) n =
     let h = last_digits_value count n in
     let d : ℕ = n / 10 ^ count % 10 in
     let small : d < 10 = omega arith in
     let is : digit_value (48 + d) ≡ d = digit d small in
     let value = digits_value_after_is (0 * 10 + digit_value (48 + d)) (last_digits count n) in
+    rw (last_digits-front count n)
     ((omega arith, h.0), value ∙ omega (arith, ap (λ x. x * 10 ^ length (last_digits count n)) is, ap (λ x. d * 10 ^ x) (length-last_digits count n), h.1, next_remainder n count))
 
 -- ---- numerals

@@ -6,7 +6,6 @@ use native.Mathlib.Omega.{arith}
 use native.Mathlib.Nat.{eq-zero-or-pos, div-eq_of_lt, div-div-eq-div-mul, div-one, div-le_self, pow-suc, pow-succ', le-div_iff_mul-le, div-lt_iff_lt-mul}
 use mathlib.Core.Bool.{false≢true}
 use borrow.Author.Tests.{lt-ltb, le-ltb, le-leb, leb-true, ltb-true}
-use native.Mathlib.Numerals.{add-one}
 use lib.Pow.{pow-add}
 use Rattle.core.proofs.dec2flt.LimbsLemmas.{power_pos}
 use Rattle.core.proofs.fmt.Decimal.{decimal_step, decimal_by_steps, decimal_is_bounded, length-decimal-le}
@@ -44,18 +43,22 @@ put_before front text end middle start old mid new p q = record {
 
 -- ---- digits
 
-pub last_digits-zero : (n : ℕ) → last_digits 0 n ≡ []
+pub last_digits-none : (n : ℕ) → last_digits 0 n ≡ []
 unfolding last_digits
-last_digits-zero n = refl
+last_digits-none n = refl
 
-pub last_digits-suc : (count n : ℕ) → last_digits (count + 1) n ≡ (48 + n / 10 ^ count % 10) ∷ last_digits count n
+-- the digit before the last ones
+pub last_digits-front : (count n : ℕ) → last_digits (suc count) n ≡ (48 + n / 10 ^ count % 10) ∷ last_digits count n
 unfolding last_digits
-last_digits-suc count n = rw add-one refl
+last_digits-front zero n = ap (λ x. (48 + x % 10) ∷ []) (sym (div-one n))
+last_digits-front (suc count) n =
+    let tenth : n / 10 / 10 ^ count ≡ n / 10 ^ suc count = div-div-eq-div-mul n 10 (10 ^ count) ∙ ap (λ x. n / x) (sym (pow-succ' 10 count)) in
+    ap (λ text. text ++ ((48 + n % 10) ∷ [])) (last_digits-front count (n / 10)) ∙ ap (λ x. (48 + x % 10) ∷ last_digits (suc count) n) tenth
 
 pub length-last_digits : (count n : ℕ) → length (last_digits count n) ≡ count
 unfolding last_digits
 length-last_digits zero n = refl
-length-last_digits (suc count) n = ap suc (length-last_digits count n)
+length-last_digits (suc count) n = omega (arith, length-append (last_digits count (n / 10)) ((48 + n % 10) ∷ []), length-last_digits count (n / 10))
 
 ten_power : (k : ℕ) → 0 < 10 ^ k
 ten_power k = power_pos 10 k (omega arith)
@@ -63,15 +66,12 @@ ten_power k = power_pos 10 k (omega arith)
 pub next_quotient : (n k : ℕ) → n / 10 ^ k / 10 ≡ n / 10 ^ (k + 1)
 next_quotient n k = div-div-eq-div-mul n (10 ^ k) 10 ∙ ap (λ x. n / x) (sym (pow-add 10 k 1))
 
--- the last digit is that of the number, and the others are those of its tenth
+-- the last digit comes after the last ones of the number's tenth
 last_digits-end : (count n : ℕ) → last_digits (suc count) n ≡ last_digits count (n / 10) ++ ((48 + n % 10) ∷ [])
 unfolding last_digits
-last_digits-end zero n = ap (λ x. (48 + x % 10) ∷ []) (div-one n)
-last_digits-end (suc count) n =
-    let tenth : n / 10 ^ suc count ≡ n / 10 / 10 ^ count = ap (λ x. n / x) (pow-succ' 10 count) ∙ sym (div-div-eq-div-mul n 10 (10 ^ count)) in
-    (λ i. (48 + tenth i % 10) ∷ last_digits-end count n i)
+last_digits-end count n = refl
 
-last_digits-one : (n : ℕ) → last_digits 1 n ≡ (48 + n / 1 % 10) ∷ []
+last_digits-one : (n : ℕ) → last_digits 1 n ≡ (48 + n % 10) ∷ []
 unfolding last_digits
 last_digits-one n = refl
 
@@ -81,7 +81,7 @@ decimal-last_digits n h = decimal_by_steps (λ m text. text ≡ last_digits (len
   where
     one : (m : ℕ) → m < 10 → ((48 + m) ∷ []) ≡ last_digits 1 m
     one m l =
-        let digit : m / 1 % 10 ≡ m = omega arith in
+        let digit : m % 10 ≡ m = omega arith in
         rw last_digits-one (ap (λ x. (48 + x) ∷ []) (sym digit))
 
     more : (m : ℕ) (ds : List ℕ) → 10 ≤ m → ds ≡ last_digits (length ds) (m / 10) → ds ++ ((48 + m % 10) ∷ []) ≡ last_digits (length (ds ++ ((48 + m % 10) ∷ []))) m
@@ -101,7 +101,8 @@ pub put_digit : (n i left end : ℕ) (old new : List ℕ) → i < end → end �
 put_digit n i left end old new I E e p =
     let first : end - i - 1 ≡ end - (i + 1) = omega arith in
     let at : end - i - 1 ≡ end - 1 - i = omega arith in
-    rw (last_digits-suc i n, ← first, ← at, e) (put_more (last_digits i n) end (end - i) (48 + n / 10 ^ i % 10) old new (omega arith) E p)
+    let one : i + 1 ≡ suc i = omega arith in
+    rw (← first, ← at, one, last_digits-front i n, e) (put_more (last_digits i n) end (end - i) (48 + n / 10 ^ i % 10) old new (omega arith) E p)
 
 -- the length of a number with decimals
 pub length-fixed : (digits places : ℕ) → length (fixed_text digits places) ≡ length (decimal (digits / 10 ^ places)) + 1 + places

@@ -5,10 +5,10 @@ use lib.Ieee.{Float, Format, nan, inf, fin}
 use Rattle.core.specs.Fmt.{decimal, sign_text}
 use Rattle.ufmt_float.specs.Shortest.{IsShortestDecimal, distance}
 
--- the last so many digits of a number, with zeros before those of a shorter one
+-- the last `count` digits of a number, with zeros before those of a shorter number
 unfoldable pub last_digits : ℕ → ℕ → List ℕ
 last_digits zero n = []
-last_digits (suc count) n = (48 + n / 10 ^ count % 10) ∷ last_digits count n
+last_digits (suc count) n = last_digits count (n / 10) ++ ((48 + n % 10) ∷ [])
 
 -- digits / 10 ^ places: the whole part, a point, and that many decimals
 abbrev pub fixed_text : ℕ → ℕ → List ℕ

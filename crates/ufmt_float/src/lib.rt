@@ -9,7 +9,7 @@ mod limbs;
 mod narrow;
 mod parts;
 mod powers;
-mod put;
+pub mod put;
 mod ratio;
 mod scale;
 mod text;

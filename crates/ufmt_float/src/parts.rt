@@ -150,7 +150,7 @@ pub(crate) enum Parts {
     },
 }
 
-/// Takes a float apart.
+/// Splits a float into its parts.
 #[inline(always)]
 pub(crate) fn parts_of<F: Float>(x: F) -> Parts
     ensures { AreParts F.format (F.value x) result }

@@ -10,7 +10,7 @@ use crate::powers::{TEN_TO_4, TEN_TO_8, TEN_TO_16};
 
 /// Writes one byte.
 #[inline(always)]
-pub(crate) fn put_byte(buffer: &mut [u8], end: usize, byte: u8) -> usize
+pub fn put_byte(buffer: &mut [u8], end: usize, byte: u8) -> usize
     requires { (0 < end) × (end ≤ length buffer.old) }
     ensures { IsPut (byte ∷ []) end buffer.old result buffer.new }
 {
@@ -37,9 +37,9 @@ static DIGIT_PAIRS: [u8; 200] = *b"\
 
 const _: () = prove!(DIGIT_PAIRS.len() == 2 * 100);
 
-/// Returns the two digits of a number below 100, the tens first.
+/// Returns the two digits of `i`, the tens first. `i` must be below 100.
 #[inline(always)]
-fn digit_pair(i: u8) -> (u8, u8)
+pub fn digit_pair(i: u8) -> (u8, u8)
     requires { i < 100 }
     ensures tens { result.0 ≡ 48 + i / 10 }
     ensures ones { result.1 ≡ 48 + i % 10 }
@@ -49,7 +49,8 @@ fn digit_pair(i: u8) -> (u8, u8)
 }
 
 /// Writes the last `count` digits, two at a time, and returns the number that the digits before them denote.
-pub(crate) fn put_last_digits(buffer: &mut [u8], end: usize, n: u64, count: usize) -> u64
+#[inline(always)]
+pub fn put_last_digits(buffer: &mut [u8], end: usize, n: u64, count: usize) -> u64
     requires { (count ≤ end) × (end ≤ length buffer.old) }
     ensures left { result ≡ n / 10 ^ count }
     ensures written { IsPut (last_digits count n) end buffer.old (end - count) buffer.new }
@@ -94,7 +95,7 @@ pub(crate) fn count_digits(n: u64) -> usize
     count
 }
 
-/// Takes the last `places` digits off a number that has more, and counts them.
+/// Removes the last `places` digits from a number that has more, and adds them to the count.
 #[inline(always)]
 fn cut(n: u64, count: usize, unit: u64, places: usize) -> (u64, usize)
     requires small { (count < 100) × (places < 20) }
@@ -125,7 +126,7 @@ pub(crate) fn put_decimal(buffer: &mut [u8], end: usize, n: u64) -> usize
 
 /// Writes a minus if `negative`, else nothing.
 #[inline(always)]
-pub(crate) fn put_sign(buffer: &mut [u8], end: usize, negative: bool) -> usize
+pub fn put_sign(buffer: &mut [u8], end: usize, negative: bool) -> usize
     requires { (length (sign_text negative) ≤ end) × (end ≤ length buffer.old) }
     ensures { IsPut (sign_text negative) end buffer.old result buffer.new }
 {

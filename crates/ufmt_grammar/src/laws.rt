@@ -25,8 +25,8 @@ pub fn float_texts_are_leaves()
 {}
 
 // Promise (reading): A normal form has the texts and the class of its document. Whole numbers are words. A
-// token document whose names are words, without quotes and dots and within 255 blocks, has only words and `()`
-// as leaves. Also: `laws::numbers_are_words`, `laws::unquoted_as_before`.
+// token document without quoted leaves has only words and `()` as leaves. Also: `laws::numbers_are_words`,
+// `laws::unquoted_as_before`.
 /// The normal form of a document is in normal form, and has the document's text in each mode and from
 /// each depth. It is of each class that the document is of.
 pub fn normal_forms()

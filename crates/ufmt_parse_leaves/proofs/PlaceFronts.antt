@@ -2,9 +2,10 @@
 use Rattle.std.proofs.Common.{◌≡◌, refl, sym, ap, ◌∙◌, ℕ, zero, suc, ◌+◌, ◌-◌, ◌*◌, ◌/◌, ◌%◌, ◌^◌, ◌<◌, ◌≤◌, Bool, true, false, true≢false, cond, List, [], ◌∷◌, ◌++◌, length, drop, div-one, arith, length-append}
 use Rattle.std.proofs.Math.Nat.{pow-zero, pow-succ', div-div-eq-div-mul}
 use Rattle.std.specs.Char.{is_ascii_digit}
-use Rattle.ufmt_core.specs.Decimal.{decimal_byte, last_digits}
-use Rattle.ufmt_core.proofs.LastDigits.{length-last_digits}
-use Rattle.ufmt_fixed.proofs.Puts.{last_digits-front, last_digits-none, last_digits-rest}
+use Rattle.ufmt_float.specs.Text.{last_digits}
+use Rattle.ufmt_core.specs.Decimal.{decimal_byte}
+use Rattle.ufmt_float.proofs.Puts.{last_digits-front, last_digits-none, length-last_digits}
+use Rattle.ufmt_fixed.proofs.Puts.{last_digits-rest}
 use Rattle.ufmt_parse_leaves.specs.Private.Digits.{after_digits, begins_digit, value_after}
 use Rattle.ufmt_parse_leaves.specs.Private.Places.{begins_point, Completes, CompletesNone, CompletesOne, EndsFixed}
 use Rattle.ufmt_parse_leaves.specs.Values.{is_u64}

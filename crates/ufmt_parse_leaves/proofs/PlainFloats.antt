@@ -13,16 +13,15 @@ use Rattle.core.specs.Fmt as Fmt
 use Rattle.core.proofs.fmt.Decimal.{decimal_step, decimal_by_steps, length-decimal-le}
 use Rattle.core.proofs.dec2flt.LimbsLemmas.{power_pos}
 use Rattle.ufmt_float.specs.Shortest.{IsAboveZero, IsShortestDecimal}
-use Rattle.ufmt_float.specs.Text.{decimal_text, plain_text, scientific_text, is_plain, more_digits, fixed_text, IsFloatText}
-use Rattle.ufmt_float.specs.Text as Text
+use Rattle.ufmt_float.specs.Text.{last_digits, decimal_text, plain_text, scientific_text, is_plain, more_digits, fixed_text}
 use Rattle.ufmt_float.proofs.Puts.{length-cut, decimal_bounds, length-digits}
-use Rattle.ufmt_core.specs.Decimal.{decimal, last_digits}
+use Rattle.ufmt_core.specs.Decimal.{decimal}
 use Rattle.ufmt_core.specs.FloatText.{float_text}
 use Rattle.ufmt_core.proofs.DecimalTexts.{decimal-in_base}
 use Rattle.ufmt_core.proofs.NumeralTexts.{text-digit, text-step}
 use Rattle.ufmt_core.proofs.FloatTexts.{the_float_text}
 use Rattle.ufmt_fixed.specs.Text.{fixed_digits}
-use Rattle.ufmt_fixed.proofs.Puts.{last_digits-none, last_digits-front, last_digits-rest}
+use Rattle.ufmt_fixed.proofs.Puts.{last_digits-rest}
 use Rattle.ufmt_parse_leaves.specs.FixedPoint.{fixed_number}
 use Rattle.ufmt_parse_leaves.specs.Private.PlainDecimals.{IsPlainDecimal, IsPrintedAs}
 use Rattle.ufmt_parse_leaves.specs.Values.{IsFloatOf}
@@ -38,15 +37,10 @@ same_decimal n small = decimal_by_steps (λ m text. text ≡ decimal (pos m)) on
     more : (m : ℕ) (ds : List ℕ) → 10 ≤ m → ds ≡ decimal (pos (m / 10)) → ds ++ ((48 + m % 10) ∷ []) ≡ decimal (pos m)
     more m ds high same = ap (λ t. t ++ ((48 + m % 10) ∷ [])) same ∙ sym (text-step decimal-in_base m high)
 
-same_last : (count n : ℕ) → Text.last_digits count n ≡ last_digits count n
-unfolding Text.last_digits
-same_last zero n = sym (last_digits-none n)
-same_last (suc count) n = ap (λ t. (48 + n / 10 ^ count % 10) ∷ t) (same_last count n) ∙ sym (last_digits-front count n)
-
 same_fixed : (digits places : ℕ) → digits < 2 ^ 64 → 0 < places → digits / 10 ^ places < 2 ^ 64 → fixed_text digits places ≡ fixed_digits places digits
 same_fixed digits zero small some whole = absurd (omega arith)
 same_fixed digits (suc places) small some whole =
-    λ i. same_decimal (digits / 10 ^ suc places) whole i ++ (codes "." ++ (same_last (suc places) digits ∙ sym (last_digits-rest (suc places) digits)) i)
+    λ i. same_decimal (digits / 10 ^ suc places) whole i ++ (codes "." ++ sym (last_digits-rest (suc places) digits) i)
 
 -- ---- a decimal that is printed with a point and no exponent
 
@@ -97,8 +91,8 @@ raised (suc e) left some small =
     decimal_step n (omega arith) small ∙ (λ i. Fmt.decimal (tenth i) ++ (last i ∷ [])) ∙ ap (λ t. t ++ (48 ∷ [])) (raised e left some (omega arith))
     ∙ append_assoc (Fmt.decimal left) (replicate e 48) (48 ∷ []) ∙ ap (λ t. Fmt.decimal left ++ t) (zeros_end e)
 
-last_one : (n : ℕ) → 48 + n / 10 ^ 0 % 10 ≡ 48 → Text.last_digits 1 n ≡ 48 ∷ []
-unfolding Text.last_digits
+last_one : (n : ℕ) → 48 + n % 10 ≡ 48 → last_digits 1 n ≡ 48 ∷ []
+unfolding last_digits
 last_one n e = ap (λ c. c ∷ []) e
 
 -- the text of a whole number ends in `.0`
@@ -108,7 +102,7 @@ whole left e some few =
     let power : ℕ = 400 + e in
     let ten : digits ≡ left * 10 ^ e * 10 = next_ten left e in
     let tenth : digits / 10 ^ 1 ≡ left * 10 ^ e = omega arith in
-    let zero_last : 48 + digits / 10 ^ 0 % 10 ≡ 48 = omega arith in
+    let zero_last : 48 + digits % 10 ≡ 48 = omega arith in
     let small : left * 10 ^ e < 2 ^ 64 = omega arith in
     let short : suc e < 17 = elim (eq-zero-or-pos (17 - suc e)) [
       | inr p ↦ omega arith

@@ -1,6 +1,6 @@
 -- Texts of fixed-point numbers, computed. Each is what `{:?}` prints of a `Decimal` with this value and these places.
 use Rattle.std.proofs.Common.{◌≡◌, ◌++◌, [], pos, negsuc, codes, ap, arith}
-use Rattle.ufmt_core.specs.Decimal.{last_digits}
+use Rattle.ufmt_float.specs.Text.{last_digits}
 use Rattle.ufmt_fixed.proofs.Puts.{one_digit}
 use Rattle.ufmt_parse_leaves.specs.FixedPoint.{fixed_number}
 

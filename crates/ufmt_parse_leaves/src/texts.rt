@@ -142,7 +142,7 @@ fn read_bytes<'t, A: Allocator>(
     }
 }
 
-/// Takes a text in quotation marks, with the escapes that printing writes and no others. What is in ASCII
+/// Parses a text in quotation marks, with the escapes that printing writes and no others. What is in ASCII
 /// needs no test of UTF-8.
 pub fn parse_text<A: Allocator + Copy, M: ParseMode>(
     alloc: A,

@@ -15,7 +15,7 @@ use std::alloc::Allocator;
 use ufmt_core::layout::{Count, Kind};
 use ufmt_core::uDebug;
 
-/// Takes a list, each value by this parser.
+/// Parses a list, each value by this parser.
 pub fn parse_list<A: Allocator + Copy, M: ParseMode, T: uDebug + Drop, P: ParsesBy<A, M, T>>(
     alloc: A,
     parser: &mut Parser<'_, M>,
@@ -33,7 +33,7 @@ pub fn parse_list<A: Allocator + Copy, M: ParseMode, T: uDebug + Drop, P: Parses
     parse_entries(alloc, parser, Kind::Brackets, by)
 }
 
-/// Takes the keys of a set, in any order, each by this parser.
+/// Parses the keys of a set, in any order, each by this parser.
 pub fn parse_keys<A: Allocator + Copy, M: ParseMode, T: uDebug + Drop, P: ParsesBy<A, M, T>>(
     alloc: A,
     parser: &mut Parser<'_, M>,
@@ -50,7 +50,7 @@ pub fn parse_keys<A: Allocator + Copy, M: ParseMode, T: uDebug + Drop, P: Parses
     parse_entries(alloc, parser, Kind::Braces, by)
 }
 
-/// Takes the entries of a map, in any order, each by this parser.
+/// Parses the entries of a map, in any order, each by this parser.
 pub fn parse_pairs<
     A: Allocator + Copy,
     M: ParseMode,
@@ -72,7 +72,7 @@ pub fn parse_pairs<
     parse_entries(alloc, parser, Kind::Braces, by)
 }
 
-/// Takes a block in brackets or braces, each entry by this parser.
+/// Parses a block in brackets or braces, each entry by this parser.
 pub fn parse_entries<A: Allocator + Copy, M: ParseMode, E: Drop, P: EntryParser<A, M, E>>(
     alloc: A,
     parser: &mut Parser<'_, M>,
@@ -107,7 +107,7 @@ pub fn parse_entries<A: Allocator + Copy, M: ParseMode, E: Drop, P: EntryParser<
     Ok(entries)
 }
 
-// Takes one entry or more of the innermost block, and its end.
+// Parses one entry or more of the innermost block, and its end.
 fn parse_some<A: Allocator + Copy, M: ParseMode, E: Drop, P: EntryParser<A, M, E>>(
     alloc: A,
     parser: &mut Parser<'_, M>,

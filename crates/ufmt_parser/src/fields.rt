@@ -31,7 +31,7 @@ pub trait FieldParsers<A, M: ParseMode, V> {
     // Whether they may be called where so many blocks are open.
     ghost ready: { Self → ℕ → Type 0 };
 
-    // Takes the fields that are left of a block, each after its name as far as there are names, and the
+    // Parses the fields that are left of a block, each after its name as far as there are names, and the
     // block's end.
     fn parse_rest(
         &self,
@@ -79,7 +79,7 @@ impl<A: Copy, M: ParseMode> FieldParsers<A, M, ()> for () {
     }
 }
 
-// Takes a field, with its name if it has one, and then the others.
+// Parses a field, with its name if it has one, and then the others.
 #[inline(always)]
 fn parse_entry_first<
     A: Copy,
@@ -121,7 +121,7 @@ fn parse_entry_first<
     Ok((value, values))
 }
 
-/// Takes the first of the fields that are left of a block, by its parser, and then the others.
+/// Parses the first of the fields that are left of a block, by its parser, and then the others.
 #[inline(always)]
 pub(crate) fn parse_first<
     A: Copy,
@@ -167,7 +167,7 @@ pub(crate) fn parse_first<
     }
 }
 
-// Takes a block with this name and these fields.
+// Parses a block with this name and these fields.
 #[inline(always)]
 fn parse_block<A: Copy, M: ParseMode, V: Drop, R: FieldParsers<A, M, V>>(
     alloc: A,
@@ -202,7 +202,7 @@ fn parse_block<A: Copy, M: ParseMode, V: Drop, R: FieldParsers<A, M, V>>(
     Ok(values)
 }
 
-/// Takes a struct with these fields.
+/// Parses a struct with these fields.
 #[inline(always)]
 pub fn parse_struct<A: Copy, M: ParseMode, V: Drop, R: FieldParsers<A, M, V>>(
     alloc: A,
@@ -231,7 +231,7 @@ pub fn parse_struct<A: Copy, M: ParseMode, V: Drop, R: FieldParsers<A, M, V>>(
     parse_block(alloc, parser, Kind::Struct, name, names, fields)
 }
 
-/// Takes a tuple with these fields.
+/// Parses a tuple with these fields.
 #[inline(always)]
 pub fn parse_tuple<A: Copy, M: ParseMode, V: Drop, R: FieldParsers<A, M, V>>(
     alloc: A,

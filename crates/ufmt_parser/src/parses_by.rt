@@ -18,7 +18,7 @@ pub trait ParsesBy<A, M: ParseMode, T: uDebug> {
     /// Whether it may be called where so many blocks are open.
     ghost ready: { Self → ℕ → Type 0 };
 
-    /// Takes the text of a value from the front, as `parse_from` of `uParse` does.
+    /// Parses the text of a value from the front, as `parse_from` of `uParse` does.
     fn parse_by(&self, alloc: A, parser: &mut Parser<'_, M>) -> Result<T, Fault>
         requires { ready self.now (open_blocks parser.old) }
         ensures takes { Takes (λ v. is_value v × Fits (open_blocks parser.old) (T.document v))

@@ -10,7 +10,7 @@ use crate::mode::ParseMode;
 use crate::need::Need;
 use crate::parser::{Fault, Parser};
 
-/// Takes a name, as `parse_from` does a value that prints as its name alone. The name may be the beginning
+/// Parses a name, as `parse_from` does a value that prints as its name alone. The name may be the beginning
 /// of a longer one: see `is_named`.
 #[inline(always)]
 pub fn parse_unit<M: ParseMode>(parser: &mut Parser<'_, M>, name: &str) -> Result<(), Fault>

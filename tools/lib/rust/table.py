@@ -13,6 +13,9 @@ FORM = re.compile(r"([^\n]+)\nwhy: ([^\n]+)\n(?:shown: ([^\n]+)\n)?(?:times: (\d
 UNSAFE = {
     "text_from": "`start` is at most `buffer.len()`, and the bytes from there on are ASCII.",
     "digit_pair": "The number is at most 99.",
+    "put_byte": "`end` is from 1 to `buffer.len()`.",
+    "put_sign": "`end` is at most `buffer.len()`, and at least 1 for a minus.",
+    "put_last_digits": "`end` is from `count` to `buffer.len()`.",
     "put": "`start + bytes.len()` is at most `buffer.len()`.",
 }
 PAGE_HEAD = ["| Why | In the sources → in Rust |", "|---|---|"]

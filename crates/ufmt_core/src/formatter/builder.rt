@@ -203,7 +203,7 @@ impl<W: uWrite, K: BlockKind> Builder<'_, W, K> {
         self.formatter.setting = self.outer.inside();
     }
 
-    // Takes this status and count if the outcome is `Ok`, else closes the builder.
+    // Sets this status and count if the outcome is `Ok`, else closes the builder.
     #[inline(always)]
     fn advance_or_close(
         &mut self,

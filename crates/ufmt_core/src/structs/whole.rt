@@ -36,7 +36,7 @@ pub trait NamedFields<'a> {
 impl<'a> NamedFields<'a> for () {
     ghost fields = { λ _. no_fields };
 
-    // Out of line, as `begin_named` is: all structs share one copy.
+    // Not inlined, like `begin_named`: all structs share one copy.
     #[inline(never)]
     fn finish<W: uWrite>(&self, builder: &mut DebugStruct<W>) -> Result<(), W::Error> {
         builder.finish()

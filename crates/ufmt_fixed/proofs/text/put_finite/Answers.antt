@@ -3,7 +3,7 @@ use mathlib.Core.Path.{refl, sym, subst, ap, ◌∙◌}
 use native.Mathlib.Omega.{arith}
 use Rattle.core.specs.Str.{IsAscii}
 use Rattle.ufmt_core.specs.Decimal.{decimal}
-use Rattle.ufmt_core.proofs.LastDigits.{length-last_digits}
+use Rattle.ufmt_float.proofs.Puts.{length-last_digits}
 use Rattle.ufmt_float.proofs.Puts.{put_before}
 use Rattle.ufmt_fixed.specs.Natural.{value_of}
 use Rattle.ufmt_fixed.proofs.Puts.{put_last}

@@ -1,11 +1,11 @@
 use Rattle.core.specs.Prelude.{◌≡◌, ◌-◌}
 use mathlib.Core.Path.{refl}
 use native.Mathlib.Omega.{arith}
-use Rattle.ufmt_float.proofs.Puts.{put_none, put_pair, pair_quotient, last_digits-zero}
+use Rattle.ufmt_float.proofs.Puts.{put_none, put_pair, pair_quotient, last_digits-none}
 use Rattle.ufmt_float.proofs.put.put_pairs.Goals as goal
 
 pub loop-i-init : goal.loop-i-init
-loop-i-init c = (omega arith, let all : c.args.end - 0 ≡ c.args.end = omega arith in rw (last_digits-zero, all) (put_none c.args.end c.args.buffer.now))
+loop-i-init c = (omega arith, let all : c.args.end - 0 ≡ c.args.end = omega arith in rw (last_digits-none, all) (put_none c.args.end c.args.buffer.now))
 
 pub loop-i-preserved : goal.loop-i-preserved
 loop-i-preserved c =

@@ -13,7 +13,7 @@ use crate::parser::{Fault, Parser};
 use crate::parses_by::ParsesBy;
 use ufmt_core::uDebug;
 
-/// Takes a struct, its field by a parser.
+/// Parses a struct, its field by a parser.
 #[inline(always)]
 pub fn parse_struct_1<Alloc: Copy, M: ParseMode, A: uDebug + Drop, P: ParsesBy<Alloc, M, A>>(
     alloc: Alloc,
@@ -49,7 +49,7 @@ pub fn parse_struct_1<Alloc: Copy, M: ParseMode, A: uDebug + Drop, P: ParsesBy<A
     }
 }
 
-/// Takes a struct, each of its 2 fields by a parser.
+/// Parses a struct, each of its 2 fields by a parser.
 #[inline(always)]
 pub fn parse_struct_2<
     Alloc: Copy,
@@ -97,7 +97,7 @@ pub fn parse_struct_2<
     parse_struct(alloc, parser, name, &[a, b], &(a_by, b_by))
 }
 
-/// Takes a struct, each of its 3 fields by a parser.
+/// Parses a struct, each of its 3 fields by a parser.
 #[inline(always)]
 pub fn parse_struct_3<
     Alloc: Copy,
@@ -153,7 +153,7 @@ pub fn parse_struct_3<
     parse_struct(alloc, parser, name, &[a, b, c], &(a_by, b_by, c_by))
 }
 
-/// Takes a struct, each of its 4 fields by a parser.
+/// Parses a struct, each of its 4 fields by a parser.
 #[inline(always)]
 pub fn parse_struct_4<
     Alloc: Copy,
@@ -224,7 +224,7 @@ pub fn parse_struct_4<
     )
 }
 
-/// Takes a struct, each of its 5 fields by a parser.
+/// Parses a struct, each of its 5 fields by a parser.
 #[inline(always)]
 pub fn parse_struct_5<
     Alloc: Copy,
@@ -302,7 +302,7 @@ pub fn parse_struct_5<
     )
 }
 
-/// Takes a struct, each of its 6 fields by a parser.
+/// Parses a struct, each of its 6 fields by a parser.
 #[inline(always)]
 pub fn parse_struct_6<
     Alloc: Copy,

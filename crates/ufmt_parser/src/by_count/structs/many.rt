@@ -13,7 +13,7 @@ use crate::parser::{Fault, Parser};
 use crate::parses_by::ParsesBy;
 use ufmt_core::uDebug;
 
-/// Takes a struct, each of its 7 fields by a parser.
+/// Parses a struct, each of its 7 fields by a parser.
 #[inline(always)]
 pub fn parse_struct_7<
     Alloc: Copy,
@@ -109,7 +109,7 @@ pub fn parse_struct_7<
     )
 }
 
-/// Takes a struct, each of its 8 fields by a parser.
+/// Parses a struct, each of its 8 fields by a parser.
 #[inline(always)]
 pub fn parse_struct_8<
     Alloc: Copy,
@@ -213,7 +213,7 @@ pub fn parse_struct_8<
     )
 }
 
-/// Takes a struct, each of its 9 fields by a parser.
+/// Parses a struct, each of its 9 fields by a parser.
 #[inline(always)]
 pub fn parse_struct_9<
     Alloc: Copy,
@@ -326,7 +326,7 @@ pub fn parse_struct_9<
     )
 }
 
-/// Takes a struct, each of its 10 fields by a parser.
+/// Parses a struct, each of its 10 fields by a parser.
 #[inline(always)]
 pub fn parse_struct_10<
     Alloc: Copy,
@@ -447,7 +447,7 @@ pub fn parse_struct_10<
     )
 }
 
-/// Takes a struct, each of its 11 fields by a parser.
+/// Parses a struct, each of its 11 fields by a parser.
 #[inline(always)]
 pub fn parse_struct_11<
     Alloc: Copy,
@@ -576,7 +576,7 @@ pub fn parse_struct_11<
     )
 }
 
-/// Takes a struct, each of its 12 fields by a parser.
+/// Parses a struct, each of its 12 fields by a parser.
 #[inline(always)]
 pub fn parse_struct_12<
     Alloc: Copy,

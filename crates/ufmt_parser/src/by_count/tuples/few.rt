@@ -13,7 +13,7 @@ use crate::parser::{Fault, Parser};
 use crate::parses_by::ParsesBy;
 use ufmt_core::uDebug;
 
-/// Takes a tuple, its field by a parser.
+/// Parses a tuple, its field by a parser.
 pub fn parse_tuple_1<Alloc: Copy, M: ParseMode, A: uDebug + Drop, P: ParsesBy<Alloc, M, A>>(
     alloc: Alloc,
     parser: &mut Parser<'_, M>,
@@ -45,7 +45,7 @@ pub fn parse_tuple_1<Alloc: Copy, M: ParseMode, A: uDebug + Drop, P: ParsesBy<Al
     }
 }
 
-/// Takes a tuple, each of its 2 fields by a parser.
+/// Parses a tuple, each of its 2 fields by a parser.
 #[inline(always)]
 pub fn parse_tuple_2<
     Alloc: Copy,
@@ -82,7 +82,7 @@ pub fn parse_tuple_2<
     parse_tuple(alloc, parser, name, &(a_by, b_by))
 }
 
-/// Takes a tuple, each of its 3 fields by a parser.
+/// Parses a tuple, each of its 3 fields by a parser.
 #[inline(always)]
 pub fn parse_tuple_3<
     Alloc: Copy,
@@ -130,7 +130,7 @@ pub fn parse_tuple_3<
     parse_tuple(alloc, parser, name, &(a_by, b_by, c_by))
 }
 
-/// Takes a tuple, each of its 4 fields by a parser.
+/// Parses a tuple, each of its 4 fields by a parser.
 #[inline(always)]
 pub fn parse_tuple_4<
     Alloc: Copy,
@@ -185,7 +185,7 @@ pub fn parse_tuple_4<
     parse_tuple(alloc, parser, name, &(a_by, b_by, c_by, d_by))
 }
 
-/// Takes a tuple, each of its 5 fields by a parser.
+/// Parses a tuple, each of its 5 fields by a parser.
 #[inline(always)]
 pub fn parse_tuple_5<
     Alloc: Copy,
@@ -246,7 +246,7 @@ pub fn parse_tuple_5<
     parse_tuple(alloc, parser, name, &(a_by, b_by, c_by, d_by, e_by))
 }
 
-/// Takes a tuple, each of its 6 fields by a parser.
+/// Parses a tuple, each of its 6 fields by a parser.
 #[inline(always)]
 pub fn parse_tuple_6<
     Alloc: Copy,

@@ -13,7 +13,7 @@ use crate::parser::{Fault, Parser};
 use crate::parses_by::ParsesBy;
 use ufmt_core::uDebug;
 
-/// Takes a tuple, each of its 7 fields by a parser.
+/// Parses a tuple, each of its 7 fields by a parser.
 #[inline(always)]
 pub fn parse_tuple_7<
     Alloc: Copy,
@@ -93,7 +93,7 @@ pub fn parse_tuple_7<
     )
 }
 
-/// Takes a tuple, each of its 8 fields by a parser.
+/// Parses a tuple, each of its 8 fields by a parser.
 #[inline(always)]
 pub fn parse_tuple_8<
     Alloc: Copy,
@@ -179,7 +179,7 @@ pub fn parse_tuple_8<
     )
 }
 
-/// Takes a tuple, each of its 9 fields by a parser.
+/// Parses a tuple, each of its 9 fields by a parser.
 #[inline(always)]
 pub fn parse_tuple_9<
     Alloc: Copy,
@@ -271,7 +271,7 @@ pub fn parse_tuple_9<
     )
 }
 
-/// Takes a tuple, each of its 10 fields by a parser.
+/// Parses a tuple, each of its 10 fields by a parser.
 #[inline(always)]
 pub fn parse_tuple_10<
     Alloc: Copy,
@@ -370,7 +370,7 @@ pub fn parse_tuple_10<
     )
 }
 
-/// Takes a tuple, each of its 11 fields by a parser.
+/// Parses a tuple, each of its 11 fields by a parser.
 #[inline(always)]
 pub fn parse_tuple_11<
     Alloc: Copy,
@@ -477,7 +477,7 @@ pub fn parse_tuple_11<
     )
 }
 
-/// Takes a tuple, each of its 12 fields by a parser.
+/// Parses a tuple, each of its 12 fields by a parser.
 #[inline(always)]
 pub fn parse_tuple_12<
     Alloc: Copy,
