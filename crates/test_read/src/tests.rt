@@ -3,6 +3,7 @@
 mod classes;
 mod laws;
 mod leaves;
+mod line_fields;
 mod nested_lists;
 mod normalize;
 mod parts;

@@ -11,6 +11,3 @@ mod rounding;
 mod text;
 
 pub use text::{LongText, ShortText};
-
-#[cfg(test)]
-mod tests;

@@ -18,6 +18,3 @@ mod wide;
 pub use digits::{Decimal, shortest};
 pub use parts::Float;
 pub use text::{DebugText, DisplayText};
-
-#[cfg(test)]
-mod tests;

@@ -11,9 +11,6 @@ use ufmt::layout::Mode;
 use ufmt_scan::strip::{strip_byte, strip_two};
 use ufmt_scan::{FrontText, front_text, split_name};
 
-#[cfg(test)]
-mod tests;
-
 /// The text of a field, and where it begins in its line.
 #[derive(Clone, Copy)]
 pub struct Field<'a> {

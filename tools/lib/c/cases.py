@@ -2,10 +2,8 @@
 
 What they expect comes from outside: rustc's texts and xxd's dumps in tools/data/c/rows.tsv, the texts of values that rustc
 printed in tools/expected/rows.txt, the models of texts and of lines in tools/lib/model/ and tools/lib/log_model/, a table of
-fields as a reader sees them in crates/ufmt_values/src/field/tests.rt, and Python's own decoding of UTF-8.
+fields as a reader sees them in tools/data/c/fields.txt, and Python's own decoding of UTF-8.
 """
-import json
-import re
 import sys
 from typing import NamedTuple, Optional
 
@@ -179,9 +177,6 @@ def field_case(text_class, line, name):
     return or_not_utf8("field", (CLASSES[text_class], line, name), [name], **place)
 
 
-# A class, a line, a field's name, and its text.
-FIELD_ROW = re.compile(r'\(\s*Class::(Token|Debug),\s*("(?:[^"\\]|\\.)*"),\s*("[^"]*"),\s*(?:None|Some\(("(?:[^"\\]|\\.)*")\)),?\s*\)')
-LEAST_FIELDS = 40
 # A text has at most 255 brackets around a leaf.
 DEEP = (254, 255, 256, 300)
 
@@ -189,15 +184,12 @@ DEEP = (254, 255, 256, 300)
 def fields():
     """The table of fields; lines that are cut, or longer, or have one byte changed; lines with many brackets; names that aren't
     UTF-8."""
-    table = FIELD_ROW.findall((TOP / "crates" / "ufmt_values" / "src" / "field" / "tests.rt").read_text())
-    if len(table) < LEAST_FIELDS:
-        raise ValueError("only %d rows of fields" % len(table))
-    for class_name, *texts in table:
-        text_class = {"Token": TOKEN, "Debug": DEBUG}[class_name]
-        line, name, wanted = (json.loads(text or "null") for text in texts)
-        case = field_case(text_class, line.encode(), name.encode())
-        yield case._replace(result=NO_TEXT, detail=None) if wanted is None else case._replace(result=len(wanted.encode()))
-        yield from (field_case(other, line.encode() + end, name.encode()) for other in CLASSES for end in (b"", b" ", b"\xff", b" S { %s: -1 }" % name.encode()))
+    table = tables.parts("c/fields.txt")
+    for text_class, row in ((text_class, row) for text_class in CLASSES for row in table[text_class.name]):
+        line, name, *wanted = map(tables.data_of, row.split(" => "))
+        case = field_case(text_class, line, name)
+        yield case._replace(result=len(wanted[0])) if wanted else case._replace(result=NO_TEXT, detail=None)
+        yield from (field_case(other, line + end, name) for other in CLASSES for end in (b"", b" ", b"\xff", b" S { %s: -1 }" % name))
     for line, name in ((b"at [1]: P { x: 7, y: \"a\", .. } {", b"x"), (b"f(2) Q { z: (1, 2), y: -2 }", b"y")):
         changed = [line[:at] for at in range(len(line))]
         changed += [line[:at] + bytes([byte]) + line[at + 1 :] for at in range(len(line)) for byte in (0x20, 0x22, 0x2C, 0x7F, 0xFF)]

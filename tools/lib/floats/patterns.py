@@ -46,8 +46,8 @@ def edges(width):
 
 
 def hard(width):
-    """The published hard cases."""
-    texts = HARD["hard %d" % width] + (HARD["stress decimal"] if width == 64 else [])
+    """The published hard cases, and usual floats."""
+    texts = HARD["hard %d" % width] + HARD["usual %d" % width] + (HARD["stress decimal"] if width == 64 else [])
     patterns = [int(bits, 16) for bits in HARD["hard %d bits" % width]]
     stress = [bits_of(math.ldexp(*pair), width) for pair in stress_pairs()] if width == 64 else []
     return [*(bits_of(text, width) for text in texts), *patterns, *stress, *(bits_of(number, width) for number in round_numbers())]
@@ -96,7 +96,8 @@ def fixed_lines(width, count, seed):
     are tried for one pattern of ten."""
     dice = random.Random(seed * 100 + width + 1)
     ties = [bits_of("%de-%d" % (number * 10**places // 2**places, places), width) for places in range(1, 9) for number in range(1, 2**places, 2)]
-    for bits, decimals in middles(width):
+    split = (word.split(":") for word in HARD["fixed %d" % width])
+    for bits, decimals in [*middles(width), *((bits_of(text, width), int(count)) for text, count in split)]:
         yield "%0*x %d\n" % (width // 4, bits, decimals)
     for bits in [*patterns(width, count, seed), *ties]:
         some = DECIMALS if dice.random() < 0.1 else DECIMALS[:7]
@@ -107,14 +108,3 @@ def fixed_lines(width, count, seed):
 def lines(count, seed):
     """The input of both programs."""
     return "".join(line for width in FORMATS for some in (plain_lines, fixed_lines) for line in some(width, count, seed))
-
-
-def rows(width):
-    """The bits of the rows."""
-    return [bits_of(text, width) for text in HARD["rows %d" % width]]
-
-
-def fixed_rows(width):
-    """The bits of the rows with decimals, and how many those are."""
-    split = (word.split(":") for word in HARD["fixed %d" % width])
-    return [(bits_of(text, width), int(decimals)) for text, decimals in split]

@@ -24,3 +24,8 @@ def theirs(room):
     made = room / "rustc-floats"
     subprocess.run(["rustc", "-O", "-o", made, DATA / "floats" / "floats.rs"], check=True)
     return made
+
+
+def printed(program, text):
+    """What a program prints of each line of its input."""
+    return subprocess.run([program], input=text, stdout=subprocess.PIPE, text=True, check=True).stdout.splitlines()

@@ -1,24 +1,22 @@
 """Compares the texts of floats with those that rustc prints.
 
 Both programs print floats as Debug and as Display do, and with 0 to 1,100 decimals: each exponent of both formats with
-significands at its ends, subnormals, powers of ten and their neighbours, published hard cases for shortest digits, each with both
-signs, and random bit patterns of each format. Floats in the middle between two texts with decimals, for each number of decimals
+significands at its ends, subnormals, powers of ten and their neighbours, published hard cases for shortest digits, usual floats, each
+with both signs, and random bit patterns of each format. Floats in the middle between two texts with decimals, for each number of decimals
 that a format has, and their neighbours too. One program is built over copies of ufmt_float and ufmt_fixed with nothing proved
 (tools/lib/bench/build.py), the other by rustc.
 
 Then ufmt prints usual floats and large ones, also with decimals, and the steps and the stack of each call are compared with their
 bounds (steps.py).
 
-With `--every-f32` it compares all `f32`s by digests, each for 2^24 patterns, in an hour and a half of a processor. The rows of
-src/tests/rows.rt of both crates must be what rustc prints; `--write` writes them.
+With `--every-f32` it compares all `f32`s by digests, each for 2^24 patterns, in an hour and a half of a processor.
 """
 import pathlib
 import subprocess
 import tempfile
 
 from lib.findings import case, ended
-from lib.floats import patterns, programs, rows, steps
-from lib.top import TOP
+from lib.floats import patterns, programs, steps
 
 COUNT = 20_000
 
@@ -42,29 +40,18 @@ def compare(count, seed):
     with tempfile.TemporaryDirectory(prefix="x-floats-") as room:
         room, text = pathlib.Path(room), patterns.lines(count, seed)
         rustc = programs.theirs(room)
-        said = [rows.printed(program, text) for program in (programs.ours(room / "ours"), rustc)]
+        said = [programs.printed(program, text) for program in (programs.ours(room / "ours"), rustc)]
         by_ufmt = programs.by_ufmt(room / "by_ufmt")
         counts = steps.counted(by_ufmt)
         past = steps.faults(by_ufmt, counts)
-        wrong = [path for path, rows_of_it in rows.made(rustc) if path.read_text() != rows_of_it]
     different = [it for it in zip(text.splitlines(), *said) if it[1] != it[2]]
     faults = [case(bits, wanted, found) for bits, found, wanted in different] + past
-    faults += ["%s:1: not as rustc prints: `x try floats --write` writes it" % path.relative_to(TOP) for path in wrong]
     faults += [case("lines", len(said[1]), len(said[0]))] if len(said[0]) != len(said[1]) else []
     counted = len(said[1]), len(different), len(counts), len(past)
     return ended(faults, "%d floats, %d differences; %d calls counted, %d past their bounds of steps or stack" % counted)
 
 
-def write():
-    with tempfile.TemporaryDirectory(prefix="x-floats-") as room:
-        for path, text in rows.made(programs.theirs(pathlib.Path(room))):
-            path.write_text(text)
-    return 0
-
-
 def main(given):
-    if given.write:
-        return write()
     if given.every_f32 is not None:
         return compare_every(given.every_f32)
     return compare(COUNT if given.count is None else given.count, given.seed)

@@ -13,7 +13,8 @@ offset; `: `; each byte, with the space before it; spaces in place of the bytes 
 each of their digits and once for the spaces between their groups; two spaces; the bytes as text; and the line feed.
 Spaces and the bytes as text come 64 in a piece, and last what is left.
 
-A number that fits is the bits of a float too, of 32 and of 64. The text of a float is one piece.
+A number that fits is the bits of a float too, of 32 and of 64. The text of a float is one piece. With so many decimals it is written
+to a text first, and the program writes that as one piece.
 
 A range is its ends and dots between them. A mark of a line adds no pieces. What is between the items of a slice is a
 piece, also if it is empty.
@@ -184,7 +185,7 @@ def numbers(request, text):
         out += [with_places(number, request.pad, width) for width in (0, 0, request.pad_length)]
     for width in (32, 64):
         if 0 <= number < 2**width:
-            out.append(by_text(floats.debug(number, width)) * 2 + by_text(floats.display(number, width)))
+            out.append(by_text(floats.debug(number, width)) * 2 + by_text(floats.display(number, width), floats.fixed(number, width, request.pad_length)))
     return b"".join(out)
 
 

@@ -7,7 +7,7 @@ from lib.model.document import quoted
 from lib.model.pieces import with_zeros
 from lib.model.requests import Request, dump, hexadecimal, in_column, with_places
 
-SPEC = re.compile(r"\{:?(?:(.)([<^>]))?(#?)(0?)(\d*)([xXbo?]?)\}")
+SPEC = re.compile(r"\{:?(?:(.)([<^>]))?(#?)(0?)(\d*)(?:\.(\d+))?([xXbo?]?)\}")
 ALIGNS = "<^>"
 BITS = re.compile(r"(?:NonZero)?[iuIU](\d+|size)")
 
@@ -19,7 +19,7 @@ def text_of(pieces):
 
 def number(request, spec, kind, value):
     """A number in the digits of a radix, or in decimal digits with zeros before them."""
-    _fill, _align, _prefix, _zero, width, letter = spec.groups()
+    _fill, _align, _prefix, _zero, width, _decimals, letter = spec.groups()
     if letter in ("x", "X", "b", "o"):
         size = BITS.fullmatch(kind)[1]
         return text_of(hexadecimal(request, int(value), 64 if size == "size" else int(size), letter.lower())[1])
@@ -28,7 +28,7 @@ def number(request, spec, kind, value):
 
 def asked(spec, kind, value):
     """The request for a value by a format, and the text that the model says."""
-    fill, align, prefix, zero, width, letter = spec.groups()
+    fill, align, prefix, zero, width, decimals, letter = spec.groups()
     request = Request(width=int(width or 0), pad=48 if zero else 32, pad_length=int(width or 0), prefix=int(bool(prefix)), upper_case=int(letter == "X"),
                       payload=value.encode())
     if kind == "str":
@@ -37,7 +37,10 @@ def asked(spec, kind, value):
     if kind in ("f32", "f64"):
         size = int(kind[1:])
         bits = int.from_bytes(struct.pack({32: ">f", 64: ">d"}[size], float(value)), "big")
-        return request._replace(payload=b"%d" % bits), (floats.debug if letter == "?" else floats.display)(bits, size)
+        request = request._replace(payload=b"%d" % bits, pad_length=int(decimals or 0))
+        if decimals:
+            return request, floats.fixed(bits, size, int(decimals))
+        return request, (floats.debug if letter == "?" else floats.display)(bits, size)
     if kind == "Decimal":
         digits, _, places = value.partition("e-")
         request = request._replace(pad=int(places), payload=digits.encode())

@@ -8,8 +8,8 @@ use std::num::{
     f32_from_bits_with_nan, f64_from_bits_with_nan,
 };
 use ufmt::{
-    Decimal, Formatter, pieces, uDebug, uDisplay, uDisplayHex, uDisplayRadix, uDisplayZeros,
-    write_debug, write_display, write_line, write_pretty,
+    Decimal, Formatter, pieces, uDebug, uDisplay, uDisplayFixed, uDisplayHex, uDisplayRadix,
+    uDisplayZeros, uWrite, write_debug, write_display, write_line, write_pretty,
 };
 
 // The number of each type, and that of the type without 0.
@@ -23,7 +23,7 @@ macro_rules! of_types {
 }
 
 /// Writes the number in decimal digits, also with zeros before them and with places after a point, and in each radix, and
-/// the floats with these bits. A text that is no number is written as the payload of a padded text.
+/// the floats with these bits, also with so many decimals. A text that is no number is written as the payload of a padded text.
 pub fn pieces(request: &Request<'_>, text: &str) -> Digest {
     let mut printer = Printer {
         request: *request,
@@ -89,13 +89,17 @@ impl Printer<'_> {
         let _ = write_line(&mut self.pieces, &line);
     }
 
-    fn float<T: uDebug + uDisplay + Drop>(&mut self, float: Option<T>) {
+    fn float<T: uDebug + uDisplay + uDisplayFixed + Drop>(&mut self, float: Option<T>) {
         let Some(float) = float else {
             return;
         };
         let _ = write_debug(&mut self.pieces, &float);
         let _ = write_pretty(&mut self.pieces, &float);
         let _ = write_display(&mut self.pieces, &float);
+        let Request { alloc, hex, .. } = self.request;
+        let (mut text, decimals) = (String::new(alloc), hex.pad_length);
+        let _ = write_line(&mut text, &pieces!(fixed float to decimals));
+        let _ = self.pieces.write_str(&text);
     }
 
     // The number of places is that of the pad byte.

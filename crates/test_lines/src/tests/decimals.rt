@@ -1,4 +1,5 @@
-//! Tests of the mark `fixed` and of `Fixed`: texts, which rustc prints too, and steps that buffers bound.
+//! Tests of the mark `fixed` and of `Fixed`: columns, fields, and steps that buffers bound. Texts of floats, also with decimals, are
+//! rows of tools/data/rows.
 ghost use Rattle.std.specs.Prelude.{[], ◌∷◌};
 ghost use Rattle.ufmt.specs.ValueDocuments.{named_struct};
 
@@ -10,6 +11,8 @@ use ufmt::{
     Align, Fixed, Formatter, Full, laws, line_into, pieces, uDebug, uDisplayFixed, uWrite,
     write_line,
 };
+use ufmt_fixed::ShortText;
+use ufmt_float::shortest;
 
 // A pressure with one decimal, as a field.
 #[derive(Drop)]
@@ -102,4 +105,36 @@ fn decimals_that_no_buffer_holds_fail_with_full(rt: HostRuntime) {
         let line = pieces!(fixed (f64::NAN) to decimals);
         same(&rt, line_into(&mut buffer, &line), Ok(3), "NaN");
     }
+}
+
+#[test]
+fn zeros_infinities_and_nan_have_no_shortest_decimal(rt: HostRuntime) {
+    for (x, wanted) in rows_of![
+        0.0 => None;
+        f64::INFINITY => None;
+        f64::NAN => None;
+        -1500.0 => Some((15, 402));
+    ] {
+        let given = shortest(x).map(|decimal| (decimal.digits, decimal.power));
+        same(&rt, given, wanted, "a decimal");
+    }
+    same(&rt, shortest(f32::NAN).is_some(), false, "32 bits");
+}
+
+// What has no short text takes more steps and stack.
+#[test]
+fn few_decimals_of_usual_floats_have_short_texts(rt: HostRuntime) {
+    for (x, decimals, wanted) in rows_of![
+        21.5, 2 => true;
+        5e-324, 19 => true;
+        9007199254740991.0, 3 => true;
+        0.1, 20 => false;
+        1e23, 0 => false;
+        f64::NAN, 0 => false;
+    ] {
+        let given = ShortText::of(x, decimals).is_some();
+        same(&rt, (decimals, given), (decimals, wanted), "a short text");
+    }
+    let given = ShortText::of(-0.0f32, 19).is_some();
+    same(&rt, given, true, "32 bits");
 }
