@@ -23,6 +23,7 @@ pub(crate) fn split_word(input: &[u8]) -> (&[u8], &[u8])
 }
 
 /// How many bytes at the front are of the class.
+#[inline(always)]
 pub(crate) fn marked_len(class: ByteClass, input: &[u8]) -> usize
     ensures len { result ≡ marked_len class input.now }
     ensures within { result ≤ length input.now }
