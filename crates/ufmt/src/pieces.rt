@@ -171,6 +171,7 @@ macro_rules! wrong_piece {
     (mark oct) => { compile_error!("`oct e` needs `with options` after it") };
     (mark fixed) => { compile_error!("`fixed e` needs `to decimals` after it") };
     (mark zeros) => { compile_error!("`zeros e` needs `to width` after it") };
+    (mark text) => { compile_error!("`text` has no column, options or width: write `display e in column`") };
     (mark $kind:ident) => { compile_error!(concat!("no kind of piece: `", stringify!($kind), "`")) };
     (mark $kind:ident with $options:tt) => {
         compile_error!(concat!("`", stringify!($kind), " e` takes no `with options`"))
