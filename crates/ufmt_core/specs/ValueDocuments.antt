@@ -3,7 +3,6 @@ use Prim.Native.String.{String as Text}
 use Rattle.std.specs.Prelude.{ℕ, ℤ, pos, List, [], ◌∷◌, true, codes, map, Option, Some, None, Result, Ok, Err, String, string_bytes, Vec, Box}
 use Rattle.std.specs.BTreeMap.{BTreeMap}
 use Rattle.std.specs.BTreeSet.{BTreeSet}
-use Rattle.std_alloc.specs.declared.vec.deque.VecDeque.{VecDeque}
 use lib.Ieee.{Float, binary32, binary64}
 use Rattle.std.specs.Borrow.{Bor}
 use Rattle.std.specs.Str.{chars}
@@ -74,10 +73,6 @@ box_document f b = f b.value
 -- the items of a vector, as a list
 abbrev pub vec_document : {T A : Type 0} → (T → Document) → Vec T A → Document
 vec_document f v = list_of (documents (map f v.items))
-
--- the items of a `VecDeque`
-abbrev pub deque_document : {T A : Type 0} → (T → Document) → VecDeque T A → Document
-deque_document f q = list_of (documents (map f q.items))
 
 -- the items of a sorted set
 abbrev pub sorted_set_document : {T : Type 0} → (T → Document) → BTreeSet T → Document

@@ -1,4 +1,4 @@
 //! Tests of enums: each shape of variant, structs in variants beside other values, and long names.
 mod long_names;
-mod shapes;
+pub(super) mod shapes;
 mod structs;

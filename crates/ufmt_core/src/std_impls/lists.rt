@@ -2,7 +2,7 @@
 ghost use Rattle.std.specs.BinaryHeap.{heap_items};
 ghost use Rattle.std.specs.Prelude.{map};
 ghost use Rattle.ufmt_core.specs.Document.{documents, list_of};
-ghost use Rattle.ufmt_core.specs.ValueDocuments.{deque_document, vec_document};
+ghost use Rattle.ufmt_core.specs.ValueDocuments.{vec_document};
 
 use crate::formatter::Formatter;
 use crate::list::fmt_list;
@@ -22,7 +22,7 @@ impl<T: uDebug, A: Allocator> uDebug for Vec<T, A> {
 
 /// Prints the items as a list, from front to back.
 impl<T: uDebug, A: Allocator> uDebug for VecDeque<T, A> {
-    ghost document = { deque_document T.document };
+    ghost document = { λ q. list_of (documents (map T.document q.items)) };
 
     fn fmt<W: uWrite>(&self, f: &mut Formatter<W>) -> Result<(), W::Error> {
         fmt_list(self.iter(), f)
