@@ -5,7 +5,7 @@ ghost use Rattle.ufmt_core.specs.Layout.{ending, frame, lead};
 ghost use Rattle.ufmt_core.specs.declared.layout.Count.TheVariants.{Zero};
 ghost use Rattle.ufmt_core.specs.Document.{Document};
 ghost use Rattle.ufmt_grammar.specs.Bytes.{ends_name};
-ghost use Rattle.ufmt_grammar.specs.Leaves.{begins_with, is_spaced};
+ghost use Rattle.ufmt_grammar.specs.Leaves.{is_spaced};
 ghost use Rattle.ufmt_parser.specs.Naming.{document_name, is_debug_name, is_past_name};
 ghost use Rattle.ufmt_parser.specs.Needs.{need};
 ghost use Rattle.ufmt_parser.specs.Next.{IsNotNext, NextLeaves};
@@ -17,6 +17,7 @@ use crate::strip::{strip_ending, strip_lead, strip_piece};
 use std::marker::PhantomData;
 use ufmt_core::layout::{Count, Kind};
 use ufmt_grammar::bytes::ByteClass;
+use ufmt_scan::strip::begins_with;
 
 /// Why a value isn't parsed.
 #[derive(Clone, Copy, Drop)]
@@ -238,16 +239,6 @@ fn is_spaced(text: &[u8]) -> bool
     match text.split_first() {
         Some((b' ', after)) => !begins_with(b'}', after),
         _ => false,
-    }
-}
-
-#[inline(always)]
-fn begins_with(byte: u8, text: &[u8]) -> bool
-    ensures { result ≡ begins_with byte text.now }
-{
-    match text.split_first() {
-        Some((&first, _)) => first == byte,
-        None => false,
     }
 }
 
