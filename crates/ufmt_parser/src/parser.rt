@@ -58,7 +58,7 @@ impl<'t, M: ParseMode> Parser<'t, M> {
         self.rest.len()
     }
 
-    /// Takes a piece from the front, if it is there. Returns whether it was.
+    /// Removes a piece from the front, if it is there. Returns whether it was.
     #[inline(always)]
     pub fn eat(&mut self, piece: &str) -> bool
         ensures eats { Eats piece.now (rest self.old) result (rest self.new) }
@@ -92,7 +92,7 @@ impl<'t, M: ParseMode> Parser<'t, M> {
         }
     }
 
-    /// Takes what comes before an entry of the innermost block, which has this many entries before it.
+    /// Removes what comes before an entry of the innermost block, which has this many entries before it.
     #[inline(always)]
     pub fn eat_lead(&mut self, kind: Kind, count: Count) -> bool
         ensures eats { Eats (lead (frame M.mode kind) (setting_in M.mode (open_blocks self.old)) count)
@@ -111,7 +111,7 @@ impl<'t, M: ParseMode> Parser<'t, M> {
         }
     }
 
-    /// Takes the end of the innermost block, which has this many entries.
+    /// Removes the end of the innermost block, which has this many entries.
     #[inline(always)]
     pub fn eat_ending(&mut self, kind: Kind, count: Count) -> bool
         requires { 0 < open_blocks self.old }
@@ -189,7 +189,7 @@ impl<'t, M: ParseMode> Parser<'t, M> {
         self.need
     }
 
-    /// Takes all before this rest of the text.
+    /// Removes all before this rest of the text.
     #[inline(always)]
     pub fn skip_to(&mut self, after: &'t [u8])
         ensures rest { rest self.new ≡ after.now }
@@ -198,7 +198,7 @@ impl<'t, M: ParseMode> Parser<'t, M> {
         self.rest = after;
     }
 
-    /// Takes the end of a block in brackets or braces that has no entries.
+    /// Removes the end of a block in brackets or braces that has no entries.
     #[inline(always)]
     pub fn eat_empty_ending(&mut self, kind: Kind) -> bool
         ensures eats { Eats (ending (frame M.mode kind) (setting_in M.mode (open_blocks self.old)) Zero)
