@@ -5,7 +5,7 @@ use Rattle.std.proofs.lemmas.Bool.Decides.{nat_tests}
 use Rattle.std.proofs.lemmas.Bool.{agree_below, agree_below_at, cases_lt}
 use Rattle.std.proofs.lemmas.List.{get_or_past}
 use Rattle.ufmt_grammar.specs.Leaves.{is_continuation, is_debug_byte, is_escape_byte, is_name_byte, is_plain_byte, is_word_byte}
-use Rattle.ufmt_grammar.specs.Bytes.{bit_of, is_in, is_after_name, is_ending, is_plain_ascii, is_quoted_byte, is_run_byte, is_unescaped}
+use Rattle.ufmt_grammar.specs.Bytes.{bit_of, ends_name, is_in, is_ending, is_plain_ascii, is_quoted_byte, is_run_byte, is_unescaped}
 use Rattle.ufmt_grammar.specs.declared.bytes.ByteClass.{ByteClass}
 use Rattle.ufmt_grammar.specs.declared.bytes.ByteClass.TheVariants.{TokenWord, Word, Plain, PlainAscii, Run, Name, Ending, Quoted, Unescaped, Continuation, Escape, AfterName}
 use Rattle.ufmt_grammar.specs.declared.bytes.TheConstants.{CLASSES}
@@ -37,4 +37,4 @@ table_says class c bit is = ap (λ b. has_bit b c) is ∙ go class
     go Unescaped = agrees 256 is_unescaped refl (λ c past. grind (arith, nat_tests)) c
     go Continuation = agrees 512 is_continuation refl (λ c past. grind (arith, nat_tests)) c
     go Escape = agrees 1024 is_escape_byte refl (λ c past. grind (arith, nat_tests)) c
-    go AfterName = agrees 2048 is_after_name refl (λ c past. grind (arith, nat_tests)) c
+    go AfterName = agrees 2048 ends_name refl (λ c past. grind (arith, nat_tests)) c

@@ -27,8 +27,8 @@ abbrev pub is_unescaped : ℕ → Bool
 is_unescaped c = is_none (escape quotation_mark c) && nat_lt c 128
 
 -- a byte that comes after a name: a space, a comma or a bracket
-abbrev pub is_after_name : ℕ → Bool
-is_after_name c = c == space || is_opening c || is_ender c
+abbrev pub ends_name : ℕ → Bool
+ends_name c = c == space || is_opening c || is_ender c
 
 -- whether a byte is of a class
 abbrev pub is_in : ByteClass → ℕ → Bool
@@ -43,7 +43,7 @@ is_in classes.Quoted = is_quoted_byte
 is_in classes.Unescaped = is_unescaped
 is_in classes.Continuation = is_continuation
 is_in classes.Escape = is_escape_byte
-is_in classes.AfterName = is_after_name
+is_in classes.AfterName = ends_name
 
 -- the bit of a class in the table
 abbrev pub bit_of : ByteClass → ℕ

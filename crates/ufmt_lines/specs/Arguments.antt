@@ -49,7 +49,7 @@ conversion_of true (Some n) = Err (codes "ufmt_lines: --longer-than doesn't go w
 
 -- what is asked for after this number; the line of a mistake if it is none
 abbrev pub within : Option ℕ → List ℕ → (ℕ → Result Request (List ℕ)) → Result Request (List ℕ)
-within None number asked = Err (codes "ufmt_lines: --longer-than takes decimal digits, of less than 2^64, not: " ++ number)
+within None number asked = Err (codes "ufmt_lines: --longer-than needs a number below 2^64 in decimal digits, not: " ++ number)
 within (Some n) number asked = asked n
 
 -- what the words ask for, if a number must come first or not, and after `--plain` or not, and a limit or none; the line of the first mistake

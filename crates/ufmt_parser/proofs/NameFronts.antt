@@ -16,7 +16,8 @@ use Rattle.ufmt_grammar.proofs.FramesClose.{begins_after}
 use Rattle.ufmt_grammar.proofs.TextsBegin.{document_begins as text_begins}
 use Rattle.ufmt_grammar.proofs.DebugLeaves.{StopsLeaf, follower_unspaced, leaf_from-append, some_begun}
 use Rattle.ufmt_grammar.proofs.ReadingWords.{each_ender}
-use Rattle.ufmt_parser.specs.Naming.{document_name, ends_name, is_debug_name, is_past_name}
+use Rattle.ufmt_grammar.specs.Bytes.{ends_name}
+use Rattle.ufmt_parser.specs.Naming.{document_name, is_debug_name, is_past_name}
 use Rattle.ufmt_parser.specs.Taking.{DoesNotBegin}
 use Rattle.ufmt_parser.proofs.Words.{begins_name, name_ends, name_ends_in_no_colon, name_is_some}
 

@@ -1,9 +1,10 @@
 -- The name at the front of a document's text, where a name is over, and which names a document may have.
-use Rattle.std.specs.Prelude.{ℕ, ◌&&◌, ◌||◌, ◌==◌, not, if◌then◌else◌, List, [], ◌∷◌, Bool, true, false}
+use Rattle.std.specs.Prelude.{ℕ, ◌&&◌, ◌==◌, not, if◌then◌else◌, List, [], ◌∷◌, Bool, true, false}
 use Rattle.std.specs.Str.{bytes_eq}
-use Rattle.ufmt_core.specs.Bytes.{closing_parenthesis, colon, opening_parenthesis, space}
+use Rattle.ufmt_core.specs.Bytes.{closing_parenthesis, colon, opening_parenthesis}
 use Rattle.ufmt_core.specs.Document.{Document, leaf, joined, list_of, set_of, map_of, struct_of, non_exhaustive_of, tuple_of, pretty_part, no_documents, first_document, no_fields, first_field}
-use Rattle.ufmt_grammar.specs.Leaves.{begins_with, ends_in_colon, has_name_bytes, is_ender, is_opening, is_spaced}
+use Rattle.ufmt_grammar.specs.Bytes.{ends_name}
+use Rattle.ufmt_grammar.specs.Leaves.{begins_with, ends_in_colon, has_name_bytes, is_spaced}
 
 -- the text of a leaf, or the name of a struct or a tuple; other documents have none
 abbrev pub document_name : Document → List ℕ
@@ -51,10 +52,6 @@ is_debug_name (c ∷ text) = is_debug_name_or_empty (c ∷ text)
 abbrev pub are_debug_names : List (List ℕ) → Bool
 are_debug_names [] = true
 are_debug_names (name ∷ names) = is_debug_name name && are_debug_names names
-
--- a byte that comes after a name: a space, a comma or a bracket
-abbrev pub ends_name : ℕ → Bool
-ends_name c = c == space || is_opening c || is_ender c
 
 -- whether a name before this text is over: a colon ends it only as the end of a key, and an opening parenthesis only if it isn't closed at once
 abbrev pub is_past_name : List ℕ → Bool

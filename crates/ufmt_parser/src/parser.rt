@@ -4,8 +4,9 @@ ghost use Rattle.std.specs.Str.{bytes_eq};
 ghost use Rattle.ufmt_core.specs.Layout.{ending, frame, lead};
 ghost use Rattle.ufmt_core.specs.declared.layout.Count.TheVariants.{Zero};
 ghost use Rattle.ufmt_core.specs.Document.{Document};
-ghost use Rattle.ufmt_grammar.specs.Leaves.{begins_with, is_spaced};
-ghost use Rattle.ufmt_parser.specs.Naming.{document_name, ends_name, is_debug_name, is_past_name};
+ghost use Rattle.ufmt_grammar.specs.Bytes.{ends_name};
+ghost use Rattle.ufmt_grammar.specs.Leaves.{is_spaced};
+ghost use Rattle.ufmt_parser.specs.Naming.{document_name, is_debug_name, is_past_name};
 ghost use Rattle.ufmt_parser.specs.Needs.{need};
 ghost use Rattle.ufmt_parser.specs.Next.{IsNotNext, NextLeaves};
 ghost use Rattle.ufmt_parser.specs.Taking.{Eats, open_blocks, rest, setting_in};
@@ -16,6 +17,7 @@ use crate::strip::{strip_ending, strip_lead, strip_piece};
 use std::marker::PhantomData;
 use ufmt_core::layout::{Count, Kind};
 use ufmt_grammar::bytes::ByteClass;
+use ufmt_scan::strip::begins_with;
 
 /// Why a value isn't parsed.
 #[derive(Clone, Copy, Drop)]
@@ -56,7 +58,7 @@ impl<'t, M: ParseMode> Parser<'t, M> {
         self.rest.len()
     }
 
-    /// Takes a piece from the front, if it is there. Returns whether it was.
+    /// Removes a piece from the front, if it is there. Returns whether it was.
     #[inline(always)]
     pub fn eat(&mut self, piece: &str) -> bool
         ensures eats { Eats piece.now (rest self.old) result (rest self.new) }
@@ -90,7 +92,7 @@ impl<'t, M: ParseMode> Parser<'t, M> {
         }
     }
 
-    /// Takes what comes before an entry of the innermost block, which has this many entries before it.
+    /// Removes what comes before an entry of the innermost block, which has this many entries before it.
     #[inline(always)]
     pub fn eat_lead(&mut self, kind: Kind, count: Count) -> bool
         ensures eats { Eats (lead (frame M.mode kind) (setting_in M.mode (open_blocks self.old)) count)
@@ -109,7 +111,7 @@ impl<'t, M: ParseMode> Parser<'t, M> {
         }
     }
 
-    /// Takes the end of the innermost block, which has this many entries.
+    /// Removes the end of the innermost block, which has this many entries.
     #[inline(always)]
     pub fn eat_ending(&mut self, kind: Kind, count: Count) -> bool
         requires { 0 < open_blocks self.old }
@@ -187,7 +189,7 @@ impl<'t, M: ParseMode> Parser<'t, M> {
         self.need
     }
 
-    /// Takes all before this rest of the text.
+    /// Removes all before this rest of the text.
     #[inline(always)]
     pub fn skip_to(&mut self, after: &'t [u8])
         ensures rest { rest self.new ≡ after.now }
@@ -196,7 +198,7 @@ impl<'t, M: ParseMode> Parser<'t, M> {
         self.rest = after;
     }
 
-    /// Takes the end of a block in brackets or braces that has no entries.
+    /// Removes the end of a block in brackets or braces that has no entries.
     #[inline(always)]
     pub fn eat_empty_ending(&mut self, kind: Kind) -> bool
         ensures eats { Eats (ending (frame M.mode kind) (setting_in M.mode (open_blocks self.old)) Zero)
@@ -237,16 +239,6 @@ fn is_spaced(text: &[u8]) -> bool
     match text.split_first() {
         Some((b' ', after)) => !begins_with(b'}', after),
         _ => false,
-    }
-}
-
-#[inline(always)]
-fn begins_with(byte: u8, text: &[u8]) -> bool
-    ensures { result ≡ begins_with byte text.now }
-{
-    match text.split_first() {
-        Some((&first, _)) => first == byte,
-        None => false,
     }
 }
 

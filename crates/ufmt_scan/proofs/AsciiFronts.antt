@@ -21,7 +21,8 @@ use Rattle.ufmt_scan.specs.Private.Fronts.{EndsAt, IsSplit, Passes, is_started}
 use Rattle.ufmt_scan.specs.Private.MarkedBytes.{marked_len}
 use Rattle.ufmt_grammar.specs.Bytes.{is_in}
 use Rattle.ufmt_grammar.specs.declared.bytes.ByteClass.TheVariants.{PlainAscii}
-use Rattle.ufmt_scan.proofs.DebugFronts.{NoneNext, ends_leaf, leaf_splits, not_started, passes_none, passes_then, plain_is, word_passes}
+use Rattle.ufmt_scan.proofs.DebugFronts.{NoneNext, ends_leaf, leaf_splits, not_started}
+use Rattle.ufmt_scan.proofs.PassedBytes.{passes_none, passes_then, plain_is, word_passes}
 
 -- a word byte in ASCII
 record IsAsciiByte (c : ℕ) : Type 0 where

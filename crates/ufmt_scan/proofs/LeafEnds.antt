@@ -4,7 +4,8 @@ use Rattle.std.specs.Prelude.{◌-◌}
 use Rattle.ufmt_grammar.specs.Leaves.{place_outside, begins_with, is_in_word, is_spaced, is_quote, is_debug_byte, ends_in_colon}
 use Rattle.ufmt_grammar.specs.Bytes.{is_ending}
 use Rattle.ufmt_scan.specs.Private.Fronts.{EndsAt}
-use Rattle.ufmt_scan.proofs.DebugFronts.{NoneNext, other_stops}
+use Rattle.ufmt_scan.proofs.DebugFronts.{NoneNext}
+use Rattle.ufmt_scan.proofs.PassedBytes.{other_stops}
 
 pub nothing_stops : (t : List ℕ) → length t ≡ 0 → NoneNext t
 nothing_stops [] h = tt

@@ -18,6 +18,7 @@ pub mod WorkedEvents
 pub mod Conversions
 pub mod AsciiFronts
 pub mod DebugFronts
+pub mod PassedBytes
 pub mod LeafEnds
 pub mod FrontScans
 pub mod Shapes

@@ -8,7 +8,7 @@ mod growing;
 pub(crate) mod text_sink;
 
 use crate::error::ReadError;
-use crate::markers::{ModeType, PlainMode, PrettyMode};
+use crate::mode::{ParseMode, PlainText, PrettyText};
 use crate::scan::{ScanError, scan};
 use growing::Growing;
 use std::alloc::Global;
@@ -67,14 +67,14 @@ pub fn write_converted<W: uWrite>(
         writer.old result writer.new }
 {
     match to {
-        Mode::Plain => write_in::<W, PlainMode>(writer, class, text),
-        Mode::Pretty => write_in::<W, PrettyMode>(writer, class, text),
+        Mode::Plain => write_in::<W, PlainText>(writer, class, text),
+        Mode::Pretty => write_in::<W, PrettyText>(writer, class, text),
     }
 }
 
 // Writes the text in the mode `M`.
 #[inline(always)]
-fn write_in<W: uWrite, M: ModeType>(
+fn write_in<W: uWrite, M: ParseMode>(
     writer: &mut W,
     class: Class,
     text: &[u8],

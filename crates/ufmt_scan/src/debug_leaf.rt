@@ -239,7 +239,7 @@ fn after_closed_address(input: &[u8]) -> Option<&[u8]>
 
 // What follows bytes of a word and colons, if there are any. Only the last colon may be before a space.
 #[inline(always)]
-#[tactic(auto, using(crate::proofs::DebugFronts::run_passes, crate::proofs::DebugFronts::run_stops, crate::proofs::DebugFronts::shorter_run_passes, crate::proofs::DebugFronts::shorter_run_stops, crate::proofs::DebugFronts::run_is_some))]
+#[tactic(auto, using(crate::proofs::PassedBytes::run_passes, crate::proofs::PassedBytes::run_stops, crate::proofs::PassedBytes::shorter_run_passes, crate::proofs::PassedBytes::shorter_run_stops, crate::proofs::PassedBytes::run_is_some))]
 fn after_word(input: &[u8]) -> &[u8]
     ensures passes { Passes outside input.now outside result.now true }
     ensures stops { StopsWord result.now }
@@ -384,7 +384,7 @@ fn after_text(quote: u8, inside: &[u8]) -> Option<&[u8]>
 }
 
 // What follows the bytes that stay between quotes, if there are any.
-#[tactic(auto, using(crate::proofs::DebugFronts::stretches_are_passed))]
+#[tactic(auto, using(crate::proofs::PassedBytes::stretches_are_passed))]
 fn after_stretch(input: &[u8]) -> &[u8]
     ensures passes { (quote : ℕ) → is_quote quote ≡ true → StaysBetween quote input.now result.now }
     ensures within { length result.now ≤ length input.now }

@@ -11,6 +11,7 @@ pub mod laws;
 pub mod leaf;
 mod level;
 mod markers;
+pub mod mode;
 mod place;
 pub mod quoted;
 pub mod scan;

@@ -10,7 +10,8 @@ mod event;
 mod step;
 
 use crate::level::Level;
-use crate::markers::{ClassType, DebugClass, ModeType, PlainMode, PrettyMode, TokenClass};
+use crate::markers::{ClassType, DebugClass, TokenClass};
+use crate::mode::{ParseMode, PlainText, PrettyText};
 pub use event::{Event, ScanError, Sink};
 use step::{Stage, after_document, begin, field_name};
 use ufmt_core::layout::{Kind, Mode};
@@ -31,10 +32,10 @@ pub fn scan<S: Sink>(
         input.now }
 {
     match (class, mode) {
-        (Class::Token, Mode::Plain) => scan_in::<S, TokenClass, PlainMode>(input, sink),
-        (Class::Token, Mode::Pretty) => scan_in::<S, TokenClass, PrettyMode>(input, sink),
-        (Class::Debug, Mode::Plain) => scan_in::<S, DebugClass, PlainMode>(input, sink),
-        (Class::Debug, Mode::Pretty) => scan_in::<S, DebugClass, PrettyMode>(input, sink),
+        (Class::Token, Mode::Plain) => scan_in::<S, TokenClass, PlainText>(input, sink),
+        (Class::Token, Mode::Pretty) => scan_in::<S, TokenClass, PrettyText>(input, sink),
+        (Class::Debug, Mode::Plain) => scan_in::<S, DebugClass, PlainText>(input, sink),
+        (Class::Debug, Mode::Pretty) => scan_in::<S, DebugClass, PrettyText>(input, sink),
     }
 }
 
@@ -50,14 +51,14 @@ pub(crate) fn scan_front<S: Sink>(
     ensures { ScansFront S.took S.stopped class mode input.now sink.old result sink.new }
 {
     match (class, mode) {
-        (Class::Token, Mode::Plain) => scan_front_in::<S, TokenClass, PlainMode>(input, sink),
-        (Class::Token, Mode::Pretty) => scan_front_in::<S, TokenClass, PrettyMode>(input, sink),
-        (Class::Debug, Mode::Plain) => scan_front_in::<S, DebugClass, PlainMode>(input, sink),
-        (Class::Debug, Mode::Pretty) => scan_front_in::<S, DebugClass, PrettyMode>(input, sink),
+        (Class::Token, Mode::Plain) => scan_front_in::<S, TokenClass, PlainText>(input, sink),
+        (Class::Token, Mode::Pretty) => scan_front_in::<S, TokenClass, PrettyText>(input, sink),
+        (Class::Debug, Mode::Plain) => scan_front_in::<S, DebugClass, PlainText>(input, sink),
+        (Class::Debug, Mode::Pretty) => scan_front_in::<S, DebugClass, PrettyText>(input, sink),
     }
 }
 
-fn scan_front_in<S: Sink, C: ClassType, M: ModeType>(
+fn scan_front_in<S: Sink, C: ClassType, M: ParseMode>(
     input: &[u8],
     sink: &mut S,
 ) -> Result<usize, ScanError<S::Error>>
@@ -67,7 +68,7 @@ fn scan_front_in<S: Sink, C: ClassType, M: ModeType>(
     Ok(input.len() - rest.len())
 }
 
-fn scan_in<S: Sink, C: ClassType, M: ModeType>(
+fn scan_in<S: Sink, C: ClassType, M: ParseMode>(
     input: &[u8],
     sink: &mut S,
 ) -> Result<(), ScanError<S::Error>>

@@ -9,6 +9,6 @@ mod values;
 
 pub use field::{Field, field_of, find_field};
 pub use values::{
-    before_bracket, begins_with, is_after_name, is_closing, is_name_byte, is_opening, next_bracket,
-    run_start, value_at, value_from, value_start, values_end,
+    before_bracket, is_after_name, is_closing, is_name_byte, is_opening, next_bracket, run_start,
+    value_at, value_from, value_start, values_end,
 };

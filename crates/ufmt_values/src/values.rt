@@ -1,6 +1,6 @@
 //! The values of a text: where the next one begins.
 ghost use Rattle.std.specs.Prelude.{◌≡◌, ◌<◌, ◌≤◌, ◌+◌, ◌-◌, ◌&&◌, ℕ, MatchOption, drop, length, slice_index_or, None, Some, IsNone, IfSome, true};
-ghost use Rattle.ufmt.specs.Leaves.{begins_with, is_name_byte, is_opening};
+ghost use Rattle.ufmt.specs.Leaves.{is_name_byte, is_opening};
 ghost use Rattle.ufmt_values.specs.Values.{before_bracket, brace_start, is_after_name, is_in_struct, is_named, run_start, tuple_start, value_from, value_start};
 ghost use Rattle.ufmt_values.specs.FoundValues.{IsValue, IsValueAt};
 ghost use Rattle.ufmt_values.specs.Unclosed.{HasNoMore, IsUnclosed, is_closing};
@@ -11,6 +11,7 @@ use ufmt::class::Class;
 use ufmt::layout::Mode;
 use ufmt_grammar::bytes::ByteClass;
 use ufmt_scan::convert::other_mode;
+use ufmt_scan::strip::begins_with;
 use ufmt_scan::{FrontText, begins_with_field, front_text};
 
 /// A place from which on no value begins, if none does from `end` on. After a try that failed it is where
@@ -131,16 +132,6 @@ fn is_in_struct(to: Mode, after: &[u8]) -> bool
             Some(line) => begins_with_field(Class::Debug, line),
             None => false,
         },
-    }
-}
-
-/// Whether this byte comes first.
-pub fn begins_with(byte: u8, text: &[u8]) -> bool
-    ensures { result ≡ begins_with byte text.now }
-{
-    match text.first() {
-        Some(first) => *first == byte,
-        None => false,
     }
 }
 

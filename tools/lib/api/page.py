@@ -65,8 +65,17 @@ def of_crate(crate):
     folder = TOP / "crates" / crate / "src"
     found = list(shown(crate))
     for other, names in handed_on((folder / "lib.rt").read_text()):
-        found += shown(other, names)
+        found += of_names(other, names)
     return [*found, *macros_of(sources(folder), MACROS)]
+
+
+def of_names(crate, names):
+    """The items of these names that a crate has, or hands on from another."""
+    found = list(shown(crate, names))
+    for path in sources(TOP / "crates" / crate / "src"):
+        for other, further in handed_on(path.read_text()):
+            found += of_names(other, names & further) if names & further else []
+    return found
 
 
 def section(crate):

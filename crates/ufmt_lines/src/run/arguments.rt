@@ -49,7 +49,7 @@ const UNKNOWN: &str = "ufmt_lines: unknown option: ";
 const NO_NUMBER: &str = "ufmt_lines: --longer-than needs a number";
 
 const NOT_A_NUMBER: &str =
-    "ufmt_lines: --longer-than takes decimal digits, of less than 2^64, not: ";
+    "ufmt_lines: --longer-than needs a number below 2^64 in decimal digits, not: ";
 
 const LIMIT_OF_PLAIN: &str = "ufmt_lines: --longer-than doesn't go with --plain";
 

@@ -9,10 +9,10 @@ use std::convert::Infallible;
 use ufmt::class::Class;
 use ufmt::layout::{COLON, Count, Kind, Mode};
 use ufmt_scan::scan::{Event, Sink, scan};
+use ufmt_scan::strip::begins_with;
 use ufmt_scan::{FrontText, front_text};
 use ufmt_values::{
-    before_bracket, begins_with, is_closing, is_name_byte, is_opening, value_at, value_from,
-    value_start,
+    before_bracket, is_closing, is_name_byte, is_opening, value_at, value_from, value_start,
 };
 
 // So many blocks are open in a text at most, with one that is too deep.

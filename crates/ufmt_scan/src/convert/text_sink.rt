@@ -9,7 +9,7 @@ ghost use Rattle.ufmt_scan.specs.ScanTexts.{setting_after, written};
 ghost use Rattle.std.proofs.Common.{refl};
 ghost use Rattle.ufmt_core.proofs.Writing.{Writes-nothing};
 
-use crate::markers::ModeType;
+use crate::mode::ParseMode;
 use crate::scan::{Event, Sink};
 use std::marker::PhantomData;
 use ufmt_core::ascii::text_from;
@@ -40,7 +40,7 @@ pub(super) struct TextSink<'w, W, M> {
 }
 
 /// Fails with the writer's error.
-impl<W: uWrite, M: ModeType> Sink for TextSink<'_, W, M> {
+impl<W: uWrite, M: ParseMode> Sink for TextSink<'_, W, M> {
     type Error = W::Error;
 
     ghost took = { Wrote W.seen M.mode true };

@@ -27,7 +27,7 @@ pub enum Event<T> {
     Dots,
 }
 
-/// Takes the events of a text. It may fail at any event.
+/// Accepts the events of a text. It may fail at any event.
 pub trait Sink {
     type Error;
 
@@ -37,7 +37,7 @@ pub trait Sink {
     /// The same, but the sink failed at the last event.
     ghost stopped: { Self → List TextEvent → Self → Type 0 };
 
-    /// Takes an event.
+    /// Accepts an event.
     fn event(&mut self, event: Event<&str>) -> Result<(), Self::Error>
         ensures { TakesEvent took stopped self.old (event_now event.entry) (is_ok result) self.new };
 

@@ -103,7 +103,7 @@ fn options_are_requests(rt: HostRuntime) -> Result<(), Fail> {
 }
 
 const NOT_A_NUMBER: &str =
-    "ufmt_lines: --longer-than takes decimal digits, of less than 2^64, not: ";
+    "ufmt_lines: --longer-than needs a number below 2^64 in decimal digits, not: ";
 
 const UNKNOWN: &str = "ufmt_lines: unknown option: ";
 

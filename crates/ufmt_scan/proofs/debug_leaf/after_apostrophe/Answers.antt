@@ -1,5 +1,5 @@
 use Rattle.std.proofs.Common.{◌∙◌, sym, arith}
-use Rattle.ufmt_scan.proofs.DebugFronts.{apostrophe_passes}
+use Rattle.ufmt_scan.proofs.PassedBytes.{apostrophe_passes}
 use Rattle.ufmt_scan.proofs.debug_leaf.after_apostrophe.Goals as goal
 
 pub returns-then-begins_plain : goal.returns-then-begins_plain

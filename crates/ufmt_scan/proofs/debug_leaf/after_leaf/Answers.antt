@@ -1,7 +1,8 @@
 use Rattle.std.proofs.Common.{◌∙◌, sym, subst, false, true}
 use Rattle.ufmt_grammar.specs.Leaves.{after_quotes, outside}
 use Rattle.ufmt_scan.specs.Private.Fronts.{Passes}
-use Rattle.ufmt_scan.proofs.DebugFronts.{colon_ends, ends_leaf, in_word_passes, no_colon_next, quotes_next, stops_leaf, word_next}
+use Rattle.ufmt_scan.proofs.DebugFronts.{colon_ends, ends_leaf, no_colon_next, quotes_next, stops_leaf, word_next}
+use Rattle.ufmt_scan.proofs.PassedBytes.{in_word_passes}
 use Rattle.ufmt_scan.proofs.LeafEnds.{nothing_stops}
 use Rattle.ufmt_scan.proofs.debug_leaf.after_leaf.Goals as goal
 

@@ -1,5 +1,5 @@
 use Rattle.std.proofs.Common.{◌∷◌, ◌∙◌, ap, arith, length, refl}
-use Rattle.ufmt_scan.proofs.DebugFronts.{unit_passes}
+use Rattle.ufmt_scan.proofs.PassedBytes.{unit_passes}
 use Rattle.ufmt_scan.proofs.debug_leaf.after_parenthesis.Goals as goal
 
 pub returns-in-Some-eq41-default : goal.returns-in-Some-eq41-default

@@ -1,6 +1,7 @@
 use Rattle.std.proofs.Common.{◌∷◌, ◌∙◌, sym, subst}
 use Rattle.ufmt_scan.specs.Private.Fronts.{StaysBetween}
-use Rattle.ufmt_scan.proofs.DebugFronts.{differ, escape_stays, stays}
+use Rattle.ufmt_scan.proofs.DebugFronts.{differ}
+use Rattle.ufmt_scan.proofs.PassedBytes.{escape_stays, stays}
 use Rattle.ufmt_scan.proofs.debug_leaf.after_quoted.Goals as goal
 
 pub returns-else-is_control-clause-passes : goal.returns-else-is_control-clause-passes

@@ -2,7 +2,8 @@ use Rattle.std.proofs.Common.{◌∷◌, ap, sym, subst, false, arith, length}
 use Rattle.ufmt_grammar.specs.Leaves.{after_quotes, between}
 use Rattle.ufmt_scan.specs.Private.Fronts.{Passes}
 use Rattle.ufmt_grammar.proofs.DebugLeaves.{opening_is_quote}
-use Rattle.ufmt_scan.proofs.DebugFronts.{closed, differ, opened, passes_then}
+use Rattle.ufmt_scan.proofs.DebugFronts.{closed, differ, opened}
+use Rattle.ufmt_scan.proofs.PassedBytes.{passes_then}
 use Rattle.ufmt_scan.proofs.debug_leaf.after_text.Goals as goal
 
 pub stretches-init : goal.stretches-init

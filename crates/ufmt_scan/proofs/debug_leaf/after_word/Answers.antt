@@ -1,4 +1,4 @@
-use Rattle.ufmt_scan.proofs.DebugFronts.{run_stops}
+use Rattle.ufmt_scan.proofs.PassedBytes.{run_stops}
 use Rattle.ufmt_scan.proofs.debug_leaf.after_word.Goals as goal
 
 pub returns-else-ends_in_colon-clause-stops : goal.returns-else-ends_in_colon-clause-stops
