@@ -1,4 +1,4 @@
-//! A measurement with a fixed-point number in it, printed and parsed.
+//! A struct with a `Decimal` field, printed and parsed.
 ghost use Rattle.std.specs.Prelude.{[], ◌∷◌, ⊤};
 ghost use Rattle.ufmt.specs.ValueDocuments.{named_struct, number};
 ghost use Rattle.ufmt_parse.specs.Values.{is_i64, is_u8};
@@ -6,7 +6,7 @@ ghost use Rattle.ufmt_parse.specs.Values.{is_i64, is_u8};
 use ufmt::{Decimal, Formatter, fields, uDebug, uWrite};
 use ufmt_parse::{Fault, ParseMode, Parser, parse_fields, prove_fields, uParse};
 
-/// What a power supply shows: as many places as its display has.
+/// A reading of a power supply. `volts` has as many decimal places as the display.
 #[derive(Clone, Copy, PartialEq, Debug, Drop)]
 pub struct Supply {
     pub channel: u8,

@@ -1,4 +1,4 @@
--- The texts of lines: one of a log, measurements in a row, and the bytes of a packet.
+-- The texts that the calls of logger.rt write: a log line, a list of measurements, and the bytes of a packet.
 use Rattle.std.specs.Prelude.{ℕ, List, [], ◌∷◌, codes, true, false, map, length}
 use Rattle.example_print.specs.declared.logger.Measurement.{Measurement}
 use Rattle.ufmt.specs.declared.hex.HexOptions.{HexOptions}
@@ -11,11 +11,11 @@ use Rattle.ufmt.specs.Pieces.{Piece, each, line_text, shown, text, hex}
 abbrev pub measurement_document : Measurement → Document
 measurement_document r = named_struct "Measurement" (("channel", number r.channel) ∷ ("celsius", integer r.celsius) ∷ [])
 
--- a register: `0x`, and zeros to ten bytes in all
+-- the options for a register: `0x`, and then zeros up to ten bytes in all
 abbrev pub register : HexOptions
 register = record { upper_case = false; pad_char = zero_digit; pad_length = 10; ox_prefix = true }
 
--- the measurement, the register and a line feed
+-- a log line: the measurement, ` control `, the register and a line feed
 abbrev pub line : Measurement → ℕ → List ℕ
 line measurement control = line_text
     (shown (measurement_document measurement) ∷ text (codes " control ") ∷ hex (padded_hexadecimal register control) ∷ text (codes "\n") ∷ [])
@@ -23,15 +23,15 @@ line measurement control = line_text
 abbrev pub measurement_pieces : Measurement → List Piece
 measurement_pieces r = shown (number r.channel) ∷ text (codes "=") ∷ shown (integer r.celsius) ∷ []
 
--- the measurements with commas between them
+-- `measured: `, and the measurements with a comma and a space between them
 abbrev pub measurements_text : List Measurement → List ℕ
 measurements_text rs = line_text (text (codes "measured: ") ∷ each (codes ", ") (map measurement_pieces rs) ∷ [])
 
--- a byte: two digits
+-- the options for a byte: two digits
 abbrev pub byte : HexOptions
 byte = record { upper_case = false; pad_char = zero_digit; pad_length = 2; ox_prefix = false }
 
--- how many bytes there are, and the bytes with spaces between them
+-- `len=`, how many bytes there are, and the bytes in hexadecimal with spaces between them
 abbrev pub dump_text : List ℕ → List ℕ
 dump_text packet = line_text
     (text (codes "len=") ∷ shown (number (length packet)) ∷ text (codes " ") ∷ each (codes " ") (map (λ b. hex (padded_hexadecimal byte b) ∷ []) packet) ∷ [])

@@ -1,8 +1,8 @@
-//! Tests of what no clause says of parsing: that it succeeds with ample memory, and where a text that isn't parsed stops
-//! fitting. They parse types of users, and types of std that probe_model doesn't parse. tools/data/rows has texts of the
-//! other types.
-// Asserts that each text of a value of the type comes back, and that each other stops to be one where its row says: at a place,
-// with what is expected there, such as `16 Punctuation`. A row of a value's text says nothing.
+//! Tests of what the contracts of ufmt_parse don't say: that parsing succeeds with ample memory, and where a refused text
+//! stops fitting. The tests parse types of users, and types of std that probe_model doesn't parse. tools/data/rows has
+//! texts of the other types.
+// Asserts what each row says of its text. A text beside `""` is a value's text, and comes back. Any other text is refused at
+// the place that its row says, with what is expected there, such as `16 Punctuation`.
 macro_rules! all_stop {
     ($rt:ident, $type:ty; $($text:expr => $stop:literal;)*) => {
         same(&$rt, first_other::<$type>($rt.alloc(), &[$(($text, $stop)),*]), None, "by rows");
@@ -38,13 +38,13 @@ use std::process::Abort;
 use ufmt::{plain_text, pretty_text};
 use ufmt_parse::{ParseError, parse, parse_pretty, uParse};
 
-// Checking an assert takes as long as checking twenty calls, so asserts are calls of this one.
+// Checking one `assert_eq!` takes as long as checking twenty calls, so tests call this function instead.
 pub fn same<T: PartialEq + Debug + Drop>(rt: &impl Abort, given: T, wanted: T, case: &str) {
     assert_eq!(rt; given, wanted, "{case}");
 }
 
-// The first of these texts that isn't parsed as it should be. Each taken text prints as itself again, in each mode. Each other
-// text fails with `NotText`.
+// Returns the first text that isn't parsed as it should be. Each text of `taken` should come back, as `comes_back` says. Each
+// text of `others` should fail with `NotText`.
 pub fn first_wrong<'a, T: uParse<Global>>(
     alloc: Global,
     taken: &[&'a str],
@@ -64,7 +64,7 @@ pub fn first_wrong<'a, T: uParse<Global>>(
     None
 }
 
-// Whether a value has this plain text, and comes back from its pretty text too.
+// Whether the plain text is parsed, and the value, printed pretty and parsed again, has the same plain text.
 fn comes_back<T: uParse<Global>>(alloc: Global, text: &str) -> bool {
     let Ok(value) = parse::<T, Global>(alloc, text.as_bytes()) else {
         return false;
@@ -96,7 +96,7 @@ pub fn first_other<'a, T: uParse<Global>>(
     None
 }
 
-// Where the text stops to be one of a value, and what is expected there.
+// Where the text stops fitting, and what is expected there. Empty if the text comes back.
 fn stop_of<T: uParse<Global>>(alloc: Global, text: &str) -> Result<String, AllocError> {
     match parse::<T, Global>(alloc, text.as_bytes()) {
         Err(ParseError::NotText { at, expected }) => format!(in alloc; "{at} {expected:?}"),

@@ -1,4 +1,4 @@
-//! Tuples of one to twelve. `x generate` writes this file: change tools/lib/by_count.
+//! Tuples of one to twelve. `x generate` writes this file: change its template in tools/data/by_count.
 ghost use Rattle.std.specs.Prelude.{[], ◌∷◌};
 ghost use Rattle.ufmt_core.specs.Document.{documents, tuple_of};
 

@@ -73,7 +73,7 @@ def written(name, counts, words):
     return filled(head, MOST, words) + "".join(filled(each, count, words) for count in counts).rstrip("\n") + "\n" + filled(tail, MOST, words)
 
 
-SHARED = {"{written}": "`x generate` writes this file: change tools/lib/by_count."}
+SHARED = {"{written}": "`x generate` writes this file: change its template in tools/data/by_count."}
 STRUCT = {**SHARED, "{block}": "struct", "{list}": "Fields", "{same}": "SameFields", "{row}": "fields_of",
           "{compared}": "_ _ _ _ _ _"}
 TUPLE = {**SHARED, "{block}": "tuple", "{list}": "Documents", "{same}": "SameDocuments", "{row}": "documents", "{compared}": "_ _ _ _ _"}

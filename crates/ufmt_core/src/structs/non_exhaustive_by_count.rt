@@ -1,4 +1,4 @@
-//! Structs that end in `..`, by their number of fields. `x generate` writes this file: change tools/lib/by_count.
+//! Structs that end in `..`, by their number of fields. `x generate` writes this file: change its template in tools/data/by_count.
 ghost use Rattle.std.specs.Prelude.{◌≡◌, ℕ, List, is_ok, true, [], ◌∷◌};
 ghost use Rattle.std.specs.Str.{bytes_eq};
 ghost use Rattle.ufmt_core.specs.Alike.{SameFields};

@@ -1,4 +1,5 @@
-//! Whether a value stays as it is.
+//! Which values a conversion leaves as they are: none when it makes texts plain; when it makes them pretty, the values
+//! that are short, that have one leaf, or that would then read as a struct.
 ghost use Rattle.std.specs.Prelude.{◌≡◌, ◌<◌, ◌≤◌, length};
 ghost use Rattle.ufmt_lines.specs.Values.{could_be_struct};
 ghost use Rattle.ufmt_lines.specs.Private.StaysAsFound.{StaysAsFound};
@@ -9,7 +10,8 @@ use ufmt::layout::Mode;
 use ufmt_scan::{FrontText, begins_with_field};
 use ufmt_values::is_after_name;
 
-/// Whether this value, whose bracket is there, stays as it is.
+/// Whether the value with its first bracket at `bracket` stays as it is. A name before the bracket is looked for
+/// from `low` on.
 pub(super) fn stays(
     conversion: Conversion,
     text: &[u8],

@@ -1,4 +1,4 @@
-//! Tuples of one to 12. `x generate` writes this file: change tools/lib/by_count.
+//! Tuples of one to 12. `x generate` writes this file: change its template in tools/data/by_count.
 use crate::uparse::{ByType, uParse};
 use ufmt_parser::fields::parse_tuple;
 use ufmt_parser::mode::ParseMode;

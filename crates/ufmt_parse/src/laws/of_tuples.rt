@@ -1,4 +1,4 @@
-//! The law on tuples of one to 12. `x generate` writes this file: change tools/lib/by_count.
+//! The law on tuples of one to 12. `x generate` writes this file: change its template in tools/data/by_count.
 use crate::uparse::uParse;
 
 /// A tuple holds no memory if its fields hold none.

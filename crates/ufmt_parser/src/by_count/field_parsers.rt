@@ -1,4 +1,4 @@
-//! Tuples of one to 12 parsers, each of a field. `x generate` writes this file: change tools/lib/by_count.
+//! Tuples of one to 12 parsers, each of a field. `x generate` writes this file: change its template in tools/data/by_count.
 ghost use Rattle.std.specs.Prelude.{[], ◌∷◌, ⊤};
 
 use crate::fields::{FieldParsers, parse_first};

@@ -1,4 +1,4 @@
-//! Structs of 1 to 6 fields, each parsed by a parser. `x generate` writes this file: change tools/lib/by_count.
+//! Structs of 1 to 6 fields, each parsed by a parser. `x generate` writes this file: change its template in tools/data/by_count.
 ghost use Rattle.std.specs.Prelude.{◌≤◌, ◌<◌, length, [], ◌∷◌, ◌≡◌, List, ℕ, suc, true, IfOk, IfErr};
 ghost use Rattle.std.specs.Str.{bytes_eq};
 ghost use Rattle.ufmt_core.specs.Alike.{SameFields};

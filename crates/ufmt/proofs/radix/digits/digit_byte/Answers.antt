@@ -4,7 +4,7 @@ use Rattle.ufmt.specs.declared.radix.digits.TheConstants.{LOWER_CASE, UPPER_CASE
 use Rattle.ufmt.specs.Radix.{digit_byte}
 use Rattle.ufmt.proofs.radix.digits.digit_byte.Goals as goal
 
--- the check computes these tests over the whole table
+-- here and in `returns`, the check proves `refl` by comparing all 16 bytes of the table with `digit_byte`
 pub returns-then-upper_case : goal.returns-then-upper_case
 returns-then-upper_case c = rw c.if-upper_case.true
     (eqb-true _ _ (agree_below_at (λ n. eqb (slice_index_or UPPER_CASE n 0) (digit_byte true n)) (λ _. true) 16 c.args.digit refl c.requires))

@@ -1,4 +1,4 @@
--- `x generate` writes this file: change tools/lib/by_count.
+-- `x generate` writes this file: change its template in tools/data/by_count.
 use Rattle.std.proofs.lemmas.Result.{IfErr-weaker, IfOk-weaker}
 use Rattle.ufmt_parse.proofs.core_impls.tuples.Tuple4uParse.parse_from.Goals as goal
 

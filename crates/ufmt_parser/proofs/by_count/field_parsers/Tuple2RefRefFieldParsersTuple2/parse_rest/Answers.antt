@@ -1,4 +1,4 @@
--- `x generate` writes this file: change tools/lib/by_count.
+-- `x generate` writes this file: change its template in tools/data/by_count.
 use Rattle.ufmt_parser.proofs.Views.{viewed}
 use Rattle.ufmt_parser.proofs.by_count.field_parsers.Tuple2RefRefFieldParsersTuple2.parse_rest.Goals as goal
 

@@ -1,4 +1,4 @@
--- `x generate` writes this file: change tools/lib/by_count.
+-- `x generate` writes this file: change its template in tools/data/by_count.
 use Rattle.std.proofs.Common.{[], ◌∷◌, refl}
 use Rattle.ufmt_parser.proofs.Alike.{no_struct_alike}
 use Rattle.ufmt_parser.proofs.Naming.{no_struct, struct_leaves}

@@ -1,4 +1,4 @@
--- `x generate` writes this file: change tools/lib/by_count.
+-- `x generate` writes this file: change its template in tools/data/by_count.
 use Rattle.std.proofs.Common.{[], ◌∷◌, refl}
 use Rattle.std.proofs.lemmas.Result.{IfErr-weaker, IfOk-weaker}
 use Rattle.ufmt_parser.proofs.Alike.{no_struct_alike}

@@ -1,4 +1,4 @@
--- `x generate` writes this file: change tools/lib/by_count.
+-- `x generate` writes this file: change its template in tools/data/by_count.
 use Rattle.ufmt_parser.proofs.Alike.{no_tuple_alike}
 use Rattle.ufmt_parser.proofs.Naming.{no_tuple, tuple_leaves}
 use Rattle.ufmt_parser.proofs.by_count.tuples.few.parse_tuple_1.Goals as goal
