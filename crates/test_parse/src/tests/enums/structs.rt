@@ -118,6 +118,8 @@ fn structs_and_long_names_in_variants_are_parsed(rt: HostRuntime) {
         "Interrupted(4294967296)" => "12 Number";
         "Apply { set: Set { channel: 256, level: 0 } }" => "28 Number";
         "Apply(Set { channel: 1, level: 2 })" => "5 Punctuation";
+        "Apply { est: Set { channel: 1, level: 2 } }" => "8 Name";
+        "HoldPositoin(Set { channel: 1, level: 2 }, true)" => "0 Name";
         "Apply { set: Up }" => "13 Name";
         "HoldPosition(Set { channel: 1, level: 2 }, maybe)" => "43 Name";
         "HoldPosition(Set { channel: 1, level: 2 })" => "41 Punctuation";
