@@ -14,7 +14,6 @@ mod end_entry;
 mod entries;
 mod evaluations;
 mod field_counts;
-mod fields;
 mod formatters;
 mod laws;
 mod leaves;

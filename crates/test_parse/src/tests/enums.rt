@@ -1,4 +1,3 @@
 //! Tests of enums: each shape of variant, structs in variants beside other values, and long names.
-mod long_names;
 pub(super) mod shapes;
 mod structs;

@@ -1,17 +1,8 @@
-//! Tests of quoted texts and characters. Each character of ASCII is a row of tools/data/rows. `tools/expected/show VALUE`
-//! prints one again.
-use super::asserts::{has_wanted_rows, same};
+//! A test of escapes in quoted texts. Each character of ASCII, and some past it, are rows of tools/data/rows.
+use super::asserts::same;
 use std::alloc::{AllocError, Global};
 use test_rows::piece_rows::texts_of;
-use test_rows::put_rows;
-use test_rows::rows::{Table, joined_if_different, map, repeated};
-
-// The texts of a `&str`, and those of the same `String` if they differ.
-fn texts_by_both(alloc: Global, text: &str) -> Result<String, AllocError> {
-    let owned = String::from_str(alloc, text)?;
-    let owned = texts_of(alloc, &owned)?;
-    joined_if_different(texts_of(alloc, &text)?, owned.as_str())
-}
+use test_rows::rows::repeated;
 
 // Whether the escape of a quotation mark is found after so many letters, with more letters after it.
 fn is_escaped_after(alloc: Global, before: usize, after: usize) -> Result<bool, AllocError> {
@@ -33,17 +24,4 @@ fn an_escape_is_found_at_each_place(rt: HostRuntime) {
             same(&rt, (before, after, given), wanted, "an escape");
         }
     }
-}
-
-#[test]
-fn texts_and_characters_are_quoted(rt: HostRuntime) {
-    let mut table = Table::new(rt.alloc());
-    put_rows!(table;
-        put_made(texts_by_both(rt.alloc(), "\u{1f} ~\u{7f}")) => "\"\\u{1f} ~\\u{7f}\"";
-        put_made(texts_by_both(rt.alloc(), "\u{80}é€\u{10ffff}")) => "\"\u{80}é€\u{10ffff}\"";
-        texts(&'\u{80}') => "'\u{80}'";
-        texts(&'\u{10ffff}') => "'\u{10ffff}'";
-        texts_of_made(map(rt.alloc(), &[("k", Some('c'))])) => "{\"k\": Some('c')}~\n{\n    \"k\": Some(\n        'c',\n    ),\n}";
-    );
-    has_wanted_rows(&rt, &table);
 }

@@ -1,37 +1,43 @@
-//! Tests of an enum with structs in its variants, beside other values, for which no proof is written.
+//! Tests of an enum with structs in its variants, beside other values, and with names of 2 to 28 letters, for which no proof is written.
 ghost use Rattle.std.specs.Prelude.{[], ◌∷◌, ⊤, IfSome};
 ghost use Rattle.ufmt.specs.ValueDocuments.{integer, named, named_struct, named_tuple, number};
-ghost use Rattle.test_parse.specs.declared.tests.enums.structs.Order.TheVariants.{Halt, Apply, Hold, CrossFadeBetween, Pulse};
-ghost use Rattle.ufmt_parse.specs.Values.{is_i16, is_u8};
+ghost use Rattle.test_parse.specs.declared.tests.enums.structs.Order.TheVariants.{Up, Interrupted, Apply, HoldPosition, CrossFadeBetween, AwaitingCalibrationOfSensor, Pulse};
+ghost use Rattle.ufmt_parse.specs.Values.{is_i16, is_u8, is_u32, is_u64};
 
 use crate::tests::{first_other, same};
 use example_parse::Set;
 use ufmt::{Formatter, uDebug, uWrite, variants};
 use ufmt_parse::ParseError::NotText;
-use ufmt_parse::{Expected, Fault, ParseMode, Parser, parse_pretty, parse_variants, uParse};
+use ufmt_parse::{Expected, Fault, ParseMode, Parser, parse, parse_pretty, parse_variants, uParse};
 
 /// An order to a device.
 #[derive(Clone, Copy, PartialEq, Eq, Debug, Drop)]
 pub enum Order {
-    Halt,
+    Up,
+    Interrupted(u32),
     Apply {
         set: Set,
     },
-    Hold(Set, bool),
+    HoldPosition(Set, bool),
     CrossFadeBetween {
         starting_point: Set,
         end_point: Set,
         repeated: bool,
+    },
+    AwaitingCalibrationOfSensor {
+        seconds_since_the_last_value: u64,
     },
     Pulse(u8, Option<u8>, i16),
 }
 
 impl uDebug for Order {
     ghost document = { elim [
-      | Halt ↦ named "Halt"
+      | Up ↦ named "Up"
+      | Interrupted line ↦ named_tuple "Interrupted" (number line ∷ [])
       | Apply set ↦ named_struct "Apply" (("set", ⟦<Set as uDebug>⟧.document set) ∷ [])
-      | Hold set locked ↦ named_tuple "Hold" (⟦<Set as uDebug>⟧.document set ∷ ⟦<bool as uDebug>⟧.document locked ∷ [])
+      | HoldPosition set locked ↦ named_tuple "HoldPosition" (⟦<Set as uDebug>⟧.document set ∷ ⟦<bool as uDebug>⟧.document locked ∷ [])
       | CrossFadeBetween start end repeated ↦ named_struct "CrossFadeBetween" (("starting_point", ⟦<Set as uDebug>⟧.document start) ∷ ("end_point", ⟦<Set as uDebug>⟧.document end) ∷ ("repeated", ⟦<bool as uDebug>⟧.document repeated) ∷ [])
+      | AwaitingCalibrationOfSensor seconds ↦ named_struct "AwaitingCalibrationOfSensor" (("seconds_since_the_last_value", number seconds) ∷ [])
       | Pulse count pause level ↦ named_tuple "Pulse" (number count ∷ ⟦<Option<u8> as uDebug>⟧.document pause ∷ integer level ∷ [])
     ] };
 
@@ -39,25 +45,30 @@ impl uDebug for Order {
         variants!(
             f,
             self,
-            Order { Halt, Apply { set }, Hold(set, locked), CrossFadeBetween { starting_point, end_point, repeated }, Pulse(count, pause, level) }
+            Order { Up, Interrupted(line), Apply { set }, HoldPosition(set, locked), CrossFadeBetween { starting_point, end_point, repeated }, AwaitingCalibrationOfSensor { seconds_since_the_last_value }, Pulse(count, pause, level) }
         )
     }
 }
 
 impl<A: Copy> uParse<A> for Order {
     ghost is_value = { elim [
-      | Halt ↦ ⊤
+      | Up ↦ ⊤
+      | Interrupted line ↦ is_u32 line
       | Apply set ↦ is_u8 set.channel × is_i16 set.level
-      | Hold set locked ↦ is_u8 set.channel × is_i16 set.level
+      | HoldPosition set locked ↦ is_u8 set.channel × is_i16 set.level
       | CrossFadeBetween start end repeated ↦ (is_u8 start.channel × is_i16 start.level) × (is_u8 end.channel × is_i16 end.level)
+      | AwaitingCalibrationOfSensor seconds ↦ is_u64 seconds
       | Pulse count pause level ↦ is_u8 count × (IfSome pause is_u8 × is_i16 level)
     ] };
 
     fn prove_value(&self) {
         match self {
-            Order::Halt => {}
+            Order::Up => {}
+            Order::Interrupted(line) => {
+                let _line = *line;
+            }
             Order::Apply { set } => <Set as uParse<A>>::prove_value(set),
-            Order::Hold(set, _) => <Set as uParse<A>>::prove_value(set),
+            Order::HoldPosition(set, _) => <Set as uParse<A>>::prove_value(set),
             Order::CrossFadeBetween {
                 starting_point,
                 end_point,
@@ -65,6 +76,11 @@ impl<A: Copy> uParse<A> for Order {
             } => {
                 <Set as uParse<A>>::prove_value(starting_point);
                 <Set as uParse<A>>::prove_value(end_point);
+            }
+            Order::AwaitingCalibrationOfSensor {
+                seconds_since_the_last_value,
+            } => {
+                let _seconds = *seconds_since_the_last_value;
             }
             Order::Pulse(count, pause, level) => {
                 let _count = *count;
@@ -78,38 +94,57 @@ impl<A: Copy> uParse<A> for Order {
         parse_variants!(
             alloc,
             parser,
-            Order { Halt, Apply { set }, Hold(set, locked), CrossFadeBetween { starting_point, end_point, repeated }, Pulse(count, pause, level) }
+            Order { Up, Interrupted(line), Apply { set }, HoldPosition(set, locked), CrossFadeBetween { starting_point, end_point, repeated }, AwaitingCalibrationOfSensor { seconds_since_the_last_value }, Pulse(count, pause, level) }
         )
     }
 }
 
 #[test]
-fn structs_in_variants_are_parsed(rt: HostRuntime) {
+fn structs_and_long_names_in_variants_are_parsed(rt: HostRuntime) {
     let fading =
         "CrossFadeBetween { starting_point: Set { channel: 0, level: -32768 }, end_point: Set { channel: 255, level: 32767 }, repeated: true }";
     all_stop!(rt, Order;
-        "Halt" => "";
+        "Up" => "";
+        "Interrupted(4294967295)" => "";
         "Apply { set: Set { channel: 0, level: -32768 } }" => "";
-        "Hold(Set { channel: 255, level: 32767 }, false)" => "";
+        "HoldPosition(Set { channel: 255, level: 32767 }, false)" => "";
         fading => "";
+        "AwaitingCalibrationOfSensor { seconds_since_the_last_value: 18446744073709551615 }" => "";
         "Pulse(3, None, -1)" => "";
         "Pulse(0, Some(255), 0)" => "";
+        "Upp" => "0 Name";
+        "Interrupte(1)" => "0 Name";
+        "Interruptedd(1)" => "0 Name";
+        "Interrupted(4294967296)" => "12 Number";
         "Apply { set: Set { channel: 256, level: 0 } }" => "28 Number";
         "Apply(Set { channel: 1, level: 2 })" => "5 Punctuation";
-        "Apply { set: Halt }" => "13 Name";
-        "Hold(Set { channel: 1, level: 2 }, maybe)" => "35 Name";
-        "Hold(Set { channel: 1, level: 2 })" => "33 Punctuation";
+        "Apply { est: Set { channel: 1, level: 2 } }" => "8 Name";
+        "HoldPositoin(Set { channel: 1, level: 2 }, true)" => "0 Name";
+        "Apply { set: Up }" => "13 Name";
+        "HoldPosition(Set { channel: 1, level: 2 }, maybe)" => "43 Name";
+        "HoldPosition(Set { channel: 1, level: 2 })" => "41 Punctuation";
+        "CrossFadeBetween { starting_piont: Set { channel: 0, level: 0 } }" => "19 Name";
+        "AwaitingCalibrationOfSensor { seconds_since_the_last_valeu: 1 }" => "30 Name";
         "Pulse(3, Some(256), -1)" => "14 Number";
         "Pulsed(3, None, -1)" => "0 Name";
     );
+    let seconds_since_the_last_value = 7;
+    let given = parse(
+        (),
+        b"AwaitingCalibrationOfSensor { seconds_since_the_last_value: 7 }",
+    );
+    let wanted = Order::AwaitingCalibrationOfSensor {
+        seconds_since_the_last_value,
+    };
+    same(&rt, given, Ok(wanted), "its field");
     let high = Set {
         channel: 255,
         level: 32767,
     };
     let pretty =
-        "Hold(\n    Set {\n        channel: 255,\n        level: 32767,\n    },\n    true,\n)";
+        "HoldPosition(\n    Set {\n        channel: 255,\n        level: 32767,\n    },\n    true,\n)";
     let held = parse_pretty((), pretty.as_bytes());
-    same(&rt, held, Ok(Order::Hold(high, true)), pretty);
+    same(&rt, held, Ok(Order::HoldPosition(high, true)), pretty);
     let refused = parse_pretty::<Order, ()>((), fading.as_bytes());
     let wanted = NotText {
         at: 16,

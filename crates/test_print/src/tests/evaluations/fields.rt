@@ -1,4 +1,5 @@
-//! Tests of what `fields!` and `variants!` evaluate.
+//! Tests of what `fields!` and `variants!` evaluate, also where they take values apart, with field names that they may use
+//! themselves.
 use super::super::asserts::has_wanted_rows;
 use super::Turns;
 use std::alloc::AllocError;
@@ -8,14 +9,18 @@ use ufmt::{Formatter, fields, variants};
 #[derive(Drop)]
 struct Unit;
 
+// With names that a macro may use itself.
 #[derive(Drop)]
-struct Pair {
-    a: u8,
-    b: u8,
+struct Names {
+    f: u8,
+    formatter: u8,
 }
 
 #[derive(Drop)]
 struct Two(u8, u8);
+
+#[derive(Drop)]
+struct Thirteen(u8, u8, u8, u8, u8, u8, u8, u8, u8, u8, u8, u8, u8);
 
 #[derive(Drop)]
 enum Event {
@@ -65,27 +70,27 @@ fn print_few(number: usize, f: &mut Text, turns: &mut Turns) -> Evaluated {
     )
 }
 
-// Forms that take a value apart.
+// Forms that take a value apart. The fields that aren't named are not shown.
 fn print_apart(number: usize, f: &mut Text, turns: &mut Turns) -> Evaluated {
-    let (unit, pair, two) = (Unit, Pair { a: 1, b: 2 }, Two(1, 2));
+    let (unit, names, two) = (Unit, Names { f: 1, formatter: 2 }, Two(1, 2));
     of_number!(number;
         8 => fields!(turns.formatter(f), unit, Unit), "F=Unit";
-        9 => fields!(turns.formatter(f), pair, Pair { b, a }), "F=Pair { b: 2, a: 1 }";
-        _ => fields!(turns.formatter(f), two, Two(a, b)), "F=Two(1, 2)";
+        9 => fields!(turns.formatter(f), names, Names { formatter, f }), "F=Names { formatter: 2, f: 1 }";
+        10 => fields!(turns.formatter(f), two, Two(f, g)), "F=Two(1, 2)";
+        11 => fields!(turns.formatter(f), names, Names { .. }), "F=Names { .. }";
+        12 => fields!(turns.formatter(f), names, Names { formatter, .. }), "F=Names { formatter: 2, .. }";
+        _ => fields!(turns.formatter(f), names, Names { formatter, f, .. }), "F=Names { formatter: 2, f: 1, .. }";
     )
 }
 
-// Forms with dots: with no field, with one and with two, and a value taken apart.
+// Forms with dots: with no field, with one and with two.
 fn print_few_with_dots(number: usize, f: &mut Text, turns: &mut Turns) -> Evaluated {
     let (a, b) = (1u8, 2u8);
-    let pair = Pair { a, b };
     of_number!(number;
-        11 => fields!(turns.formatter(f), S { .. }), "F=S { .. }";
-        12 => with_dots!(f, turns; a 1), "Fa=S { a: 1, .. }";
-        13 => with_dots!(f, turns; a 1 b 2), "Fab=S { a: 1, b: 2, .. }";
-        14 => fields!(turns.formatter(f), S { a, b, .. }), "F=S { a: 1, b: 2, .. }";
-        15 => fields!(turns.formatter(f), pair, Pair { .. }), "F=Pair { .. }";
-        _ => fields!(turns.formatter(f), pair, Pair { b, .. }), "F=Pair { b: 2, .. }";
+        14 => fields!(turns.formatter(f), S { .. }), "F=S { .. }";
+        15 => with_dots!(f, turns; a 1), "Fa=S { a: 1, .. }";
+        16 => with_dots!(f, turns; a 1 b 2), "Fab=S { a: 1, b: 2, .. }";
+        _ => fields!(turns.formatter(f), S { a, b, .. }), "F=S { a: 1, b: 2, .. }";
     )
 }
 
@@ -112,22 +117,32 @@ fn print_with_dots(count: usize, f: &mut Text, turns: &mut Turns) -> Outcome {
     }
 }
 
+fn print_thirteen(f: &mut Text, turns: &mut Turns) -> Outcome {
+    let thirteen = Thirteen(1, 2, 3, 4, 5, 6, 7, 8, 9, 10, 11, 12, 13);
+    fields!(
+        turns.formatter(f),
+        thirteen,
+        Thirteen(a, b, c, d, e, f, g, h, i, j, k, l, m)
+    )
+}
+
 fn print_many(number: usize, f: &mut Text, turns: &mut Turns) -> Evaluated {
     of_number!(number;
-        17 => print_named(12, f, turns), "Fabcdefghijkl=S { a: 1, b: 2, c: 3, d: 4, e: 5, f: 6, g: 7, h: 8, i: 9, j: 10, k: 11, l: 12 }";
-        18 => print_unnamed(12, f, turns), "Fabcdefghijkl=S(1, 2, 3, 4, 5, 6, 7, 8, 9, 10, 11, 12)";
-        19 => print_with_dots(12, f, turns), "Fabcdefghijkl=S { a: 1, b: 2, c: 3, d: 4, e: 5, f: 6, g: 7, h: 8, i: 9, j: 10, k: 11, l: 12, .. }";
-        20 => print_named(13, f, turns), "Fabcdefghijklm=S { a: 1, b: 2, c: 3, d: 4, e: 5, f: 6, g: 7, h: 8, i: 9, j: 10, k: 11, l: 12, m: 13 }";
-        21 => print_unnamed(13, f, turns), "Fabcdefghijklm=S(1, 2, 3, 4, 5, 6, 7, 8, 9, 10, 11, 12, 13)";
-        _ => print_with_dots(13, f, turns), "Fabcdefghijklm=S { a: 1, b: 2, c: 3, d: 4, e: 5, f: 6, g: 7, h: 8, i: 9, j: 10, k: 11, l: 12, m: 13, .. }";
+        18 => print_named(12, f, turns), "Fabcdefghijkl=S { a: 1, b: 2, c: 3, d: 4, e: 5, f: 6, g: 7, h: 8, i: 9, j: 10, k: 11, l: 12 }";
+        19 => print_unnamed(12, f, turns), "Fabcdefghijkl=S(1, 2, 3, 4, 5, 6, 7, 8, 9, 10, 11, 12)";
+        20 => print_with_dots(12, f, turns), "Fabcdefghijkl=S { a: 1, b: 2, c: 3, d: 4, e: 5, f: 6, g: 7, h: 8, i: 9, j: 10, k: 11, l: 12, .. }";
+        21 => print_named(13, f, turns), "Fabcdefghijklm=S { a: 1, b: 2, c: 3, d: 4, e: 5, f: 6, g: 7, h: 8, i: 9, j: 10, k: 11, l: 12, m: 13 }";
+        22 => print_unnamed(13, f, turns), "Fabcdefghijklm=S(1, 2, 3, 4, 5, 6, 7, 8, 9, 10, 11, 12, 13)";
+        23 => print_with_dots(13, f, turns), "Fabcdefghijklm=S { a: 1, b: 2, c: 3, d: 4, e: 5, f: 6, g: 7, h: 8, i: 9, j: 10, k: 11, l: 12, m: 13, .. }";
+        _ => print_thirteen(f, turns), "F=Thirteen(1, 2, 3, 4, 5, 6, 7, 8, 9, 10, 11, 12, 13)";
     )
 }
 
 // A variant of each kind.
 fn print_variant(number: usize, f: &mut Text, turns: &mut Turns) -> Evaluated {
     let (event, wanted) = match number {
-        23 => (Event::Started, "F=Started"),
-        24 => (Event::Said(1, 2), "F=Said(1, 2)"),
+        25 => (Event::Started, "F=Started"),
+        26 => (Event::Said(1, 2), "F=Said(1, 2)"),
         _ => (Event::Lost { since: 3 }, "F=Lost { since: 3 }"),
     };
     let event = &event;
@@ -150,9 +165,9 @@ fn put_row(table: &mut Table, number: usize) {
     let mut f = Formatter::new(String::new(table.alloc()));
     let (outcome, wanted) = match number {
         0..=7 => print_few(number, &mut f, &mut turns),
-        8..=10 => print_apart(number, &mut f, &mut turns),
-        11..=16 => print_few_with_dots(number, &mut f, &mut turns),
-        17..=22 => print_many(number, &mut f, &mut turns),
+        8..=13 => print_apart(number, &mut f, &mut turns),
+        14..=17 => print_few_with_dots(number, &mut f, &mut turns),
+        18..=24 => print_many(number, &mut f, &mut turns),
         _ => print_variant(number, &mut f, &mut turns),
     };
     table.put_made(row(outcome, turns, f));
@@ -162,7 +177,7 @@ fn put_row(table: &mut Table, number: usize) {
 #[test]
 fn fields_and_variants_evaluate_in_order(rt: HostRuntime) {
     let mut table = Table::new(rt.alloc());
-    for number in 0..26usize {
+    for number in 0..28usize {
         put_row(&mut table, number);
     }
     has_wanted_rows(&rt, &table);
