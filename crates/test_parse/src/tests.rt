@@ -22,6 +22,7 @@ mod decimals;
 mod enums;
 mod errors;
 mod field_counts;
+mod found;
 mod laws;
 mod names;
 mod names_before;
