@@ -23,6 +23,7 @@ mod enums;
 mod errors;
 mod field_counts;
 mod field_kinds;
+mod found;
 mod laws;
 mod names;
 mod names_before;

@@ -1,5 +1,6 @@
 pub mod DecimalsTaken
 pub mod Expecting
+pub mod Finding
 pub mod Forms
 pub mod KeysInARow
 pub mod Layers

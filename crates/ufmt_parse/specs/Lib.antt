@@ -1,4 +1,5 @@
 pub mod Expecting
+pub mod Finding
 pub mod NamesBefore
 pub mod Parses
 pub mod Places

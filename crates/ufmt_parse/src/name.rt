@@ -31,7 +31,8 @@ fn name_start(text: &[u8]) -> usize
     start
 }
 
-fn is_identifier_byte(byte: u8) -> bool
+// A letter, a digit or `_`, or a byte of a character past ASCII.
+pub(crate) fn is_identifier_byte(byte: u8) -> bool
     ensures { result ≡ is_identifier_byte byte }
 {
     byte.is_ascii_alphanumeric() || byte == b'_' || byte >= 0x80

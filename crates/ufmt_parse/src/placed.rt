@@ -3,24 +3,28 @@ ghost use Rattle.std.specs.Prelude.{[], ◌∷◌, codes, option_map};
 ghost use Rattle.ufmt.specs.Document.{documents, joined, leaf};
 ghost use Rattle.ufmt.specs.ValueDocuments.{named, named_struct, number, option_document, str};
 ghost use Rattle.ufmt_parse.specs.Expecting.{expected_words};
+ghost use Rattle.ufmt_parse.specs.Finding.{found_document};
 ghost use Rattle.ufmt_parse.specs.NamesBefore.{after_document};
 ghost use Rattle.ufmt_parse.specs.Placing.{IsPlaced};
 ghost use Rattle.ufmt_parse.specs.declared.placed.PlacedError.TheVariants.{NotText, OutOfMemory};
 
 use crate::error::ParseError;
 use crate::expected::Expected;
+use crate::found::{ButFound, Found, found_at};
 use crate::name::name_before;
 use crate::place::line_and_column;
 use ufmt::{Formatter, Line, fields, pieces, uDebug, uDisplay, uWrite};
 
-/// A `ParseError` with the line and the column of its place, both from 1. A column counts characters. If the text
-/// before the place ends with a name, a colon and a space, `after` is the name: of a field, or a key.
+/// A `ParseError` with the line and the column of its place, both from 1, and with what is found there. A column counts
+/// characters. If the text before the place ends with a name, a colon and a space, `after` is the name: of a field, or a
+/// key.
 #[derive(Clone, Copy, PartialEq, Eq, Debug, Drop)]
 pub enum PlacedError<'a> {
     NotText {
         line: usize,
         column: usize,
         expected: Expected,
+        found: Found<'a>,
         after: Option<&'a str>,
     },
     OutOfMemory,
@@ -28,9 +32,11 @@ pub enum PlacedError<'a> {
 
 impl ParseError {
     // Promise (reading): `in_text` reports the longest name that is followed by `: ` right before the error,
-    // or `None` if there is no such name or it isn't UTF-8.
-    /// Returns the error with its line and its column in the text that was parsed, and with the name before
-    /// its place.
+    // or `None` if there is no such name or it isn't UTF-8. It finds `End` if and only if the text ends there, `LineFeed` if and
+    // only if one line feed is all that is left, and a `Word` if and only if the text goes on with bytes of a name or a number that
+    // are UTF-8.
+    /// Returns the error with its line and its column in the text that was parsed, with what is found there, and with
+    /// the name before its place.
     pub fn in_text<'a>(self, text: &'a [u8]) -> PlacedError<'a>
         ensures { IsPlaced text.now self result }
     {
@@ -41,6 +47,7 @@ impl ParseError {
                     line,
                     column,
                     expected,
+                    found: found_at(text, at),
                     after: name_before(text, at),
                 }
             }
@@ -49,12 +56,12 @@ impl ParseError {
     }
 }
 
-/// Prints as `NotText { line: 1, column: 16, expected: Number, after: Some("level") }`.
-impl uDebug for PlacedError<'_> {
+/// Prints as `NotText { line: 1, column: 16, expected: Number, found: Word("x"), after: Some("level") }`.
+impl<'a> uDebug for PlacedError<'a> {
     ghost document = { elim [
-      | NotText line column expected after ↦ named_struct "NotText" (("line", number line) ∷ ("column", number column)
+      | NotText line column expected found after ↦ named_struct "NotText" (("line", number line) ∷ ("column", number column)
           ∷ ("expected", ⟦<Expected as uDebug>⟧.document expected)
-          ∷ ("after", option_document str after) ∷ [])
+          ∷ ("found", ⟦<Found<'a> as uDebug>⟧.document found) ∷ ("after", option_document str after) ∷ [])
       | OutOfMemory ↦ named "OutOfMemory"
     ] };
 
@@ -64,6 +71,7 @@ impl uDebug for PlacedError<'_> {
                 line,
                 column,
                 expected,
+                found,
                 after,
             } => fields!(
                 f,
@@ -71,6 +79,7 @@ impl uDebug for PlacedError<'_> {
                     line,
                     column,
                     expected,
+                    found,
                     after
                 }
             ),
@@ -79,11 +88,11 @@ impl uDebug for PlacedError<'_> {
     }
 }
 
-/// Prints as ``expected a number of the type at line 1 column 16, after `level: ` ``.
+/// Prints as ``expected a number of the type, found `x` at line 1 column 16, after `level: ` ``.
 impl uDisplay for PlacedError<'_> {
     ghost display = { elim [
-      | NotText line column expected after ↦ joined (documents (leaf (codes "expected ")
-          ∷ leaf (expected_words expected) ∷ leaf (codes " at line ") ∷ number line
+      | NotText line column expected found after ↦ joined (documents (leaf (codes "expected ")
+          ∷ leaf (expected_words expected) ∷ found_document found ∷ leaf (codes " at line ") ∷ number line
           ∷ leaf (codes " column ") ∷ number column ∷ after_document (option_map (λ name. name.now) after) ∷ []))
       | OutOfMemory ↦ leaf (codes "out of memory")
     ] };
@@ -94,9 +103,10 @@ impl uDisplay for PlacedError<'_> {
                 line,
                 column,
                 expected,
+                found,
                 after,
             } => {
-                pieces!(text "expected ", display expected, text " at line ", display line, text " column ", display column, display After(*after)).print(
+                pieces!(text "expected ", display expected, display ButFound(*found), text " at line ", display line, text " column ", display column, display After(*after)).print(
                     f,
                 )
             }

@@ -15,6 +15,8 @@ WORDS = {"Name": "a name of the type", "Number": "a number of the type", "Charac
          "Count": "another number of values or blocks", "End": "the end of the text"}
 # A byte past ASCII is of a character.
 NAME_BYTES = (string.ascii_letters + string.digits + "_").encode() + bytes(range(0x80, 0x100))
+# A number has these too.
+WORD_BYTES = NAME_BYTES + b"-+."
 # What comes after a name that is over there.
 NAME_ENDS = re.compile(rb": (?!\})|\((?!\))|[ ,\[\]{})]|\Z")
 # A leaf in these quotes, as far as its end shows: a backslash takes the next byte with it.
@@ -139,10 +141,22 @@ def after_name(data, at):
         return ""
 
 
+def found_at(data, at):
+    """What is printed of what is found at a place: the end, one line feed at the end, or the bytes of a name or a number."""
+    left = data[at:]
+    if left in (b"", b"\n"):
+        return ", found one last line feed" if left else ", found the end of the text"
+    word = left[: len(left) - len(left.lstrip(WORD_BYTES))]
+    try:
+        return ", found `%s`" % word.decode() if word else ""
+    except UnicodeDecodeError:
+        return ""
+
+
 def stopped(data, at, expected):
     """What is printed of a type by which the text stops here."""
-    place = *line_and_column(data, at), after_name(data, at)
-    return "expected %s at line %d column %d%s, NotText { at: %d, expected: %s };" % (WORDS[expected], *place, at, expected)
+    place = found_at(data, at), *line_and_column(data, at), after_name(data, at)
+    return "expected %s%s at line %d column %d%s, NotText { at: %d, expected: %s };" % (WORDS[expected], *place, at, expected)
 
 
 def errors(data, stops):

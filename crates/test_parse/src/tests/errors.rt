@@ -29,10 +29,10 @@ fn an_error_in_its_text_prints_its_line_column_and_name(rt: HostRuntime) {
     let number = not_text(19, Expected::Number).in_text(text);
     let name = not_text(0, Expected::Name).in_text(text);
     put_rows!(table;
-        texts(&Displayed(number)) => "expected a number of the type at line 2 column 14, after `channel: `";
-        plain(&number) => "NotText { line: 2, column: 14, expected: Number, after: Some(\"channel\") }";
-        texts(&Displayed(name)) => "expected a name of the type at line 1 column 1";
-        plain(&name) => "NotText { line: 1, column: 1, expected: Name, after: None }";
+        texts(&Displayed(number)) => "expected a number of the type, found `256` at line 2 column 14, after `channel: `";
+        plain(&number) => "NotText { line: 2, column: 14, expected: Number, found: Word(\"256\"), after: Some(\"channel\") }";
+        texts(&Displayed(name)) => "expected a name of the type, found `Set` at line 1 column 1";
+        plain(&name) => "NotText { line: 1, column: 1, expected: Name, found: Word(\"Set\"), after: None }";
         texts(&Displayed(PlacedError::OutOfMemory)) => "out of memory";
         texts(&PlacedError::OutOfMemory) => "OutOfMemory";
     );

@@ -3,3 +3,6 @@ use Rattle.ufmt_parse.proofs.placed.PlacedErroruDisplay.fmt.Goals as goal
 
 pub returns-in-NotText : goal.returns-in-NotText
 returns-in-NotText g c = rw c.in-NotText.is (lays_out c.print.ensures)
+
+pub returns-in-OutOfMemory : goal.returns-in-OutOfMemory
+returns-in-OutOfMemory g c = rw c.in-OutOfMemory.is c.write_str.ensures.lays_out
