@@ -4,6 +4,7 @@ What they expect comes from outside: rustc's texts and xxd's dumps in tools/data
 printed in tools/expected/rows.txt, the models of texts and of lines in tools/lib/model/ and tools/lib/log_model/, a table of
 fields as a reader sees them in crates/ufmt_values/src/field/tests.rt, and Python's own decoding of UTF-8.
 """
+import itertools
 import json
 import re
 import sys
@@ -18,7 +19,6 @@ from lib.model.document import plain, pretty  # noqa: E402
 from lib.model.reading import DEBUG, TOKEN, PlainReader, PrettyReader  # noqa: E402
 from lib.top import TOP
 
-EXPECTED = TOP / "tools" / "expected"
 NO_TEXT, FULL, NOT_UTF8, BAD_OPTION = -1, -2, -3, -4
 # What each call takes after its buffer, if it has one, and before `detail`. A struct has its name and its members' types, and
 # a number that is left is `number`. A float is its bits.
@@ -133,7 +133,7 @@ def converted(text_class, mode, other, data):
 
 def conversions():
     """Each text of a value, in both modes and classes; texts that are none; deep ones; and one with each byte changed."""
-    printed = expected_rows.rows(EXPECTED / "rows.txt")
+    printed = expected_rows.rows()
     given = {"plain": [row.plain.encode() for row in printed], "pretty": [row.pretty.encode() for row in printed]}
     nested = [b"[" * depth + b"1" + b"]" * depth for depth in (1, 20, 255, 256)]
     changed = b'P { x: ("a", [1, -2]) }'
@@ -148,10 +148,9 @@ def conversions():
 
 def as_rustc_printed():
     """The texts that rustc printed, both ways, where a class has the value: the same rows by rustc's own words."""
-    listed = {(reason.row, reason.text_class): reason.outcomes for reason in expected_rows.reasons(EXPECTED / "reasons")}
-    rows = expected_rows.rows(EXPECTED / "rows.txt")
-    for row, text_class in ((row, text_class) for row in rows for text_class in (TOKEN, DEBUG)):
-        outcomes = listed.get((row.name, "debug" if text_class == DEBUG else "token"), ("same", "same"))
+    listed, pairs = expected_rows.reasons(), itertools.product(expected_rows.rows(), (TOKEN, DEBUG))
+    for row, text_class in pairs:
+        outcomes = listed.get((row.name, text_class.name), ("same", "same"))
         texts = row.plain.encode(), row.pretty.encode()
         for outcome, mode, given, wanted in zip(outcomes, ("pretty", "plain"), texts, texts[::-1]):
             if outcome == "same":
