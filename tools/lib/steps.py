@@ -41,7 +41,7 @@ STEPS = (
          ("rt", "objdump", "nm", "setarch")),
     Step("logs", BUILT, "lib.log_model.step", "random logs through ufmt_lines, against a model, with each read and write", (), ("valgrind",)),
     Step("floats", UNPROVED, "lib.floats.step", "texts of floats as rustc prints them, their steps and stack", ("rt", "rustc"), ("valgrind", "objdump")),
-    Step("packaging", BUILT, "lib.packaging.trial", "`x dist`, `x install`, the installed programs, their manual pages, callers of the library",
+    Step("packaging", BUILT, "lib.packaging.step", "`x dist`, `x install`, the installed programs, their manual pages, callers of the library",
          ("rt", "gcc", "objdump"), ("man", "pkg-config", "cargo")),
     Step("rust", UNPROVED, "lib.rust.step", "the package for Rust: its tests, no panicking branch, bytes", ("cargo", "rustc", "gcc", "nm"), ("clippy-driver",)),
     Step("memory", BUILT, "lib.alloc_failures.step", "what each call returns when one allocation after another is refused", ("cc",)),
