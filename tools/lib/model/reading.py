@@ -31,6 +31,12 @@ def leaf_at(text, at):
 
 TOKEN = TextClass("token", leaf_at, WORD.fullmatch, has_open_structs=False)
 
+
+def is_of_tokens(leaf):
+    found = leaf_at(leaf, 0)
+    return found is not None and found[1] == len(leaf)
+
+
 # A leaf of the class DEBUG may begin with a word in parentheses, or with an address in brackets, a colon and a byte of a word. A
 # piece of it is bytes of a word, a text in quotation marks, one character or escape in apostrophes, any other apostrophe before
 # a byte of a word, `()`, or colons. In quotes a backslash takes the next character with it. In a word it is no byte before a
