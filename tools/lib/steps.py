@@ -39,7 +39,7 @@ STEPS = (
     Step("macros", UNPROVED, "lib.crates.step", "each form of each macro, lines that must not compile, tests that must fail, how often values print", ("rt",)),
     Step("stack", UNPROVED, "lib.bench.stack", "stack of calls that print or parse, and of built programs, and bytes of code",
          ("rt", "objdump", "nm", "setarch")),
-    Step("logs", BUILT, "lib.log_model.step", "random logs through ufmt_lines, against a model, with each read and write", (), ("valgrind",)),
+    Step("logs", BUILT, "lib.log_model.step", "random logs through ufmt_lines, against a model, with each read and write", (), ("cc", "valgrind")),
     Step("floats", UNPROVED, "lib.floats.step", "texts of floats as rustc prints them, their steps and stack", ("rt", "rustc"), ("valgrind", "objdump")),
     Step("packaging", BUILT, "lib.packaging.step", "`x dist`, `x install`, the installed programs, their manual pages, callers of the library",
          ("rt", "gcc", "objdump"), ("man", "pkg-config", "cargo")),
