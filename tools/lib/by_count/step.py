@@ -20,7 +20,6 @@ INNERMOST = re.compile(r"⟪(\*|-?,|\w+:)([^⟪⟫]*)⟫")
 
 
 def conditions(count):
-    """The words that hold of a number of fields."""
     found = {"none": count == 0, "one": count == 1, "two": count == 2, "more": count > 2, "some": count > 0, "many": count > 1,
              "short": 0 < count < 6, "long": count >= 6}
     return {word for word, holds in found.items() if holds}
@@ -90,7 +89,6 @@ PRINTED = {"structs/by_count.rt": ("struct", "Whole structs", STRUCT), "tuple/by
 
 
 def files():
-    """Each file by its path in the repository, with its text."""
     for path, template in WHOLE.items():
         yield path, written(template, EACH, SHARED)
     for path, (kind, about, words) in PRINTED.items():
@@ -110,7 +108,6 @@ def files():
 
 
 def in_one_line(text):
-    """The text without what only lays it out."""
     return re.sub(r",(?=[)}>\]])", "", re.sub(r"\s+", "", text))
 
 

@@ -81,7 +81,6 @@ def leaves_number(case):
 
 
 def style(name, *members):
-    """A struct of options, with its size."""
     return (SIZES[name], *members)
 
 

@@ -18,7 +18,6 @@ TOLD = "Of `x try c`: steps"
 
 
 def counted(program):
-    """A row for each call that is counted."""
     if not here("valgrind", "no steps are counted"):
         return {}
     by_call, rows = {}, {}
@@ -33,7 +32,6 @@ def counted(program):
 
 
 def compared_steps(faults, program):
-    """Compares the steps of calls with what was measured. Returns how many are counted."""
     rows = counted(program)
     faults += measures.Table("c").faults(rows) if rows else []
     return len(rows)
@@ -59,7 +57,6 @@ def stacks(faults, program):
 
 
 def measured_again(is_written):
-    """Counts the steps of calls, and writes the table again, or names what left the band."""
     needs.require("measure", "rt", "gcc", "valgrind")
     with tempfile.TemporaryDirectory() as folder:
         room = pathlib.Path(folder)

@@ -27,7 +27,6 @@ TESTS = "tools/data/crates/tests:1"
 
 
 def make_room(room):
-    """Copies the libraries, without their work."""
     lines = (TOP / "crates.txt").read_text().splitlines()
     (room / "crates.txt").write_text("".join(line + "\n" for line in lines if line.split(":")[0] in tests.LIBRARIES))
     build.copied(TOP, room, tests.LIBRARIES, ("src", "specs", "proofs"))

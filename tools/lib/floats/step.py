@@ -24,7 +24,6 @@ COUNT = 20_000
 
 
 def compare_every(first):
-    """Compares the digests of all `f32`s, block by block."""
     faults = 0
     with tempfile.TemporaryDirectory(prefix="x-floats-") as room:
         both = programs.ours(pathlib.Path(room)), programs.theirs(pathlib.Path(room))
@@ -38,7 +37,6 @@ def compare_every(first):
 
 
 def compare(count, seed):
-    """Compares so many random floats, and others."""
     with tempfile.TemporaryDirectory(prefix="x-floats-") as room:
         room, text = pathlib.Path(room), patterns.lines(count, seed)
         rustc = programs.theirs(room)

@@ -34,7 +34,6 @@ def faults(program, counts):
 
 
 def measured_again(is_written):
-    """Writes the table again, or names each row whose bound left the band."""
     needs.require("measure", "rt", "valgrind")
     with tempfile.TemporaryDirectory(prefix="x-floats-") as room:
         return measures.measured_again("floats", counted(programs.by_ufmt(pathlib.Path(room))), TOLD, is_written)

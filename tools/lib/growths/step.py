@@ -58,7 +58,6 @@ def open_tests(text):
 
 
 def places(texts):
-    """The row of each place in the sources."""
     return ["%s: %s" % (name, told) for name, text in texts.items() for _, told in rule.places(text)]
 
 

@@ -37,7 +37,6 @@ def repeated(row):
 
 
 def table_shapes():
-    """Those of tools/data/logs/shapes.txt."""
     for part, rows in data.parts("logs/shapes.txt").items():
         mode, form = part.split(", ")
         for name, *pieces in (row.split(" => ") for row in rows):
@@ -94,6 +93,5 @@ def faults(path):
 
 
 def measured_again(is_written):
-    """Writes the table again, or names each row whose bound left the band."""
     needs.require("measure", "cc", "valgrind")
     return measures.measured_again(MEASURED, counted(needs.built("ufmt_lines")), TOLD, is_written)

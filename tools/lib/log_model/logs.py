@@ -54,7 +54,6 @@ class Maker:
         return words
 
     def open_group(self):
-        """Lines of a group that doesn't end."""
         line = b" " * self.size(40) + self.words()
         return self.words() + self.random.choice((b"[", b"{", b"(")) + (b"\n" + line.replace(b"\n", b"")) * self.size(300)
 

@@ -39,7 +39,6 @@ def sent(mode, log, chunks):
 
 
 def wrong_runs(paths, batch):
-    """The faults of runs of the programs on these logs."""
     faults, programs = [], [devices.Program(path) for path in paths]
     for (log, chunks), mode in itertools.product(batch, log_model.MODES):
         pieces, rounds = sent(mode, log, chunks)
@@ -66,7 +65,6 @@ def wrong_texts(path, seed):
 
 
 def both(path):
-    """The program, and what the other compiler made of it."""
     return [path for path in (path, path.with_name(path.name + ".by-rattle")) if path.exists()]
 
 

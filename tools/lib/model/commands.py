@@ -76,7 +76,6 @@ def rows_of(counter, programs, run, nothing):
 
 
 def runs_of(part):
-    """The runs of a part: of ufmt_conv, of ufmt_lines, or of it with `--plain`."""
     return list(conv_runs() if part == "conv" else line_runs(part == "plain"))
 
 

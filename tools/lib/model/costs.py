@@ -50,7 +50,6 @@ def samples(size, number):
 
 
 def requested():
-    """Requests with huge options."""
     return [Sample("the request %s" % (tuple(one),), one.data(), 1) for one in asked.huge()]
 
 
@@ -144,7 +143,6 @@ def part_faults(counter, program, number, is_counted):
 
 
 def measured_rows(counter, program):
-    """The rows of all texts and requests."""
     rows = Run(counter, program, requested(), "measured", True).steps()
     for number in range(PARTS):
         rows.update(Run(counter, program, list(samples(COUNTED_SIZE, number)), "measured", True).steps())

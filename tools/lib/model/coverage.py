@@ -105,7 +105,6 @@ def cells(data, document, mode, judged):
 
 
 def pairs(*lists):
-    """Each choice of one of each list."""
     return list(itertools.product(*lists))
 
 

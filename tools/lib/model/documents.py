@@ -99,7 +99,6 @@ class Maker:
         return Block("tuple" if kind == "unnamed" else kind, name, [(None, value) for value in values])
 
     def document(self):
-        """A document of any size."""
         nodes = self.up_to(MOST_NODES)
         self.longest = self.up_to(max(MOST_BYTES // nodes, 4))
         return self.grown(nodes, 0)
@@ -148,7 +147,6 @@ class Maker:
         return self.random.choice((plain, pretty))(document)
 
     def placed_leaf(self):
-        """A long leaf, by itself or in a block."""
         leaf = self.long_leaf()
         return leaf if self.random.random() < 0.5 else self.deeper(self.random.choice(self.places), leaf)
 
@@ -163,7 +161,6 @@ class Maker:
         return (before, after, before + after[1:], before + piece + after[1:], None, None, data + piece, before + piece + after)[form]
 
     def changed_at(self, data, piece):
-        """The text with this piece where it had another."""
         old = self.random.choice(self.pieces).encode()
         count = data.count(old)
         if count == 0:

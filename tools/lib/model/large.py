@@ -44,7 +44,6 @@ def document_runs(name):
 
 
 def line_runs():
-    """Runs of the commands on a million lines."""
     yield "a million lines", "ufmt_conv", ["lengths"], "x\n" * LINES, "[%s]\n" % ", ".join(["1"] * LINES)
     short, long = STAMP + "[1, 2]\n", STAMP + "[\n    1,\n    2,\n]\n"
     yield "a million lines", "ufmt_lines", ["--longer-than", "0"], short * LINES, long * LINES
@@ -70,7 +69,6 @@ def verdict_runs():
 
 
 def run_fault(program, arguments, data, wanted):
-    """What is wrong with a run, or None."""
     ran = subprocess.run([str(program), *arguments], input=data.encode(), capture_output=True,
                          preexec_fn=lambda: resource.setrlimit(resource.RLIMIT_CPU, (SECONDS, SECONDS)))
     if ran.returncode != 0:

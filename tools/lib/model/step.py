@@ -107,7 +107,6 @@ def cost_jobs(pool, programs, meter):
 
 
 def measured_again(is_written):
-    """Writes the table again, or names each row whose bound left the band."""
     needs.require("measure", "cc", "valgrind")
     programs = counter.programs_of(None)
     with tempfile.TemporaryDirectory() as room:

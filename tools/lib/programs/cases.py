@@ -61,7 +61,6 @@ class Cases:
         self.faults += [findings.case(name, shown(wanted), shown(ran))] if ran != wanted else []
 
     def same(self, name, wanted, got):
-        """Compares what is no run."""
         self.judge(name, Ran(0, repr(got).encode(), b""), 0, repr(wanted).encode())
 
     def filled(self, column):

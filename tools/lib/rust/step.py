@@ -31,8 +31,6 @@ NARROW_HOST = "i686-unknown-linux-gnu"
 
 
 class Trial:
-    """A folder with the package, and the faults that were found."""
-
     def __init__(self, room):
         self.room, self.faults, self.package = room, [], room / "package"
         self.environment = dict(os.environ, CARGO_TARGET_DIR=str(room / "target"), CARGO_NET_OFFLINE="true", RUST_BACKTRACE="0",
@@ -48,7 +46,6 @@ class Trial:
         return ran.stdout
 
     def features(self):
-        """The package compiles without warnings with each choice of features."""
         for features in ("", "alloc", "std", "proved", "alloc,proved", "small"):
             self.cargo("check", "--quiet", "-p", "ufmt", "--features", features)
 
@@ -124,7 +121,6 @@ class Trial:
         return self.library("sizes", source, profile, features, target, ours="ours", peer=peer)
 
     def sizes(self):
-        """Programs stay within their bounds."""
         library, linker = self.library_of_sizes("release", "proved"), linking.Linker(self.room)
         for name, bound in BYTES.items() if library else ():
             size = linker.size(library, name)
