@@ -4,7 +4,6 @@ What they expect comes from outside: rustc's texts and xxd's dumps in tools/data
 printed in tools/expected/rows.txt, the models of texts and of lines in tools/lib/model/ and tools/lib/log_model/, a table of
 fields as a reader sees them in crates/ufmt_values/src/field/tests.rt, and Python's own decoding of UTF-8.
 """
-import itertools
 import json
 import re
 import sys
@@ -84,11 +83,13 @@ def style(name, *members):
     return (SIZES[name], *members)
 
 
-def arguments(call, words):
+def arguments(call, words, has_sizes=False):
+    """The arguments that these words are. A struct has its size first, or gets it here."""
     left, found = iter(words), []
     for kind in CALLS[call]:
         if kind in STYLES:
-            found.append(style(kind, *(int(next(left)) for _ in STYLES[kind][1:])))
+            members = [int(next(left)) for _ in STYLES[kind][not has_sizes :]]
+            found.append(tuple(members) if has_sizes else style(kind, *members))
         elif kind not in ("buffer", "number"):
             found.append(tables.data_of(next(left)) if kind == "bytes" else int(next(left)))
     if list(left):
@@ -145,17 +146,6 @@ def conversions():
                 yield from converted(text_class, mode, other, data)
 
 
-def as_rustc_printed():
-    """The texts that rustc printed, both ways, where a class has the value: the same rows by rustc's own words."""
-    listed, pairs = expected_rows.reasons(), itertools.product(expected_rows.rows(), (TOKEN, DEBUG))
-    for row, text_class in pairs:
-        outcomes = listed.get((row.name, text_class.name), ("same", "same"))
-        texts = row.plain.encode(), row.pretty.encode()
-        for outcome, mode, given, wanted in zip(outcomes, ("pretty", "plain"), texts, texts[::-1]):
-            if outcome == "same":
-                yield Case("convert", (CLASSES[text_class], MODES[mode], given), text=wanted)
-
-
 def valid_up_to(data):
     """How many bytes at the front are UTF-8, by Python's decoder. None if all are."""
     try:
@@ -210,28 +200,16 @@ def fields():
 
 
 def refusals():
-    """Inputs that aren't UTF-8; options, classes and modes that mean nothing; and sizes of structs that no version had."""
-    for data in NOT_TEXTS:
-        asked = [("quote", data), ("in_column", data, style("column", 8, 32, 0))]
-        pairs = (data, b"a"), (b"a", data), (data, b"abcdef\xff")
-        asked += [(call, *texts) for call in ("difference", "first_difference") for texts in pairs]
-        yield from (Case(call, tuple(its), result=NOT_UTF8, detail=valid_up_to(data)) for call, *its in asked)
-    bad = [(call, 7, style("hex", 4, pad, 0, 0)) for pad in (128, 255) for call in ("hexadecimal", "binary")]
-    bad += [("in_column", data, style("column", 8, fill, align)) for data in (b"a", b"\xff")
-            for fill, align in ((0xD800, 0), (0xDFFF, 1), (0x110000, 2), (0xFFFFFFFF, 0), (32, 3), (32, 255))]
-    for size in (0, 1, 8, 16, 20, 23, 25, 31, 33, 40, 48, SIZE_MAX):
-        bad += [(call, 7, (size, 4, 32, 0, 0)) for call in ("hexadecimal", "binary")]
-        bad += [("dump", b"abc", (size, 16, 1, 0, 1, 1)), ("in_column", b"a", (size, 8, 32, 0))]
-    bad += [("convert", text_class, mode, data) for data in (b"", b"1", b"[1]")
-            for text_class, mode in ((2, 0), (0, 2), (2, 2), (255, 1), (1, 256), (2**32 - 1, 0), (1, 2**31))]
-    classes = 2, 3, 255, 256, 2**31, 2**32 - 1
-    bad += [("field", text_class, b"S { x: 1 }", name) for text_class in classes for name in (b"x", b"", b"\xff")]
-    yield from (Case(call, tuple(its), result=BAD_OPTION) for call, *its in bad)
-    yield from (Case("is_text", tuple(its), result=0) for call, *its in bad if call == "convert")
+    """The rows of tools/data/c/refused.txt, and the version."""
+    for row in (tables.DATA / "c" / "refused.txt").read_text().splitlines():
+        if row and not row.startswith("# "):
+            (call, *words), (result, *detail) = (part.split(" ") for part in row.split(" = "))
+            refused = {"result": int(result), "detail": int(detail[0]) if detail else None}
+            yield Case(call, arguments(call, words, has_sizes=True), **refused)
     first, second, third = map(int, top.version().split("."))
     yield Case("version", (), result=first * 10_000 + second * 100 + third)
 
 
 def all_cases():
     """Every case, but for those of leaves.py and huge.py."""
-    return [*stored(), *conversions(), *as_rustc_printed(), *fields(), *refusals()]
+    return [*stored(), *conversions(), *fields(), *refusals()]

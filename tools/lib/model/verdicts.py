@@ -43,11 +43,10 @@ def of_classes(text, document, debug_document, is_pretty):
     return "%s, in a list %s; debug: %s" % (reading(document, is_pretty, True), in_a_list, debug)
 
 
-def half(text, document, debug_document, is_pretty, judged=None):
+def half(text, documents, is_pretty, judged):
     """What the calls of one mode say of a text: of its token document, of its debug document, and of values."""
-    data = text.encode(errors="surrogateescape")
-    judged = judged or types.judged(data, is_pretty)
-    return "%s; values: %s" % (of_classes(text, document, debug_document, is_pretty), parsed(debug_document, data, is_pretty, judged))
+    of_values = parsed(documents[1], text.encode(errors="surrogateescape"), is_pretty, judged)
+    return "%s; values: %s" % (of_classes(text, *documents, is_pretty), of_values)
 
 
 def kinds(text_class, text):
@@ -71,7 +70,7 @@ def verdict(data):
     for mode in MODES:
         is_pretty = mode == "pretty"
         documents, judged = [READERS[mode, name].read(text) for name in ("token", "debug")], types.judged(data, is_pretty)
-        halves.append(half(text, *documents, is_pretty, judged))
+        halves.append(half(text, documents, is_pretty, judged))
         cells |= coverage.cells(data, documents[1], mode, judged)
     leaf = "no UTF-8" if NO_UTF8.search(text) else leaf_verdict(text)
     return "plain: %s; pretty: %s; leaf: %s" % (*halves, leaf), cells
