@@ -19,12 +19,6 @@ WIDTH = 100
 INNERMOST = re.compile(r"⟪(\*|-?,|\w+:)([^⟪⟫]*)⟫")
 
 
-def conditions(count):
-    found = {"none": count == 0, "one": count == 1, "two": count == 2, "more": count > 2, "some": count > 0, "many": count > 1,
-             "short": 0 < count < 6, "long": count >= 6}
-    return {word for word, holds in found.items() if holds}
-
-
 def field(count, place):
     return {"A": TYPES[place], "a": TYPES[place].lower(), "P": PARSERS[place], "n": str(place), "v": "v" if count == 1 else "v.%d" % place,
             "{are}": "are" + ".1" * place + ".0", "{lead}": " " if place % 6 else "\n            "}
@@ -36,12 +30,13 @@ def replaced(text, words):
 
 def filled(text, count, words):
     """The text for so many fields. `words` has what the kind of block is called so, and its own name as a condition."""
-    holding = conditions(count) | {words.get("{block}")}
+    holding = {"none": count == 0, "one": count == 1, "two": count == 2, "more": count > 2, "some": count > 0,
+               "many": count > 1, "short": 0 < count < 6, "long": count >= 6, words.get("{block}"): True}
 
     def chosen(found):
         form, item = found.groups()
         if form.endswith(":"):
-            return item if form[:-1] in holding else ""
+            return item if holding.get(form[:-1]) else ""
         item, _, between = item.partition("|")
         items = [replaced(item, field(count, place)) for place in range(form == "-,", count)]
         return between.join(items) if form == "*" else ", ".join(items) + "," * (len(items) == 1)

@@ -75,10 +75,6 @@ def has_buffer(case):
     return CALLS[case.call][:1] == ("buffer",)
 
 
-def leaves_number(case):
-    return CALLS[case.call][:1] == ("number",)
-
-
 def style(name, *members):
     return (SIZES[name], *members)
 

@@ -29,15 +29,11 @@ PUT, CHANGED, ANYWHERE = data.parts("wrong_growths.txt").values()
 PLACES = {"body": r"fn %s\b.*?\n *\{\n|fn %s\b[^{;]*\{\n", "parses": r"impl<A: Copy> uParse<A> for %s \{.*?fn parse_from<[^{]*\{"}
 
 
-def is_looked_at(path):
-    crate = path.relative_to(CRATES).parts[0]
-    is_library_or_example = is_ours(crate) or crate.startswith("example_")
-    return is_library_or_example and crate not in LEFT_OUT and not TESTS & set(path.parts)
-
-
 def sources():
     """The text of each source by its name below crates/."""
-    return {str(path.relative_to(CRATES)): path.read_text() for path in sorted(CRATES.glob("*/src/**/*.rt")) if is_looked_at(path)}
+    crates = [path.name for path in CRATES.iterdir() if is_ours(path.name) or path.name.startswith("example_")]
+    paths = [path for crate in sorted(set(crates) - LEFT_OUT) for path in sorted((CRATES / crate / "src").rglob("*.rt"))]
+    return {str(path.relative_to(CRATES)): path.read_text() for path in paths if not TESTS & set(path.parts)}
 
 
 def table():

@@ -143,12 +143,10 @@ class Maker:
         if form < 0.85:
             document = self.document() if form < 0.65 else types.made(self.random)
         else:
-            document = self.chain() if form < 0.92 else self.placed_leaf()
+            document = self.chain() if form < 0.92 else self.long_leaf()
+            if form >= 0.92 and self.random.random() < 0.5:
+                document = self.deeper(self.random.choice(self.places), document)
         return self.random.choice((plain, pretty))(document)
-
-    def placed_leaf(self):
-        leaf = self.long_leaf()
-        return leaf if self.random.random() < 0.5 else self.deeper(self.random.choice(self.places), leaf)
 
     def changed(self, data):
         """The text with a change, most often by one byte or one piece."""

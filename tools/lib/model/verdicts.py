@@ -1,6 +1,6 @@
 """The lines that the programs should print: of each text all that the calls say of it, and what ufmt_conv writes."""
 from lib.model import coverage, pieces, places, requests, types
-from lib.model.document import DEEPEST, depth_of, plain, pretty, quoted
+from lib.model.document import DEEPEST, converted as converted_pieces, depth_of, plain, pretty, quoted
 from lib.model.reading import DEBUG, MODES, NO_UTF8, READERS, TOKEN, converted
 from lib.model.shown import events, parts, shown
 
@@ -20,7 +20,9 @@ def reading(document, is_pretty, is_token):
     """What the calls of either class say of a text with this document."""
     other = (plain if is_pretty else pretty)(document)
     found = "yes" if is_token else "no", said(events, document), digest(other), said(parts, document), said(shown, document)
-    return "token %s, events %s, converted %s, parts %s, shown %s, %s" % (*found, pieces.of_text(document, is_pretty))
+    written = pieces.printed(document, is_pretty), pieces.by_text(*converted_pieces(document, not is_pretty))
+    told = "token %s, events %s, converted %s, parts %s, shown %s, pieces printed %s, converted %s"
+    return told % (*found, *map(pieces.digest, written))
 
 
 def parsed(document, data, is_pretty, judged):
