@@ -1,20 +1,14 @@
 """Calls the library for C from C, Rust and Python, and compares what comes out with tables.
 
-It is built with nothing proved, which takes half a minute and shows what its calls do (archive.py); `--proved` takes that of `rt
-lib` in crates/ufmt_c, which proves the libraries below first if nothing of them is kept, and `--program` one that is built. The
-calls are those of ufmt.h: each public call is made, with buffers that are longer than the text, as long, one byte shorter, half
-as long and empty, with inputs that are no texts and options that mean nothing (cases.py says where what they expect comes from).
+It is built with nothing proved (archive.py). `--proved` takes that of `rt lib` in crates/ufmt_c, and `--program` one that is
+built. Each call of ufmt.h is made with buffers that are longer than the text, as long, one byte shorter, half as long and empty,
+with inputs that are no texts and options that mean nothing (cases.py).
 
-- tools/data/c/calls.c makes every call, also with a detail at NULL, and valgrind sees that it touches no byte outside of its
-  arrays.
-- tools/data/c/calls.rs makes them all from Rust, and ctypes from Python, of the same library as a shared object.
-- Random inputs with random options and buffers go through every call, some of them under valgrind (random_cases.py).
-- Each option is tried up to the largest number, with buffers of 0 to 64 bytes. All of these calls together have so many seconds.
-- The steps and the stack of calls have bounds (costs.py).
-- The callers of crates/ufmt_c/examples, in C, Rust and Python, convert texts of each kind (callers.py).
-- ufmt.h is C and C++ without a warning, as is tools/data/c/literals.c, which includes it twice and passes each call string
-  literals. It has each exported call, and declares no other. What it declares, its macros, and how its structs are laid out, are
-  in tools/data/c/interface.txt (header.py).
+- tools/data/c/calls.c makes every call, also with a detail at NULL and under valgrind; calls.rs makes them all from Rust, and
+  ctypes from Python.
+- Random inputs with random options and buffers go through every call (random_cases.py), and each option up to the largest number.
+- The steps and the stack of calls have bounds (costs.py), the header is as it was (header.py), and the page's callers run
+  (callers.py).
 
 With `--write` it writes tools/data/c/rows.tsv again, by rustc and xxd, and interface.txt, and stops.
 """

@@ -1,15 +1,9 @@
-"""Makes random logs, runs ufmt_lines on each with and without `--plain`, and compares each of its reads and writes with those of a model,
-which shares no code with the project.
+"""Makes random logs, runs the built ufmt_lines on each with and without `--plain`, also as the other compiler built it, and
+compares each of its reads and writes with those of a model, which shares no code with the project. With a C compiler memory, reads
+and writes are counted on long logs of each shape, and with valgrind steps (log_costs.py).
 
-The built ufmt_lines is crates/ufmt_lines/out/ufmt_lines, which `rt ci` leaves there. The logs that come first with each seed are
-followed by random ones. They are also run by ufmt_lines.by-rattle, if it is there. With a C compiler memory, reads and writes
-are counted on long logs of each shape, and with valgrind steps (log_costs.py).
-
-A log of 200 lines has its values marked: those that are wanted are laid out, and each line comes back. On 100 times as many logs
-of nasty pieces the model is held to its laws: a log that `--plain` leaves as it is comes back, at three limits, and cuts of
-groups change no output.
-
-Last the built ufmt_conv reads texts in chunks, and each of its reads and writes is compared too.
+A log of 200 lines has its values marked, and 100 times as many logs of nasty pieces hold the model to its laws (law.py). Last the
+built ufmt_conv reads texts in chunks, and each of its reads and writes is compared too.
 """
 import concurrent.futures
 import itertools

@@ -1,17 +1,15 @@
-"""Makes random texts, passes each to every call of the library, and compares the results with those of a model, which shares no code with the
-project. Values that no text makes are printed by random options. What is compared also has the pieces that a writer is passed.
+"""Makes random texts, passes each to every call of the library, and compares the results with those of a model, which shares no
+code with the project. Values that no text makes are printed by random options. What is compared also has the pieces that a writer
+is passed.
 
-The built probe_model makes the calls: crates/probe_model/out/probe_model, which `rt ci` leaves there. The built ufmt_conv is
-run too, on some of the texts. Each text is passed to the calls on token texts and to those on debug texts. The texts that come first fill
-each cell of the table of shapes, tools/lib/model/coverage.py: a cell that no text fills is a fault. They are followed by random ones, and by half as many from debug documents. With 3000 or more,
-each character there is comes in apostrophes too.
+The built probe_model makes the calls, and the built ufmt_conv is run on some of the texts. The texts that come first fill each
+cell of the table of shapes (coverage.py): a cell that no text fills is a fault. With 3000 or more, each character there is comes in
+apostrophes too.
 
 Then each call is made by itself on a text of each shape, and its memory and its steps are compared with what was measured
-(costs.py), also with widths and rows up to the largest number, on a buffer that is too small; and so are runs of ufmt_conv, and
-of ufmt_lines on a group of lines (commands.py). Both programs are run on texts of 16 MiB and on a million lines. Memory is
-counted if there is a C compiler, and steps if there is valgrind too.
-
-With `--full` it only passes texts of 16 MiB, and one of 1,500,000 words, to every call of the library, in some minutes.
+(costs.py); and so are runs of both programs (commands.py), which are also run on texts of 16 MiB and on a million lines (large.py).
+Memory is counted if there is a C compiler, and steps if there is valgrind too. With `--full` it only passes texts of 16 MiB, and one
+of 1,500,000 words, to every call of the library, in some minutes.
 """
 import concurrent.futures
 import pathlib
