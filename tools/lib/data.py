@@ -22,7 +22,6 @@ def parts(name):
 
 
 def words(name):
-    """The words of each part of a file."""
     return {part: " ".join(rows).split() for part, rows in parts(name).items()}
 
 

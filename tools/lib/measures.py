@@ -59,7 +59,8 @@ class Table:
         """A line for each bound that isn't in the band, for what is measured now."""
         for name, counts in found.items():
             for label, count, known in self.compared(name, counts) or [("the row", 0, None)]:
-                if known is None or (is_out(count, bound(label, known)) if label.endswith(STEPS) else count != known):
+                is_in = BAND[0] * max(count, FEW) <= bound(label, known or 0) <= BAND[1] * max(count, FEW)
+                if known is None or (not is_in if label.endswith(STEPS) else count != known):
                     yield findings.case("%s, %s" % (name, label), "%s by the table" % known, count)
 
     def write(self, found, told):
@@ -77,7 +78,3 @@ def measured_again(name, found, told, is_written, faults=()):
         table.write(found, told)
     left = [] if is_written else table.left(found)
     return findings.ended([*faults, *left], "%s: %d calls counted" % (name, len(found)))
-
-
-def is_out(count, most):
-    return not BAND[0] * max(count, FEW) <= most <= BAND[1] * max(count, FEW)

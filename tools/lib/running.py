@@ -3,13 +3,12 @@
 Each command is a process group of its own, so whatever it starts ends with it. When this process is interrupted, or ended by a
 signal, it ends them all.
 """
-import collections
+import concurrent.futures
 import os
 import select
 import signal
 import subprocess
 import sys
-import tempfile
 import time
 
 # How often to look, how often to say what is running, and how long a process may take to end: `rt ci` puts back what it set
@@ -25,22 +24,15 @@ class Job:
 
     def __init__(self, name, words, folder=None):
         self.name, self.words, self.folder = name, [str(word) for word in words], folder
-        self.status, self.seconds, self.lines = None, 0, []
+        self.status, self.seconds, self.lines, self.since = None, 0, [], None
 
-    def begin(self):
-        self.file = tempfile.TemporaryFile()
+    def run(self):
         self.since = time.monotonic()
-        self.process = begun(self.words, cwd=self.folder, stdin=subprocess.DEVNULL, stdout=self.file, stderr=subprocess.STDOUT, env={**os.environ, INSIDE: "1"})
-
-    def has_ended(self):
-        self.status = self.process.poll()
-        if self.status is None:
-            return False
-        self.seconds = time.monotonic() - self.since
-        self.file.seek(0)
-        self.lines = self.file.read().decode(errors="replace").splitlines()
-        self.file.close()
-        return True
+        process = begun(self.words, cwd=self.folder, stdin=subprocess.DEVNULL, stdout=subprocess.PIPE, stderr=subprocess.STDOUT,
+                        env={**os.environ, INSIDE: "1"})
+        self.lines = process.communicate()[0].decode(errors="replace").splitlines()
+        self.status, self.seconds = process.returncode, time.monotonic() - self.since
+        return self
 
 
 def heartbeat(name):
@@ -94,19 +86,21 @@ def say(line):
 
 def side_by_side(jobs, most):
     """Runs these jobs, so many at a time, and yields each when it has ended. Once a minute it says which are running."""
-    left, running, said = collections.deque(jobs), [], time.monotonic()
-    while left or running:
-        while left and len(running) < most:
-            running.append(left.popleft())
-            running[-1].begin()
-        time.sleep(LOOK)
-        for job in [job for job in running if job.has_ended()]:
-            running.remove(job)
-            said = time.monotonic()
-            yield job
-        if running and time.monotonic() - said > SAY:
-            said = time.monotonic()
-            say("running: %s" % ", ".join("%s %d s" % (job.name, said - job.since) for job in running))
+    with concurrent.futures.ThreadPoolExecutor(most) as pool:
+        left = {pool.submit(job.run): job for job in jobs}
+        try:
+            while left:
+                ended, _ = concurrent.futures.wait(left, SAY, concurrent.futures.FIRST_COMPLETED)
+                for one in ended:
+                    del left[one]
+                    yield one.result()
+                if not ended:
+                    running = [job for job in left.values() if job.since]
+                    say("running: %s" % ", ".join("%s %d s" % (job.name, time.monotonic() - job.since) for job in running))
+        finally:
+            # An interrupt ends what runs, and nothing more begins.
+            pool.shutdown(wait=False, cancel_futures=True)
+            end_all()
 
 
 def end_all():

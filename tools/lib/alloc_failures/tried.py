@@ -1,26 +1,10 @@
 """Runs of a built program in which an allocation is refused."""
 import os
-import pathlib
-import sys
-import tempfile
-from contextlib import contextmanager
-
-from lib.model.counter import Counter
 
 # A run that takes longer is a fault.
 SECONDS = 60
 # How many runs there are at a time.
 SIDE_BY_SIDE = os.cpu_count() or 1
-
-
-@contextmanager
-def counter():
-    """What counts and refuses, in a temporary folder."""
-    with tempfile.TemporaryDirectory(prefix="try-alloc-failures-") as room:
-        made = Counter(pathlib.Path(room))
-        if made.library is None:
-            sys.exit("x try memory: a C compiler is needed")
-        yield made
 
 
 def asked(counts):

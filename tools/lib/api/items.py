@@ -33,7 +33,6 @@ def items_of(path, exports):
 
 
 def macros_of(paths, names):
-    """The macros of these names that files define."""
     for path in paths:
         lines = path.read_text().splitlines()
         for at, line in enumerate(lines):

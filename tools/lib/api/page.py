@@ -44,12 +44,11 @@ def shown(crate, names=None):
     for path in sources(folder):
         parts = path.relative_to(folder).with_suffix("").parts
         for item in () if "laws" in parts else items_of(path, exports):
-            if (names is None or item.group in names or set(parts) & names) and not is_left_out(parts, item):
-                yield item._replace(module=before(exports, parts, item.group, names or set(re_exported(exports.files[()]))))
-
-
-def is_left_out(parts, item):
-    return bool(FOR_SIBLINGS & {item.name, ".".join(parts)}) and item.name != "Mode" or ONE_OF_MANY.search(item.name)
+            is_wanted = names is None or item.group in names or set(parts) & names
+            is_for_siblings = FOR_SIBLINGS & {item.name, ".".join(parts)} and item.name != "Mode"
+            if is_wanted and not is_for_siblings and not ONE_OF_MANY.search(item.name):
+                known = names or set(re_exported(exports.files[()]))
+                yield item._replace(module=before(exports, parts, item.group, known))
 
 
 def before(exports, parts, name, names):

@@ -115,9 +115,6 @@ class Frames:
         most = self.most_at(self.addresses[name])
         return most._replace(size=most.size + RETURN_ADDRESS)
 
-    def frame_of(self, name):
-        return self.frames[self.addresses[name]]
-
     def most_at(self, start):
         """What the function takes at most. Within a cycle's functions each path is gone that comes to none twice."""
         if start not in self.frames:

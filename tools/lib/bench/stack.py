@@ -1,17 +1,12 @@
-"""Whether calls that print or parse, and the built programs, stay within their bounds of stack, and the programs of code.
-
-Calls that convert or scan are tried by the step `c`, from C. The programs are those that LLVM made, crates/NAME/out/NAME, as `rt
-ci` or `rt run` leave them. The bounds are in tools/data/measured/stack.txt.
+"""Whether calls that print or parse, and the built programs, stay within their bounds of stack, and the programs of code. The
+bounds are in tools/data/measured/stack.txt. Calls that convert or scan are tried by the step `c`, from C.
 
 - Of ufmt_conv and ufmt_lines it finds how many bytes of stack their `main` takes at most on any input, in their machine code
-  (tools/lib/bench/frames.py). What the C library takes isn't in it.
-- It runs ufmt_conv, and probe_model, which reads, compares, prints and drops documents, and parses, prints and drops trees
-  and chains, on blocks of each kind that are 248 deep, with no more stack than the bound and OUTSIDE. So what was found in the
-  machine code is tested too.
+  (frames.py). What the C library takes isn't in it.
+- It runs ufmt_conv and probe_model on blocks of each kind that are 248 deep, with no more stack than the bound and OUTSIDE: so what
+  was found in the machine code is tested too. `setarch` lets a program's stack begin in one place.
 - Of example_print_program and example_parse_program it adds up the bytes of the functions of our crates. Each has one type and
   some lines, so a call that is compiled into each of its callers is seen.
-
-`setarch` lets a program's stack begin in one place.
 """
 import functools
 import pathlib

@@ -28,8 +28,6 @@ class Struct(NamedTuple):
 
 
 class Variant(NamedTuple):
-    """A variant of an enum, with values or none."""
-
     name: str
     values: tuple = ()
 

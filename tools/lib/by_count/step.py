@@ -19,13 +19,6 @@ WIDTH = 100
 INNERMOST = re.compile(r"⟪(\*|-?,|\w+:)([^⟪⟫]*)⟫")
 
 
-def conditions(count):
-    """The words that hold of a number of fields."""
-    found = {"none": count == 0, "one": count == 1, "two": count == 2, "more": count > 2, "some": count > 0, "many": count > 1,
-             "short": 0 < count < 6, "long": count >= 6}
-    return {word for word, holds in found.items() if holds}
-
-
 def field(count, place):
     return {"A": TYPES[place], "a": TYPES[place].lower(), "P": PARSERS[place], "n": str(place), "v": "v" if count == 1 else "v.%d" % place,
             "{are}": "are" + ".1" * place + ".0", "{lead}": " " if place % 6 else "\n            "}
@@ -37,12 +30,13 @@ def replaced(text, words):
 
 def filled(text, count, words):
     """The text for so many fields. `words` has what the kind of block is called so, and its own name as a condition."""
-    holding = conditions(count) | {words.get("{block}")}
+    holding = {"none": count == 0, "one": count == 1, "two": count == 2, "more": count > 2, "some": count > 0,
+               "many": count > 1, "short": 0 < count < 6, "long": count >= 6, words.get("{block}"): True}
 
     def chosen(found):
         form, item = found.groups()
         if form.endswith(":"):
-            return item if form[:-1] in holding else ""
+            return item if holding.get(form[:-1]) else ""
         item, _, between = item.partition("|")
         items = [replaced(item, field(count, place)) for place in range(form == "-,", count)]
         return between.join(items) if form == "*" else ", ".join(items) + "," * (len(items) == 1)
@@ -90,7 +84,6 @@ PRINTED = {"structs/by_count.rt": ("struct", "Whole structs", STRUCT), "tuple/by
 
 
 def files():
-    """Each file by its path in the repository, with its text."""
     for path, template in WHOLE.items():
         yield path, written(template, EACH, SHARED)
     for path, (kind, about, words) in PRINTED.items():
@@ -110,7 +103,6 @@ def files():
 
 
 def in_one_line(text):
-    """The text without what only lays it out."""
     return re.sub(r",(?=[)}>\]])", "", re.sub(r"\s+", "", text))
 
 

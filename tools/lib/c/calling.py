@@ -83,7 +83,7 @@ def wanted_of(case, room):
     if case.number is not None:
         return 0, DETAIL, (case.number % 2**64).to_bytes(cases.NUMBER_SIZE, "little"), False
     if case.text is None:
-        left = bytes([FILL]) * cases.NUMBER_SIZE if cases.leaves_number(case) else filled
+        left = bytes([FILL]) * cases.NUMBER_SIZE if cases.CALLS[case.call][:1] == ("number",) else filled
         detail, is_any = DETAIL if case.detail is None else case.detail, case.result == cases.NO_TEXT and cases.has_buffer(case)
         return case.result, detail, left, is_any
     length = len(case.text) if case.length is None else case.length

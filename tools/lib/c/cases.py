@@ -14,9 +14,7 @@ from lib.expected import rows as expected_rows  # noqa: E402
 from lib.log_model import log_model  # noqa: E402
 from lib.model.document import plain, pretty  # noqa: E402
 from lib.model.reading import DEBUG, TOKEN, PlainReader, PrettyReader  # noqa: E402
-from lib.top import TOP
 
-EXPECTED = TOP / "tools" / "expected"
 NO_TEXT, FULL, NOT_UTF8, BAD_OPTION = -1, -2, -3, -4
 # What each call takes after its buffer, if it has one, and before `detail`. A struct has its name and its members' types, and
 # a number that is left is `number`. A float is its bits.
@@ -74,20 +72,17 @@ def has_buffer(case):
     return CALLS[case.call][:1] == ("buffer",)
 
 
-def leaves_number(case):
-    return CALLS[case.call][:1] == ("number",)
-
-
 def style(name, *members):
-    """A struct of options, with its size."""
     return (SIZES[name], *members)
 
 
-def arguments(call, words):
+def arguments(call, words, has_sizes=False):
+    """The arguments that these words are. A struct has its size first, or gets it here."""
     left, found = iter(words), []
     for kind in CALLS[call]:
         if kind in STYLES:
-            found.append(style(kind, *(int(next(left)) for _ in STYLES[kind][1:])))
+            members = [int(next(left)) for _ in STYLES[kind][not has_sizes :]]
+            found.append(tuple(members) if has_sizes else style(kind, *members))
         elif kind not in ("buffer", "number"):
             found.append(tables.data_of(next(left)) if kind == "bytes" else int(next(left)))
     if list(left):
@@ -131,7 +126,7 @@ def converted(text_class, mode, other, data):
 
 def conversions():
     """Each text of a value, in both modes and classes; texts that are none; deep ones; and one with each byte changed."""
-    printed = expected_rows.rows(EXPECTED / "rows.txt")
+    printed = expected_rows.rows()
     given = {"plain": [row.plain.encode() for row in printed], "pretty": [row.pretty.encode() for row in printed]}
     nested = [b"[" * depth + b"1" + b"]" * depth for depth in (1, 20, 255, 256)]
     changed = b'P { x: ("a", [1, -2]) }'
@@ -142,18 +137,6 @@ def conversions():
         for mode, other in (("plain", "pretty"), ("pretty", "plain")):
             for data in given[mode]:
                 yield from converted(text_class, mode, other, data)
-
-
-def as_rustc_printed():
-    """The texts that rustc printed, both ways, where a class has the value: the same rows by rustc's own words."""
-    listed = {(reason.row, reason.text_class): reason.outcomes for reason in expected_rows.reasons(EXPECTED / "reasons")}
-    rows = expected_rows.rows(EXPECTED / "rows.txt")
-    for row, text_class in ((row, text_class) for row in rows for text_class in (TOKEN, DEBUG)):
-        outcomes = listed.get((row.name, "debug" if text_class == DEBUG else "token"), ("same", "same"))
-        texts = row.plain.encode(), row.pretty.encode()
-        for outcome, mode, given, wanted in zip(outcomes, ("pretty", "plain"), texts, texts[::-1]):
-            if outcome == "same":
-                yield Case("convert", (CLASSES[text_class], MODES[mode], given), text=wanted)
 
 
 def valid_up_to(data):
@@ -204,28 +187,16 @@ def fields():
 
 
 def refusals():
-    """Inputs that aren't UTF-8; options, classes and modes that mean nothing; and sizes of structs that no version had."""
-    for data in NOT_TEXTS:
-        asked = [("quote", data), ("in_column", data, style("column", 8, 32, 0))]
-        pairs = (data, b"a"), (b"a", data), (data, b"abcdef\xff")
-        asked += [(call, *texts) for call in ("difference", "first_difference") for texts in pairs]
-        yield from (Case(call, tuple(its), result=NOT_UTF8, detail=valid_up_to(data)) for call, *its in asked)
-    bad = [(call, 7, style("hex", 4, pad, 0, 0)) for pad in (128, 255) for call in ("hexadecimal", "binary")]
-    bad += [("in_column", data, style("column", 8, fill, align)) for data in (b"a", b"\xff")
-            for fill, align in ((0xD800, 0), (0xDFFF, 1), (0x110000, 2), (0xFFFFFFFF, 0), (32, 3), (32, 255))]
-    for size in (0, 1, 8, 16, 20, 23, 25, 31, 33, 40, 48, SIZE_MAX):
-        bad += [(call, 7, (size, 4, 32, 0, 0)) for call in ("hexadecimal", "binary")]
-        bad += [("dump", b"abc", (size, 16, 1, 0, 1, 1)), ("in_column", b"a", (size, 8, 32, 0))]
-    bad += [("convert", text_class, mode, data) for data in (b"", b"1", b"[1]")
-            for text_class, mode in ((2, 0), (0, 2), (2, 2), (255, 1), (1, 256), (2**32 - 1, 0), (1, 2**31))]
-    classes = 2, 3, 255, 256, 2**31, 2**32 - 1
-    bad += [("field", text_class, b"S { x: 1 }", name) for text_class in classes for name in (b"x", b"", b"\xff")]
-    yield from (Case(call, tuple(its), result=BAD_OPTION) for call, *its in bad)
-    yield from (Case("is_text", tuple(its), result=0) for call, *its in bad if call == "convert")
+    """The rows of tools/data/c/refused.txt, and the version."""
+    for row in (tables.DATA / "c" / "refused.txt").read_text().splitlines():
+        if row and not row.startswith("# "):
+            (call, *words), (result, *detail) = (part.split(" ") for part in row.split(" = "))
+            refused = {"result": int(result), "detail": int(detail[0]) if detail else None}
+            yield Case(call, arguments(call, words, has_sizes=True), **refused)
     first, second, third = map(int, top.version().split("."))
     yield Case("version", (), result=first * 10_000 + second * 100 + third)
 
 
 def all_cases():
     """Every case, but for those of leaves.py and huge.py."""
-    return [*stored(), *conversions(), *as_rustc_printed(), *fields(), *refusals()]
+    return [*stored(), *conversions(), *fields(), *refusals()]

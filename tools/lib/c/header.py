@@ -77,7 +77,6 @@ def header(faults, library, needed):
 
 
 def by_literals(room, library):
-    """Runs a caller that passes string literals, as C and as C++."""
     for compiler, language, standard in STANDARDS:
         if shutil.which(compiler):
             program = room / "literals"

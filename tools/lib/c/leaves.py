@@ -83,7 +83,6 @@ def float_read(data):
 
 
 def floats_both_ways():
-    """The texts of floats, written and read, and texts that no float prints."""
     for bits in FLOATS:
         text = floats.debug(bits, 64).encode()
         yield Case("float", (bits,), text=text)

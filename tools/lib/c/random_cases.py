@@ -111,7 +111,6 @@ class RandomCases:
         return [leaves.unquoted(call, data) for call in leaves.QUOTED]
 
     def numbered(self, text):
-        """A text in quotation marks with some characters written by their numbers."""
         return '"%s"' % "".join("\\u{%x}" % ord(it) if self.random.randrange(3) == 0 else quoted(it)[1:-1] for it in text)
 
     def number(self):

@@ -1,12 +1,15 @@
 """Cases of each call of libufmt_c at a size and at twice that, whose steps are compared with what was measured.
 
-The buffer has room for the whole text, or for half of it, or none."""
-from lib.c import cases
+The buffer has room for the whole text, or for half of it, or none. Calls with options up to the largest number have small ones.
+"""
+from lib.c import cases, huge
 from lib.c.cases import DEBUG, TOKEN, Case, style
 from lib.model import floats
 from lib.model.document import Block, plain, pretty, quoted
 
 SIZES = (80, 160)
+# Of so many cases with huge options one is counted, in these buffers.
+HUGE_EACH, HUGE_ROOMS = 97, (None, cases.FRONT, 4096)
 FLOAT, LARGE, SMALL = 0x400921FB54442D18, 0x7FE1CCF385EBC8A0, 1
 
 
@@ -96,3 +99,7 @@ def made():
                 for room in (200 * size + 1000, size // 2, 0) if cases.has_buffer(case) else (0,):
                     yield "%s, %d: %s in %d" % (call, size, name, room), case, room
     yield "version, 0:  in 0", Case("version", ()), 0
+    for case in huge.huge_options()[::HUGE_EACH]:
+        for room in HUGE_ROOMS:
+            shown = ["%d bytes" % len(it) if isinstance(it, bytes) else str(it) for it in case.arguments]
+            yield "%s, huge: %s in %s" % (case.call, " ".join(shown), room), case, room

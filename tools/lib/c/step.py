@@ -1,20 +1,14 @@
 """Calls the library for C from C, Rust and Python, and compares what comes out with tables.
 
-It is built with nothing proved, which takes half a minute and shows what its calls do (archive.py); `--proved` takes that of `rt
-lib` in crates/ufmt_c, which proves the libraries below first if nothing of them is kept, and `--program` one that is built. The
-calls are those of ufmt.h: each public call is made, with buffers that are longer than the text, as long, one byte shorter, half
-as long and empty, with inputs that are no texts and options that mean nothing (cases.py says where what they expect comes from).
+It is built with nothing proved (archive.py). `--proved` takes that of `rt lib` in crates/ufmt_c, and `--program` one that is
+built. Each call of ufmt.h is made with buffers that are longer than the text, as long, one byte shorter, half as long and empty,
+with inputs that are no texts and options that mean nothing (cases.py).
 
-- tools/data/c/calls.c makes every call, also with a detail at NULL, and valgrind sees that it touches no byte outside of its
-  arrays.
-- tools/data/c/calls.rs makes them all from Rust, and ctypes from Python, of the same library as a shared object.
-- Random inputs with random options and buffers go through every call, some of them under valgrind (random_cases.py).
-- Each option is tried up to the largest number, with buffers of 0 to 64 bytes. All of these calls together have so many seconds.
-- The steps and the stack of calls have bounds (costs.py).
-- The callers of crates/ufmt_c/examples, in C, Rust and Python, convert texts of each kind (callers.py).
-- ufmt.h is C and C++ without a warning, as is tools/data/c/literals.c, which includes it twice and passes each call string
-  literals. It has each exported call, and declares no other. What it declares, its macros, and how its structs are laid out, are
-  in tools/data/c/interface.txt (header.py).
+- tools/data/c/calls.c makes every call, also with a detail at NULL and under valgrind; calls.rs makes them all from Rust, and
+  ctypes from Python.
+- Random inputs with random options and buffers go through every call (random_cases.py), and each option up to the largest number.
+- The steps and the stack of calls have bounds (costs.py), the header is as it was (header.py), and the page's callers run
+  (callers.py).
 
 With `--write` it writes tools/data/c/rows.tsv again, by rustc and xxd, and interface.txt, and stops.
 """
@@ -23,7 +17,7 @@ import pathlib
 import shutil
 import tempfile
 
-from lib import findings, measures
+from lib import findings
 from lib.c import archive, callers, cases, costs, header, huge as huge_options, leaves
 from lib.c.calling import (CRATE, DATA, VALGRIND, by_program, by_python, caller_in_c, compare, here, rooms, run, under_valgrind,
                            without_detail)
@@ -32,14 +26,12 @@ from lib.c.random_cases import RandomCases
 LEAST_CASES, LEAST_HUGE = 2_000, 5_000
 # What all calls with huge options may take together from C: they take less than one.
 HUGE_SECONDS = 20
-# Each of so many of these cases is counted, with these buffers.
-COUNTED_EACH, COUNTED_ROOMS = 3, (None, cases.FRONT, 4096)
-# So many random calls are made at least, by so many cases. Of each five, valgrind runs and counts one.
+# So many random calls are made at least, by so many cases. Of each five, valgrind runs one.
 RANDOM_CASES, LEAST_RANDOM, RANDOM_EACH = 44_000, 100_000, 5
 
 
 def at_random(faults, program, seed):
-    """Makes random calls, some of them under valgrind. Returns how many, and those whose steps are counted."""
+    """Makes random calls, some of them under valgrind. Returns how many, and how many of these."""
     made = RandomCases(seed)
     tried = [(case, room) for case in made.made(RANDOM_CASES) for room in made.rooms(case)]
     if len(tried) < LEAST_RANDOM or {case.call for case, _ in tried} != set(cases.CALLS) - {"version"}:
@@ -48,7 +40,7 @@ def at_random(faults, program, seed):
     some = tried[::RANDOM_EACH]
     if shutil.which("valgrind"):
         by_program(faults, program, some, VALGRIND, "C under valgrind, at random")
-    return len(tried), some
+    return len(tried), len(some)
 
 
 def by_rust(faults, room, library, tried):
@@ -128,8 +120,7 @@ def main(given):
         by_all = len(tried_huge) + by_program(faults, program, tried)
         tried += tried_huge
         randomly, some = at_random(faults, program, given.seed)
-        counted = [(case, size) for case in huge[::COUNTED_EACH] for size in COUNTED_ROOMS] + some
-        steps = costs.compared_steps(faults, program, counted, measures.Table("c") if is_ours else None)
+        steps = costs.compared_steps(faults, program) if is_ours else 0
         if is_ours:
             costs.stacks(faults, program)
         by_all += without_detail(faults, program, tried[:: 1 if len(tried) < 1000 else 7])
@@ -138,6 +129,6 @@ def main(given):
         loaded = ctypes.CDLL(str(shared))
         compare(faults, "Python", tried, (by_python(loaded, case, size) for case, size in tried))
         by_pages = callers.by_callers(faults, room, library, shared, made)
-    counts = len(made) + len(huge), len(cases.CALLS), by_all, from_rust, by_valgrind + len(some), randomly, steps, by_pages
+    counts = len(made) + len(huge), len(cases.CALLS), by_all, from_rust, by_valgrind + some, randomly, steps, by_pages
     return findings.ended((fault[:600] for fault in faults), "%d cases of %d calls: %d calls from C and as many from Python, %d from Rust, "
                           "%d under valgrind, %d at random, the steps of %d, %d by the page's callers" % counts)

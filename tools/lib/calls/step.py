@@ -1,13 +1,11 @@
 """Each public function and macro of the libraries is a call that a probe lists, or has a reason in tools/data/calls.txt.
 
-probe_memory, in which `x try memory` refuses each allocation, prints a line for each of its calls, which begins with the call's name:
-the function's, or its type's and its own. probe_model, whose results `x try texts` compares with a model, counts the calls of a text by
-names of their own, and its line of a text has names for what it compares. A reason may say which of these calls makes a function, as
-"`events` of probe_model", and name files of tests.
+probe_memory, in which `x try memory` refuses each allocation, prints a line for each of its calls, which begins with the call's
+name. probe_model, whose results `x try texts` compares with a model, has names for what it counts and compares: a reason may say
+which of these makes a function, as "`events` of probe_model", and name files of tests.
 
-A fault is a function that is neither listed nor has a reason, a reason for no function or for one that is listed, one that names a call
-that its probe doesn't list, and one that names a file in which the function isn't. `x list calls` prints each function with its call or
-its reason.
+A fault is a function that is neither listed nor has a reason, and a reason for no function, for one that is listed, or that names a
+call or a file in which the function isn't. `x list calls` prints each function with its call or its reason.
 """
 import fnmatch
 import re

@@ -9,7 +9,7 @@ import resource
 import subprocess
 import time
 
-from lib import needs, running, steps, times, top
+from lib import needs, running, steps, top
 from lib.command import trying
 from lib.command.arguments import add_jobs
 from lib.running import say
@@ -33,7 +33,7 @@ def proved():
         ended = ENDED.match(line or "")
         count += bool(ended)
         if ended or line is None:
-            say("%d of %d crates%s, after %s" % (count, whole, ": " + ended[1] if ended else "", times.told(time.monotonic() - began)))
+            say("%d of %d crates%s, after %d min" % (count, whole, ": " + ended[1] if ended else "", (time.monotonic() - began) // 60))
     yield trying.Result("rt ci", time.monotonic() - began, process.wait(), last)
 
 
@@ -46,8 +46,7 @@ def processor_minutes():
 def main(given):
     needs.require("ci", "rt")
     trying.say_missing(steps.STEPS)
-    began, results, minutes = time.monotonic(), [], []
-    times.say_last("ci", "no run here ended well yet")
+    results, minutes = [], []
     cheap, others = ([step for step in steps.STEPS if (step.kind == steps.SOURCES) == is_cheap] for is_cheap in (True, False))
     for group in (trying.all_of(cheap, [], given.jobs), proved(), trying.all_of(others, [], given.jobs)):
         before = processor_minutes()
@@ -58,7 +57,4 @@ def main(given):
     for result in results:
         print("%-10s %-8s %6d s  %s" % (result.name, result.said(), result.seconds, result.found[:150]))
     print("processor minutes: %s" % ", ".join("%.1f for %s" % said for said in zip(minutes, ("the sources", "`rt ci`", "the other steps"))))
-    status = trying.closing(results)
-    if not status:
-        times.keep("ci", time.monotonic() - began)
-    return status
+    return trying.closing(results)

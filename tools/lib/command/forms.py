@@ -1,21 +1,17 @@
 """Shows that the check still refuses each form of docs/forms, in the words that its file quotes.
 
-Run it with a new kit: a form that is no longer refused can be had.
+Run it with a new kit: a form that is no longer refused can be had. With no argument it tries the forms that use no crate of this
+repository. The crates that forms use are copied, with what `rt check` and `rt lib` left in out/: what isn't there is proved first,
+which may take an hour.
 
-NAME.rt.txt is src/lib.rt of a crate NAME, and NAME.antt.txt, where there is one, its specs/Lib.antt. The head comment of
-NAME.rt.txt has the wish, and then these lines:
+NAME.rt.txt is src/lib.rt of a crate NAME, and NAME.antt.txt, where there is one, its specs/Lib.antt. The head comment has:
 
     //! says: WORDS      what the check says; there may be several such lines
     //! uses: CRATES     the crates of this repository that the form is over; without this line, none
     //! by: verdict      `rt verdict` refuses it, and not `rt check`
 
-It makes a repository in a temporary folder. With no argument it tries the forms that use no crate of this repository. The crates that
-forms use are copied, with what `rt check` and `rt lib` left in out/: what isn't there is proved first, which may take an hour. It needs
-`rt` on the path.
-
-It prints a line for each form that is no longer refused, or not in these words, with the last lines that were said; for
-each file that docs/DECISIONS.md doesn't name; and for each name there that has no file. The last line has counts. Its
-status is 1 if there was such a line.
+It prints a line for each form that is no longer refused, or not in these words, and for each name that only one of docs/forms and
+docs/DECISIONS.md has. Its status is 1 if there was such a line.
 """
 import pathlib
 import re

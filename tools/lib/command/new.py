@@ -51,7 +51,6 @@ def refuse(name, repository):
 
 
 def text_of(name, words):
-    """The first file for a crate that does this."""
     lines, is_taken = [], True
     for line in (DATA / "new" / name).read_text().splitlines():
         part = PART.match(line)

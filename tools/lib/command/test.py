@@ -9,9 +9,8 @@ name and what it said; for a crate that doesn't compile, its errors, and the cra
 """
 import re
 import sys
-import time
 
-from lib import needs, running, times, top
+from lib import needs, running, top
 from lib.command.arguments import add_jobs
 from lib.running import say
 
@@ -55,8 +54,6 @@ def main(given):
     needs.require("test", "rt")
     repository = top.nearest() or top.TOP
     crates = chosen(repository, given.crates)
-    kept, began = "test" if not given.crates and repository == top.TOP else "", time.monotonic()
-    times.say_last(kept)
     jobs = [running.Job(crate, ["rt", "try", "--test", "--seconds", str(SECONDS)], repository / "crates" / crate) for crate in crates]
     passed, failed = 0, 0
     for number, job in enumerate(running.side_by_side(jobs, given.jobs), 1):
@@ -66,6 +63,4 @@ def main(given):
             print(fault.rstrip())
         say("%d of %d crates: %s, %d tests, %d s" % (number, len(jobs), job.name, result.passed + result.failed, job.seconds))
     print("%d passed, %d failed" % (passed, failed))
-    if not failed:
-        times.keep(kept, time.monotonic() - began)
     return 2 if not jobs else 1 if failed else 0

@@ -6,10 +6,9 @@ of each step's file say what it does in full.
 """
 import argparse
 import sys
-import time
 from typing import NamedTuple, Optional
 
-from lib import needs, running, steps, times, top
+from lib import needs, running, steps, top
 from lib.command.arguments import add_jobs, add_names
 from lib.running import say
 
@@ -82,12 +81,7 @@ def main(given):
     if len(given.names) == 1:
         running.heartbeat("x try %s" % tried[0].name)
         return 0 if needs.missing(tried[0].needs) else tried[0].main(given)
-    kept, began = "" if given.names else "try", time.monotonic()
-    times.say_last(kept)
-    status = closing(list(all_of(tried, words_of(given), given.jobs)))
-    if not status:
-        times.keep(kept, time.monotonic() - began)
-    return status
+    return closing(list(all_of(tried, words_of(given), given.jobs)))
 
 
 def closing(results):

@@ -119,8 +119,9 @@ class Copies:
             is_new = not (self.crates / crate).exists()
             for file, path in files_of(crate).items():
                 self.take_file(file, path)
-            if is_new:
-                self.take_proved(crate)
+            for part in PROVED if is_new else ():
+                if (top.TOP / "crates" / crate / part).is_dir():
+                    shutil.copytree(top.TOP / "crates" / crate / part, self.crates / crate / part, symlinks=True)
             self.take_line(crate, top.listed()[crate], before)
 
     def stays(self, path, why):
@@ -141,11 +142,6 @@ class Copies:
             self.count += 1
         self.kept.sums[file] = wanted
 
-    def take_proved(self, crate):
-        for part in PROVED:
-            if (top.TOP / "crates" / crate / part).is_dir():
-                shutil.copytree(top.TOP / "crates" / crate / part, self.crates / crate / part, symlinks=True)
-
     def take_line(self, crate, below, before):
         there = self.lines.below(crate)
         if there is not None and there not in (below, self.kept.lines.get(crate)):
@@ -163,17 +159,15 @@ class Copies:
                 self.stays(path, "it was changed here, and is gone from the library")
             elif path.is_file():
                 path.unlink()
-                self.remove_empty(path.parent)
                 self.count += 1
+                emptied = path.parent
+                while emptied != self.crates and not any(emptied.iterdir()):
+                    emptied.rmdir()
+                    emptied = emptied.parent
             del self.kept.sums[file]
         for crate in set(self.kept.lines) - set(crates):
             self.stays(self.lines.path, "the line of %s: the library has no such crate any more" % crate)
             del self.kept.lines[crate]
-
-    def remove_empty(self, folder):
-        while folder != self.crates and not any(folder.iterdir()):
-            folder.rmdir()
-            folder = folder.parent
 
     def end(self):
         """Writes what is kept and crates.txt, and says what stays as it is."""

@@ -4,17 +4,14 @@ import argparse
 import contextlib
 import io
 import os
-import pathlib
 import re
-import shutil
-import tempfile
 import unittest
 from unittest import mock
 
 from lib import top
 from lib.command import new, update
 from lib.copies import copying
-from lib.findings import of_tests
+from lib.findings import Trial, of_tests
 
 LIBRARY = {"ufmt_core": [], "ufmt_scan": ["ufmt_core"], "ufmt": ["ufmt_core"], "ufmt_parse": ["ufmt_scan", "ufmt"], "ufmt_values": ["ufmt_scan", "ufmt", "core"],
            "ufmt_snapshot": ["ufmt"], "ufmt_doc": ["ufmt_scan", "ufmt"], "ufmt_tests": ["ufmt"]}
@@ -23,11 +20,10 @@ OWN = "# mine\nmine: core  # and why\n"
 UFMT, CORE, STAYS = "crates/ufmt/src/lib.rt", "crates/ufmt_core/src/lib.rt", "crates/ufmt/src/lib.rt: stays: it was changed here\n"
 
 
-class Case(unittest.TestCase):
+class Case(Trial):
     def setUp(self):
-        room = pathlib.Path(tempfile.mkdtemp(prefix="x-copies-")).resolve()
-        self.addCleanup(shutil.rmtree, room)
-        self.library, self.user, self.version = room / "library", room / "user", "1"
+        super().setUp()
+        self.library, self.user, self.version = self.room / "library", self.room / "user", "1"
         self.user.mkdir()
         self.put(self.library, {"crates/%s/src/lib.rt" % name: name for name in LIBRARY}, **dict.fromkeys(FILES, ""),
                  **{"crates.txt": "".join("%s: %s\n" % (name, " ".join(below)) for name, below in LIBRARY.items())})

@@ -18,7 +18,6 @@ CALL = re.compile(r"(.*?) (yes|no), ")
 
 
 def source():
-    """The program, with a row for each type."""
     rows = dict.fromkeys('        "%s" %s;' % (one.type, one.type) for one in types.types())
     return (TOP / "tools" / "data" / "costs" / "costs.rt.txt").read_text().replace("TYPES", "\n".join(rows).strip())
 

@@ -18,7 +18,6 @@ TOLD = "Of `x try costs`: %s" % ", ".join(program.LABELS)
 
 
 def counted(is_refused):
-    """The counter, what each call takes, how many allocations were refused, and faults of the runs."""
     with tempfile.TemporaryDirectory(prefix="x-costs-") as folder:
         room = pathlib.Path(folder)
         counter = Counter(room)
@@ -29,7 +28,6 @@ def counted(is_refused):
 
 
 def measured_again(is_written):
-    """Writes the table again, or names each row whose bound left the band."""
     needs.require("measure", "cc", "valgrind")
     _, found, _, faults = counted(False)
     return measures.measured_again("costs", found, TOLD, is_written, faults)

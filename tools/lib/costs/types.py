@@ -104,7 +104,6 @@ def in_parentheses(names):
 
 
 def types():
-    """Each type once."""
     small, by_size = ([row.split(" => ") for row in TABLES[part]] for part in ("small", "by size"))
     yield from (Parsed(implementation, name, plainly(*map(data.text_of, texts))) for implementation, name, *texts in small)
     yield from (Parsed(implementation, name, BY_SIZE[texts]) for implementation, name, texts in by_size)
@@ -114,7 +113,6 @@ def types():
 
 
 def implementations():
-    """Those of ufmt_parse."""
     texts = (re.sub(r"(?m)^ *//.*$", "", path.read_text()) for path in (TOP / "crates" / "ufmt_parse" / "src").rglob("*.rt"))
     return {re.sub(r"\s+", " ", name) for text in texts for name in IMPLEMENTATION.findall(text)}
 

@@ -1,16 +1,14 @@
-"""Tries small crates over the libraries: their tests must pass or fail, or they mustn't compile.
+"""Tries small crates over the libraries: their tests must pass or fail, or they mustn't compile. It runs `rt try` on each in a
+temporary folder, so it proves nothing: the assertions are what counts.
 
-It writes these crates into a temporary folder, beside copies of the libraries, and runs `rt try` on each, a few side by
-side. So it proves nothing: the assertions are what counts. It needs `rt` on the path, and runs from anywhere.
+tools/data/crates/tests has the files of one crate of tests; grammar.py adds one, with each form of each macro. A test must fail
+if `// fails:` stands before it, with the lines after that as its message. The allocation of each test that has the number REFUSED
+is refused. Rows that say which values a call prints must name each implementation and each public call that prints a value of
+another type (printers.py).
 
-tools/data/crates/tests has the files of one crate of tests. tools/lib/crates/grammar.py adds one, with each form of each macro.
-A test must fail if `// fails:` stands before it, with the lines after that as its message; any other test must pass. The
-allocation of each test that has the number REFUSED is refused. Rows that say which values a call prints must name each
-implementation and each public call that prints a value of another type, as tools/lib/crates/printers.py finds them.
-
-tools/data/crates/refused has lines that must not compile, each with its messages. The compiler shows twenty errors at a time,
-so they are in several crates; those in its folder `last` are in a crate of their own, since the compiler looks for some errors
-only where it has found no others. With `--full` it also tries tools/data/crates/refused/more, and each number of fields up to 25.
+tools/data/crates/refused has lines that must not compile, each with its messages; those in its folder `last` are in a crate of
+their own, since the compiler looks for some errors only where it has found no others. With `--full` it also tries the folder
+`more`, and each number of fields up to 25.
 """
 import pathlib
 import sys
@@ -27,7 +25,6 @@ TESTS = "tools/data/crates/tests:1"
 
 
 def make_room(room):
-    """Copies the libraries, without their work."""
     lines = (TOP / "crates.txt").read_text().splitlines()
     (room / "crates.txt").write_text("".join(line + "\n" for line in lines if line.split(":")[0] in tests.LIBRARIES))
     build.copied(TOP, room, tests.LIBRARIES, ("src", "specs", "proofs"))

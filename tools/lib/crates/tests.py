@@ -36,7 +36,6 @@ def run(room, name, arguments):
 
 
 def read(folder):
-    """The files by their modules' names."""
     return {path.name[: -len(".rt.txt")]: path.read_text() for path in sorted(folder.glob("*.rt.txt"))}
 
 

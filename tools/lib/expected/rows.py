@@ -1,8 +1,11 @@
-"""Reads the rows that rustc printed, and the reasons why some of them come out as another text."""
+"""The rows that rustc printed, and the reasons why some of them come out as another text."""
 import re
 from typing import NamedTuple
 from urllib.parse import unquote
 
+from lib.top import TOP
+
+DATA = TOP / "tools" / "expected"
 CLASSES = {"token": ("token",), "debug": ("debug",), "both": ("token", "debug")}
 REASON = re.compile(r"(token|debug|both): (same|another|refused), (same|another|refused)\. (\S.*)")
 ENTRY = " " * 4
@@ -16,17 +19,10 @@ class Row(NamedTuple):
     pretty: str
 
 
-class Reason(NamedTuple):
-    """Why a class of texts hasn't a row. The outcomes are those of its plain and of its pretty text."""
-
-    row: str
-    text_class: str
-    outcomes: tuple
-
-
-def rows(path):
-    """The rows of a file. Its first line says which rustc printed it, and src/rows.rs has the form of the others."""
-    return [row(*block.split("\n")) for block in path.read_text(encoding="utf-8").rstrip("\n").split("\n\n")[1:]]
+def rows():
+    """The first line of the file says which rustc printed it, and src/rows.rs has the form of the others."""
+    blocks = (DATA / "rows.txt").read_text(encoding="utf-8").rstrip("\n").split("\n\n")
+    return [row(*block.split("\n")) for block in blocks[1:]]
 
 
 def row(name, first, *others):
@@ -35,12 +31,14 @@ def row(name, first, *others):
     return Row(name, unquote(first[2:]), "\n".join(unquote(line[2:]) for line in others))
 
 
-def reasons(path):
-    """Each row that is listed after a reason, once for each class. A line of another form ends the run."""
-    found, current = [], None
-    for line in path.read_text(encoding="utf-8").splitlines():
+def reasons():
+    """What comes out of a row's plain and of its pretty text, by its name and a class. A line of another form ends the run."""
+    found, current = {}, None
+    for line in (DATA / "reasons").read_text(encoding="utf-8").splitlines():
         if line.startswith(ENTRY):
-            found += [Reason(line[len(ENTRY) :], name, current.group(2, 3)) for name in CLASSES[current[1]]]
+            for name in CLASSES[current[1]]:
+                if found.setdefault((line[len(ENTRY) :], name), current.group(2, 3)) != current.group(2, 3):
+                    raise ValueError("two reasons: " + line)
         elif line and not line.startswith("#"):
             current = REASON.fullmatch(line)
             if not current:

@@ -46,7 +46,6 @@ def edges(width):
 
 
 def hard(width):
-    """The published hard cases, and usual floats."""
     texts = HARD["hard %d" % width] + HARD["usual %d" % width] + (HARD["stress decimal"] if width == 64 else [])
     patterns = [int(bits, 16) for bits in HARD["hard %d bits" % width]]
     stress = [bits_of(math.ldexp(*pair), width) for pair in stress_pairs()] if width == 64 else []
@@ -54,7 +53,6 @@ def hard(width):
 
 
 def stress_pairs():
-    """The significands and exponents of the stress cases."""
     return (tuple(map(int, text.split(":"))) for text in HARD["stress binary"])
 
 
@@ -87,7 +85,6 @@ DECIMALS = (0, 1, 2, 3, 17, 20, 60, 400, 1100)
 
 
 def plain_lines(width, count, seed):
-    """Of each pattern the bits."""
     return ("%0*x\n" % (width // 4, bits) for bits in patterns(width, count, seed))
 
 
@@ -106,5 +103,4 @@ def fixed_lines(width, count, seed):
 
 
 def lines(count, seed):
-    """The input of both programs."""
     return "".join(line for width in FORMATS for some in (plain_lines, fixed_lines) for line in some(width, count, seed))

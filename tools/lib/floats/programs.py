@@ -19,7 +19,6 @@ ryu = functools.partial(built, "ryu_floats", ["ryu"])
 
 
 def theirs(room):
-    """Built by rustc."""
     room.mkdir(exist_ok=True)
     made = room / "rustc-floats"
     subprocess.run(["rustc", "-O", "-o", made, DATA / "floats" / "floats.rs"], check=True)

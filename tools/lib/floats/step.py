@@ -1,13 +1,6 @@
-"""Compares the texts of floats with those that rustc prints.
-
-Both programs print floats as Debug and as Display do, and with 0 to 1,100 decimals: each exponent of both formats with
-significands at its ends, subnormals, powers of ten and their neighbours, published hard cases for shortest digits, usual floats, each
-with both signs, and random bit patterns of each format. Floats in the middle between two texts with decimals, for each number of decimals
-that a format has, and their neighbours too. One program is built over copies of ufmt_float and ufmt_fixed with nothing proved
-(tools/lib/bench/build.py), the other by rustc.
-
-Then ufmt prints usual floats and large ones, also with decimals, and the steps and the stack of each call are compared with their
-bounds (steps.py).
+"""Compares the texts of floats with those that rustc prints: as Debug and as Display, and with 0 to 1,100 decimals, for edges,
+hard cases and random bit patterns of each format (patterns.py). One program is built over copies of ufmt_float and ufmt_fixed with
+nothing proved, the other by rustc. Then the steps and the stack of calls of ufmt are compared with their bounds (steps.py).
 
 With `--every-f32` it compares all `f32`s by digests, each for 2^24 patterns, in an hour and a half of a processor.
 """
@@ -22,7 +15,6 @@ COUNT = 20_000
 
 
 def compare_every(first):
-    """Compares the digests of all `f32`s, block by block."""
     faults = 0
     with tempfile.TemporaryDirectory(prefix="x-floats-") as room:
         both = programs.ours(pathlib.Path(room)), programs.theirs(pathlib.Path(room))
@@ -36,7 +28,6 @@ def compare_every(first):
 
 
 def compare(count, seed):
-    """Compares so many random floats, and others."""
     with tempfile.TemporaryDirectory(prefix="x-floats-") as room:
         room, text = pathlib.Path(room), patterns.lines(count, seed)
         rustc = programs.theirs(room)

@@ -27,14 +27,14 @@ def faults(program, counts):
     past = list(measures.Table("floats").faults(counts)) if counts else []
     known = frames.Frames(program) if shutil.which("objdump") else None
     for name, (most, own) in measures.Table("stack").of("float").items() if known else ():
-        taken = known.most("by_ufmt::" + name).size, known.frame_of("by_ufmt::" + name).size
+        function = "by_ufmt::" + name
+        taken = known.most(function).size, known.frames[known.addresses[function]].size
         past += [findings.most(what, bound, size, "bytes of stack")
                  for what, bound, size in zip((name, "the frame of %s" % name), (most, own), taken) if size > bound]
     return past
 
 
 def measured_again(is_written):
-    """Writes the table again, or names each row whose bound left the band."""
     needs.require("measure", "rt", "valgrind")
     with tempfile.TemporaryDirectory(prefix="x-floats-") as room:
         return measures.measured_again("floats", counted(programs.by_ufmt(pathlib.Path(room))), TOLD, is_written)

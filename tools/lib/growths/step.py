@@ -1,15 +1,11 @@
 """Whether code makes an error of memory, in place of passing one on from a growth.
 
-A contract lets a call fail for want of memory at any time, and a test sees it only where the call then fails. So this is a rule. In the
-sources of the libraries, programs and examples, each line that rule.py finds must be in tools/data/growths.txt, with its reason. A growth's
-error that is changed or dropped isn't looked for: a clause refuses what comes of it, or the refused growths of the steps `costs` and
-`memory` show it.
+A contract lets a call fail for want of memory at any time, and a test sees it only where the call then fails. So this is a rule:
+each line of the libraries, programs and examples that rule.py finds is in tools/data/growths.txt, with its reason. `--write`
+writes the table anew, with `?` for a reason that isn't known.
 
-`--write` writes the table anew: a line that is new has the reason of the same line elsewhere, or `?`, in whose place a reason is then written.
-
-It also puts each wrong body of tools/data/wrong_growths.txt into its source, in memory, and a wrong line into each function: one that isn't
-found is a fault. The crates of tests and the probes aren't looked at, since what they write is compared; nor are `ufmt_c`, whose library names no
-allocator, and `ufmt_float` and `ufmt_fixed`, which have none to pass.
+It also puts each wrong body of tools/data/wrong_growths.txt into its source, in memory, and a wrong line into each function: one
+that isn't found is a fault. The crates of tests and the probes aren't looked at, since what they write is compared.
 """
 import collections
 import re
@@ -29,15 +25,11 @@ PUT, CHANGED, ANYWHERE = data.parts("wrong_growths.txt").values()
 PLACES = {"body": r"fn %s\b.*?\n *\{\n|fn %s\b[^{;]*\{\n", "parses": r"impl<A: Copy> uParse<A> for %s \{.*?fn parse_from<[^{]*\{"}
 
 
-def is_looked_at(path):
-    crate = path.relative_to(CRATES).parts[0]
-    is_library_or_example = is_ours(crate) or crate.startswith("example_")
-    return is_library_or_example and crate not in LEFT_OUT and not TESTS & set(path.parts)
-
-
 def sources():
     """The text of each source by its name below crates/."""
-    return {str(path.relative_to(CRATES)): path.read_text() for path in sorted(CRATES.glob("*/src/**/*.rt")) if is_looked_at(path)}
+    crates = [path.name for path in CRATES.iterdir() if is_ours(path.name) or path.name.startswith("example_")]
+    paths = [path for crate in sorted(set(crates) - LEFT_OUT) for path in sorted((CRATES / crate / "src").rglob("*.rt"))]
+    return {str(path.relative_to(CRATES)): path.read_text() for path in paths if not TESTS & set(path.parts)}
 
 
 def table():
@@ -58,7 +50,6 @@ def open_tests(text):
 
 
 def places(texts):
-    """The row of each place in the sources."""
     return ["%s: %s" % (name, told) for name, text in texts.items() for _, told in rule.places(text)]
 
 

@@ -25,8 +25,6 @@ class Ended(NamedTuple):
 
 
 class Program:
-    """A built program."""
-
     def __init__(self, path):
         self.path = path
         # How many reads are called before the program's own: what loads it reads its libraries.

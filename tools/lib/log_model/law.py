@@ -20,7 +20,6 @@ MARK = re.compile("[\u00ab\u00bb\u2039\u203a]")
 
 
 def nasty(chance):
-    """A log of some of the pieces."""
     pieces = chance.sample(PIECES, chance.randint(2, 12)) if chance.random() < 0.7 else PIECES
     return b"".join(chance.choice(pieces) for _ in range(chance.randint(1, 14)))
 

@@ -43,7 +43,6 @@ def is_name(word):
 
 
 def begins_with_field(text, at):
-    """Whether a field's name, a colon and a space are here."""
     found = OTHERS["pretty"].name_at(text, at)
     return found is not None and text.startswith(": ", found[1])
 
@@ -87,7 +86,6 @@ def leaves(document):
 
 
 def stays(text, opening, after_name, longer_than, document, end, start):
-    """Whether a plain value stays as it is."""
     if len(encoded(text[start:end])) <= longer_than or leaves(document) == 1:
         return True
     return after_name and document.kind == "map" and begins_with_field(text, opening + 1)
@@ -138,7 +136,6 @@ def field(text_class, line, name):
 
 
 def output(mode, group, longer_than=LONGER_THAN):
-    """The group with its values in this mode."""
     text = decoded(group)
     out, done = "", 0
     for start, end, other in values(mode, text, longer_than):
@@ -196,7 +193,6 @@ def outputs(mode, log, longer_than=LONGER_THAN, end_in=end_in):
 
 
 def whole_output(mode, log, longer_than=LONGER_THAN, end_in=end_in):
-    """The outputs for all groups, put together."""
     return b"".join(text for _read, text in outputs(mode, log, longer_than, end_in))
 
 

@@ -53,11 +53,6 @@ class Maker:
             words += self.random.choice(BETWEEN)
         return words
 
-    def open_group(self):
-        """Lines of a group that doesn't end."""
-        line = b" " * self.size(40) + self.words()
-        return self.words() + self.random.choice((b"[", b"{", b"(")) + (b"\n" + line.replace(b"\n", b"")) * self.size(300)
-
     def long_line(self):
         """One piece many times. A block could open at each `(a, ` or `(\\' `, and each is read: there are fewer."""
         piece = self.random.choice((b"a", b" ", b"[", b" [", b"[ ", b"[]", b"a ", b'"', b' "', b"\0", b"\xff", b"(a, ", b'("\\"", ', b"(\\' ", b"\xc3\xa9", b"1, "))
@@ -67,7 +62,9 @@ class Maker:
         """What is between two line feeds of a log, as a rule: some words, and a text or nearly one."""
         form = self.random.random()
         if form < 0.01:
-            return self.open_group()
+            # A group that doesn't end.
+            line = b" " * self.size(40) + self.words()
+            return self.words() + self.random.choice((b"[", b"{", b"(")) + (b"\n" + line.replace(b"\n", b"")) * self.size(300)
         if form < 0.02:
             return self.long_line() + self.random.choice((b"", b" ")) + self.text()
         if form < 0.15:

@@ -1,24 +1,16 @@
-"""Makes random logs, runs ufmt_lines on each with and without `--plain`, and compares each of its reads and writes with those of a model,
-which shares no code with the project.
+"""Makes random logs, runs the built ufmt_lines on each with and without `--plain`, also as the other compiler built it, and
+compares each of its reads and writes with those of a model, which shares no code with the project. With a C compiler memory, reads
+and writes are counted on long logs of each shape, and with valgrind steps (log_costs.py).
 
-The built ufmt_lines is crates/ufmt_lines/out/ufmt_lines, which `rt ci` leaves there. The logs that come first with each seed are
-followed by random ones. They are also run by ufmt_lines.by-rattle, if it is there. Then memory is measured on long logs of each
-shape, reads and writes are counted, and with valgrind, if there is one, steps.
-
-A log of 200 lines has its values marked: those that are wanted are laid out, and each line comes back. On 100 times as many logs
-of nasty pieces the model is held to its laws: a log that `--plain` leaves as it is comes back, at three limits, and cuts of
-groups change no output.
-
-Last the built ufmt_conv reads texts in chunks, and each of its reads and writes is compared too.
+A log of 200 lines has its values marked, and 100 times as many logs of nasty pieces hold the model to its laws (law.py). Last the
+built ufmt_conv reads texts in chunks, and each of its reads and writes is compared too.
 """
 import concurrent.futures
 import itertools
 import pathlib
 import shutil
 import sys
-import tempfile
 
-from lib import measures
 from lib.findings import ended
 from lib.log_model import devices, law, log_costs, log_model, logs
 from lib.model import verdicts
@@ -41,7 +33,6 @@ def sent(mode, log, chunks):
 
 
 def wrong_runs(paths, batch):
-    """The faults of runs of the programs on these logs."""
     faults, programs = [], [devices.Program(path) for path in paths]
     for (log, chunks), mode in itertools.product(batch, log_model.MODES):
         pieces, rounds = sent(mode, log, chunks)
@@ -67,24 +58,7 @@ def wrong_texts(path, seed):
     return faults
 
 
-def wrong_costs(paths, number):
-    """What is wrong with the memory, the reads and the writes of one shape."""
-    shape, faults = log_costs.SHAPES[number], []
-    for path in paths:
-        with tempfile.TemporaryDirectory() as room:
-            meter = log_costs.Meter(devices.Program(path), log_costs.ARGUMENTS, pathlib.Path(room))
-            found = [log_costs.wrong_calls(meter, shape), log_costs.wrong_memory(meter, shape)]
-        faults += ["%s, %s" % (path.name, fault) for fault in found if fault]
-    return faults
-
-
-def wrong_steps(path):
-    """The faults of the steps, which are counted of the first program."""
-    return list(measures.Table(log_costs.MEASURED).faults(log_costs.counted(path)))
-
-
 def both(path):
-    """The program, and what the other compiler made of it."""
     return [path for path in (path, path.with_name(path.name + ".by-rattle")) if path.exists()]
 
 
@@ -103,10 +77,9 @@ def main(given):
     paths, converters = built(given.program)
     tried, (faults, values) = 0, law.wrong_marks()
     with concurrent.futures.ProcessPoolExecutor() as pool:
-        jobs = [pool.submit(wrong_costs, paths, number) for number in range(len(log_costs.SHAPES))]
-        if shutil.which("valgrind"):
-            jobs.append(pool.submit(wrong_steps, paths[0]))
-        jobs += [pool.submit(wrong_texts, path, str(given.seed)) for path in converters]
+        jobs = [pool.submit(wrong_texts, path, str(given.seed)) for path in converters]
+        if shutil.which("cc"):
+            jobs.append(pool.submit(log_costs.faults, paths[0]))
         jobs.append(pool.submit(law.faults, count * 100, str(given.seed)))
         jobs.append(pool.submit(wrong_runs, paths, [(law.marked_log(), logs.whole(law.marked_log()))]))
         pairs = logs.logs(count, str(given.seed))

@@ -34,7 +34,6 @@ class Asker:
         self.random = random.Random(seed)
 
     def request(self, width, per_row, payload):
-        """A request with other options at random."""
         choice = self.random.choice
         return Request(
             width, choice((0, 1, 2)), ord(choice((" ", choice(FILLS)))),

@@ -76,7 +76,6 @@ def scalars(each):
 
 
 def each_by_itself():
-    """Each character there is in apostrophes, in lists."""
     return (plain(list_of(*(quoted(character, "'") for character in row))) for row in scalars(4096))
 
 

@@ -1,70 +1,36 @@
-"""Compares what each call takes of memory and steps with its bounds, on a text of each shape.
+"""Compares what each call takes of memory and steps, on a text of each shape, with what was measured in the past: the rows of
+tools/data/measured/texts.txt (tools/lib/measures.py).
 
-What calls took is in tools/data/measured/texts.txt too: the steps of each call of the proved program that `rt ci` leaves
-(tools/lib/measures.py). Without that table only the bounds of bounds.py hold.
+Steps are counted on short texts. Memory is counted on long ones, and so are the steps of a text there with a call that took
+longer than its steps on the short one let expect: steps that grow in another order are far more.
 """
 from typing import NamedTuple
 
 from lib import findings, measures
-from lib.model import asked, bounds, shapes
+from lib.model import asked, shapes
 from lib.model.document import plain, pretty
-from lib.model.features import DOC, Features, features, indentation, past_ascii
-from lib.model.reading import MODES, PRINTERS, READERS
+from lib.model.reading import MODES
 
-# Of texts whose steps are counted, and of those whose memory is. Of these, steps are counted where a call was slow.
 COUNTED_SIZE, TIMED_SIZE = 4 * 1024, 64 * 1024
 # Texts are counted side by side in so many parts.
 PARTS = 4
 SECONDS = 600
-MEASURED = "texts"
-# And so many for all requests: they take less than one, and with the steps counted less than ten.
+# So many seconds for all requests: they take less than one, and with the steps counted less than ten.
 REQUEST_SECONDS = 30
-# The program prints by a request's options to a buffer of so many bytes.
-SMALL = 64
-# A call of so many nanoseconds is quick.
-SOME_TIME = 10_000_000
+MEASURED = "texts"
+MEMORY = ("allocations", "bytes", "growths", "held", "most", "left")
+# A call of so many nanoseconds is quick, and so is one of so many for a step.
+SOME_TIME, NANOSECONDS = 10_000_000, 3
+# Steps are as the size of a text or at most so many times that, since the keys of a map are sorted.
+GROWTH = 2
 
 
 class Sample(NamedTuple):
-    """A text, and what is known of it in each half of a line of `probe_model costs`."""
+    """A text, and its size with that of the text in the other mode."""
 
     name: str
     data: bytes
-    cases: dict
-
-
-def rough(text):
-    """Features of a text of no document, at most. An entry ends at a comma, and a pair or a field has a colon too."""
-    separators = sum(text.count(sign) for sign in ",:\"'")
-    blocks = min(sum(text.count(bracket) for bracket in "[({"), 256)
-    entry_bytes = DOC * (text.count(",") + text.count(":"))
-    return Features(escapes=text.count("\\"), bare=separators + 1, texts=text.count('"'), blocks=blocks, entry_bytes=entry_bytes)
-
-
-def leaf_case(text):
-    """What is known of a text that is put in quotes."""
-    length = len(text.encode())
-    escapes = sum(text.count(sign) for sign in '"\\\n')
-    return bounds.Case(Features(quoted=length, escapes=escapes, past=past_ascii(text)), length, 0, length + escapes + 10)
-
-
-def no_text_case(text, other=""):
-    """The case of no text. A conversion may write some text before it fails, as a start of this one."""
-    length = len(text.encode())
-    return bounds.Case(rough(text), length, max(2 * length, len(other.encode())), 0, indentation(text), indentation(other))
-
-
-def debug_case(text, mode):
-    """What is known of a text that is no token text: it may be a debug text."""
-    document = READERS[mode, "debug"].read(text)
-    return no_text_case(text) if document is None else bounds.case_of(features(document), text, PRINTERS[mode](document))
-
-
-def sample(name, text, cases=None, other=""):
-    """A text, and its case in each mode if it is a token text. If it is a debug text, the other mode has the other text."""
-    known = dict(cases or {mode: no_text_case(text, other) for mode in MODES}, leaf=leaf_case(text))
-    known.update({"debug " + mode: cases[mode] if cases else debug_case(text, mode) for mode in MODES})
-    return Sample(name, text.encode(), known)
+    size: int
 
 
 def part_of(shapes_of_kind, size, number):
@@ -73,111 +39,112 @@ def part_of(shapes_of_kind, size, number):
 
 
 def samples(size, number):
-    """The texts of one part: both texts of each document, and texts of none."""
-    for name, document in part_of(shapes.documents(), size, number):
-        found, texts = features(document), (plain(document), pretty(document))
-        cases = {"plain": bounds.case_of(found, *texts), "pretty": bounds.case_of(found, *texts[::-1])}
-        yield from (sample("%s, %s" % (name, mode), text, cases) for mode, text in zip(MODES, texts))
-    for name, document in part_of(shapes.debug_documents(), size, number):
+    """The texts of one part: both texts of each document, and texts of none. A leaf of debug texts has one text."""
+    documents = [(name, document, list) for name, document in part_of(shapes.documents(), size, number)]
+    documents += [(name, document, dict.fromkeys) for name, document in part_of(shapes.debug_documents(), size, number)]
+    for name, document, kept in documents:
         texts = plain(document), pretty(document)
-        # A leaf has one text.
-        for mode, text, other in zip(MODES, dict.fromkeys(texts), texts[::-1]):
-            yield sample("%s, %s" % (name, mode), text, other=other)
-    yield from (sample(name, text) for name, text in part_of(shapes.no_texts(), size, number))
+        for mode, text in zip(MODES, kept(texts)):
+            yield Sample("%s, %s" % (name, mode), text.encode(), sum(map(len, texts)))
+    yield from (Sample(name, text.encode(), len(text)) for name, text in part_of(shapes.no_texts(), size, number))
 
 
 def requested():
-    """Requests with huge options, and what is known of their calls: the length of the buffer and of the payload."""
-    cases = ((one, bounds.Case(Features(), SMALL + len(one.payload), 0)) for one in asked.huge())
-    return [Sample("the request %s" % (tuple(one),), one.data(), {"request": case}) for one, case in cases]
+    return [Sample("the request %s" % (tuple(one),), one.data(), 1) for one in asked.huge()]
 
 
 def calls_of(line):
-    """The calls of a line, each with the half it is in. A call on debug texts has a name of its own."""
+    """The calls of a line, each with the half it is in, and its place there."""
     for half in line.split("; "):
         name, _, calls = half.partition(": ")
-        kind = "debug " if name.startswith("debug ") else ""
-        yield from ((name, kind + call.rpartition(" ")[0]) for call in calls.split(", ")[:-1])
-
-
-def memory_fault(name, call, case, counts):
-    """What is wrong with the memory of a call, or None."""
-    return findings.over(name, counts, dict(bounds.memory(call, case)._asdict(), left=0))
-
-
-def is_slow(_name, call, case, counts):
-    """Whether a call took so long that it may have taken too many steps. A machine that does other things may be slow too."""
-    return counts.nanoseconds > SOME_TIME + bounds.NANOSECONDS * bounds.steps(call, case)
-
-
-def steps_fault(name, call, case, steps):
-    most = bounds.steps(call, case)
-    return findings.most(name, most, steps, "steps") if steps > most else None
+        yield from ((name, place, call.rpartition(" ")[0]) for place, call in enumerate(calls.split(", ")[:-1]))
 
 
 class Run:
     """A run of the program that makes each call on these texts, with what was counted of each call: steps, or memory."""
 
-    def __init__(self, counter, program, texts, name, is_counted, seconds):
+    def __init__(self, counter, program, texts, name, is_counted=False, seconds=SECONDS):
         data = b"".join(b"%d\n%s" % (len(one.data), one.data) for one in texts)
         output, counts = counter.run([program, "costs"], data, name, seconds=seconds)
         self.texts, self.lines = texts, output.decode().splitlines()
-        self.counts = counter.steps([program, "costs"], data, name, seconds=seconds) if is_counted else counts
+        steps = counter.steps([program, "costs"], data, name + ", steps", seconds=seconds) if is_counted else []
+        self.counts = steps or counts
+        # What the marks around a call take is no step of the call.
+        self.around = min(steps, default=0)
+        self.made = [(one, *call) for one, line in zip(texts, self.lines) for call in calls_of(line)]
+
+    def is_whole(self):
+        return len(self.lines) == len(self.texts) and len(self.counts) >= len(self.made)
 
     def calls(self):
-        """Each call: its text, the half of the line that it is in, its name, and its counts."""
-        made = ((one, half, call) for one, line in zip(self.texts, self.lines) for half, call in calls_of(line))
-        return [(*each, counts) for each, counts in zip(made, self.counts)]
+        """Each call: its text, the half of the line that it is in, its place there, its name, and its counts."""
+        return [(*call, counts) for call, counts in zip(self.made, self.counts)]
 
-    def faults(self, fault):
-        """The text of each call with which something is wrong, and what `fault` says of it."""
-        found = ((one, fault("%s of %s, %s" % (call, one.name, half), call, one.cases[half], counts))
-                 for one, half, call, counts in self.calls())
-        return [(one, wrong) for one, wrong in found if wrong]
+    def steps(self):
+        """A row for each half of a line."""
+        rows = {}
+        for one, half, _, call, steps in self.calls():
+            rows.setdefault("%s: %s" % (one.name, half), []).append(("%s: steps" % call, steps - self.around))
+        return rows
 
-    def rows(self):
-        """The steps of each text's calls, a row for each half of a line. What the marks around a call take isn't in them."""
-        around, rows = min(self.counts), {}
-        for one, half, call, steps in self.calls():
-            rows.setdefault("%s: %s" % (one.name, half), []).append(("%s: steps" % call, steps - around))
+    def memory(self):
+        """The same of the calls that take memory."""
+        rows = {}
+        for one, half, _, call, counts in self.calls():
+            if counts.allocations:
+                labelled = [("%s: %s" % (call, label), getattr(counts, label)) for label in MEMORY]
+                rows.setdefault("%s: %s, memory" % (one.name, half), []).extend(labelled)
         return rows
 
 
-def slow_faults(counter, program, run, name, seconds):
-    """The faults of texts with a slow call: its steps decide, not the clock."""
-    slow = list({one.name: one for one, _ in run.faults(is_slow)}.values())
+def most_steps(call, rows, small):
+    """The most steps of a call on a long text, by those on the short text of its shape."""
+    one, half, place, *_ = call
+    return int(GROWTH * rows["%s: %s" % (one.name, half)][place] * one.size / small[one.name])
+
+
+def slow_faults(counter, program, run, small):
+    """The faults of texts with a slow call: its steps decide, since a machine that does other things may be slow too."""
+    rows = measures.Table(MEASURED).rows
+    slow = {call[0].name: call[0] for call in run.calls()
+            if call[-1].nanoseconds > SOME_TIME + NANOSECONDS * most_steps(call, rows, small)}
     if not slow or not counter.valgrind:
         return []
-    return [wrong for _, wrong in Run(counter, program, slow, "slow texts of " + name, True, seconds).faults(steps_fault)]
+    again = Run(counter, program, list(slow.values()), "slow texts", True)
+    found = ((call, most_steps(call, rows, small)) for call in again.calls())
+    return [findings.most("%s of %s, %s" % (call[3], call[0].name, call[1]), most, call[-1], "steps")
+            for call, most in found if call[-1] > most]
 
 
-def counted_faults(counter, program, texts, name, is_counted, seconds):
-    """The faults of these texts, how many calls were counted, and the lines with the calls' results."""
-    run = Run(counter, program, texts, "%s of %s" % ("steps" if is_counted else "memory", name), is_counted, seconds)
-    made = sum(len(list(calls_of(line))) for line in run.lines)
-    if len(run.lines) != len(texts) or len(run.counts) < made:
-        return ["%d lines and %d counts of %d texts" % (len(run.lines), len(run.counts), len(texts))], made, []
-    wrong = [wrong for _, wrong in run.faults(steps_fault if is_counted else memory_fault)]
-    if is_counted and measures.Table(MEASURED).rows:
-        wrong += measures.Table(MEASURED).faults(run.rows(), is_whole=False)
-    return wrong + ([] if is_counted else slow_faults(counter, program, run, name, seconds)), made, run.lines
+def faults_of(run, rows):
+    """What is wrong with a run and with its rows, and how many calls were counted."""
+    if not run.is_whole():
+        return ["%d lines and %d counts of %d texts" % (len(run.lines), len(run.counts), len(run.texts))], len(run.made)
+    return list(measures.Table(MEASURED).faults(rows, is_whole=False)), len(run.made)
 
 
 def request_faults(counter, program, is_counted):
     """The faults of calls with huge options, and how many calls were counted. Each must find its buffer full."""
-    wrong, count, lines = counted_faults(counter, program, requested(), "requests", is_counted, REQUEST_SECONDS)
-    return wrong + ["%s: a text fits: %s" % (one.name, line) for one, line in zip(requested(), lines) if " yes" in line], count
+    run = Run(counter, program, requested(), "requests", is_counted, REQUEST_SECONDS)
+    wrong, count = faults_of(run, run.steps() if is_counted else run.memory())
+    fitting = ["%s: a text fits: %s" % (one.name, line) for one, line in zip(run.texts, run.lines) if " yes" in line]
+    return wrong + fitting, count
 
 
 def part_faults(counter, program, number, is_counted):
     """The faults of one part of the texts, and how many calls were counted."""
-    part = list(samples(COUNTED_SIZE if is_counted else TIMED_SIZE, number))
-    return counted_faults(counter, program, part, "part %d" % number, is_counted, SECONDS)[:2]
+    texts = list(samples(COUNTED_SIZE if is_counted else TIMED_SIZE, number))
+    run = Run(counter, program, texts, "part %d, %s" % (number, is_counted), is_counted)
+    wrong, count = faults_of(run, run.steps() if is_counted else run.memory())
+    if not is_counted and not wrong:
+        small = {one.name: one.size for one in samples(COUNTED_SIZE, number)}
+        wrong += slow_faults(counter, program, run, small)
+    return wrong, count
 
 
 def measured_rows(counter, program):
-    """The rows of all texts and requests."""
-    rows = {}
-    for texts in [*(list(samples(COUNTED_SIZE, number)) for number in range(PARTS)), requested()]:
-        rows.update(Run(counter, program, texts, "measured", True, SECONDS).rows())
+    rows = Run(counter, program, requested(), "measured", True).steps()
+    for number in range(PARTS):
+        rows.update(Run(counter, program, list(samples(COUNTED_SIZE, number)), "measured", True).steps())
+        rows.update(Run(counter, program, list(samples(TIMED_SIZE, number)), "measured").memory())
     return rows

@@ -7,8 +7,6 @@
  * in a program without marks. Then each block is filled before the program has it and before it is freed, and moves when it grows: a read
  * of memory that isn't written yet, or is freed, finds other bytes. A program that wrote past the end of a block is ended when it frees
  * that. With COUNTS_READ=N a read takes at most N bytes, with COUNTS_WRITE=N a write.
- * With COUNTS_PARTS="N N .." the input has parts of so many bytes. A read takes bytes of one part. Before the first byte of each part is
- * read, there is a line of counts too: first of the start, and then of each part but the last, of which there is one at the end.
  *
  * In a line are, in order: allocations, bytes, growths, bytes held at the second mark, most bytes held at once, blocks
  * that were never freed, reads, writes, nanoseconds of the processor. callgrind is asked for the steps from counts_begin to counts_end.
@@ -56,10 +54,6 @@ static uint64_t refused, asked;
 static int is_in_call, is_of_run;
 /* How many bytes a read or a write takes at most. */
 static size_t most_read = SIZE_MAX, most_written = SIZE_MAX;
-/* The sizes of the parts of the input that no read has come to yet, or NULL; and how many bytes are left of the one that is read. */
-static const char *parts;
-static size_t left_of_part;
-
 static int64_t nanoseconds(void) {
     struct timespec now;
     clock_gettime(CLOCK_PROCESS_CPUTIME_ID, &now);
@@ -102,7 +96,6 @@ __attribute__((constructor)) static void start(void) {
         most_read = strtoull(most, NULL, 10);
     if (written)
         most_written = strtoull(written, NULL, 10);
-    parts = getenv("COUNTS_PARTS");
     counts_begin();
 }
 
@@ -236,35 +229,7 @@ void *realloc(void *block, size_t size) {
     return header + 1;
 }
 
-/* Writes a line of a count that has ended, and begins the next one with what is held. */
-static void count_anew(void) {
-    int64_t held = counts.held;
-    counts.held_at_end = held;
-    write_line();
-    counts_begin();
-    counts.held = counts.most = held;
-}
-
-/* A read takes bytes of one part. Where the last one was read whole, its count ends. */
-static __attribute__((noinline)) ssize_t read_of_part(int device, void *bytes, size_t count) {
-    if (left_of_part == 0 && *parts) {
-        char *after;
-        counts_end();
-        left_of_part = strtoull(parts, &after, 10);
-        parts = after;
-        count_anew();
-    }
-    counts.reads++;
-    ssize_t taken = real_read(device, bytes, left_of_part && left_of_part < count ? left_of_part : count);
-    if (taken > 0 && left_of_part)
-        left_of_part -= taken;
-    return taken;
-}
-
-/* Without parts it takes few steps of its own, since steps of reads have a bound. */
 ssize_t read(int device, void *bytes, size_t count) {
-    if (parts)
-        return read_of_part(device, bytes, count);
     counts.reads++;
     return real_read(device, bytes, count < most_read ? count : most_read);
 }

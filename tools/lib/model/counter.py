@@ -69,12 +69,11 @@ class Counter:
         path.unlink()
         return Ended(ran.returncode, ran.stdout, ran.stderr, counts[0] if counts else None)
 
-    def steps(self, arguments, data, name, seconds=None, most_read=None, parts=()):
-        """Runs a program with valgrind, and returns the steps of each part that it counts. A read takes at most so many bytes. If the
-        input has parts of these sizes, the steps are those of the start and of each part, which a read doesn't go past."""
+    def steps(self, arguments, data, name, seconds=None, most_read=None):
+        """Runs a program with valgrind, and returns the steps of each part that it counts. A read takes at most so many
+        bytes."""
         path = self.written(name, "steps")
-        asked = {"COUNTS_PARTS": " ".join(map(str, parts))} if parts else {}
-        asked.update({"COUNTS_READ": most_read} if most_read is not None else {})
+        asked = {"COUNTS_READ": most_read} if most_read is not None else {}
         self.ran([self.valgrind, *CALLGRIND, "--callgrind-out-file=%s" % path, *arguments], data, name, "/dev/null", seconds, **asked)
         steps = [int(found) for found in re.findall(rb"^summary: (\d+)", path.read_bytes(), re.M)]
         path.unlink()

@@ -6,9 +6,8 @@ import itertools
 
 from lib.model import characters, debug_refused, types
 from lib.model.debug_leaves import SHAPES, shape
-from lib.model.features import is_of_tokens
 from lib.model.document import STRUCTS, Block, unquoted
-from lib.model.reading import MODES, is_debug_name
+from lib.model.reading import MODES, is_debug_name, is_of_tokens
 
 PLACES = ("entry of a list", "entry of a set", "key", "value", "field of a struct", "field of a tuple", "field without names")
 DEBUG_PLACES = (*PLACES, "field of an open struct")
@@ -106,7 +105,6 @@ def cells(data, document, mode, judged):
 
 
 def pairs(*lists):
-    """Each choice of one of each list."""
     return list(itertools.product(*lists))
 
 

@@ -58,7 +58,6 @@ class Covering:
             yield from (self.inside(outer, [self.inside(place, self.kinds())]) for outer in PLACES)
 
     def within(self, size):
-        """A number of this class of sizes."""
         return self.random.randint(size // 2 + 1, size)
 
     def sizes(self, exact, last):
@@ -66,7 +65,6 @@ class Covering:
         return [size if size <= exact else self.within(size) for size in powers(last, exact)]
 
     def lengths(self):
-        """Names, words and texts of each length."""
         sizes = self.sizes(EXACT_LENGTH, 16384)
         for sixteen in (sizes[at : at + 16] for at in range(0, len(sizes), 16)):
             named = [Block("struct", self.maker.word(size), [(self.maker.word(size), self.maker.word(size))]) for size in sixteen]
@@ -82,7 +80,6 @@ class Covering:
         return quoted("".join(self.random.choices("ab ,:[]{}()\u00e9\u20ac\U0001f980", k=max(length - 2, 0))))
 
     def entries(self):
-        """Blocks of each kind with each number of entries."""
         for kind in BLOCKS:
             row, leaves = [], 0
             for count in self.sizes(EXACT_ENTRIES, 1024):
@@ -97,7 +94,6 @@ class Covering:
         return self.maker.block(kind, [self.maker.small() for _ in range(count)])
 
     def many(self):
-        """Blocks of each kind with very many entries."""
         for kind in BLOCKS:
             values = self.random.choices("abcdefgh", k=self.random.randint(MANY, MANY + 999))
             entries = [(value, "1") if kind == "map" else (None, value) for value in values]
@@ -179,7 +175,6 @@ class DebugCovering(Covering):
                 yield from (self.inside(place, [self.of_debug_kind(kind) for _ in range(count)]) for count in (1, 3))
 
     def debug_lengths(self):
-        """Leaves and names of each length."""
         sizes, word = self.sizes(EXACT_LENGTH, 4096), self.leaves.word
         yield list_of(*(self.leaves.of_length("word", size) for size in sizes))
         yield list_of(*(self.leaves.of_length("quotes", size) for size in sizes if size > 2))

@@ -82,7 +82,6 @@ class LeafMaker:
         self.random = random
 
     def word(self, letter, length):
-        """A word of this letter, of any characters that it may have."""
         tokens = "".join(self.random.choices("abXY019_-", k=length))
         if letter == "w":
             return tokens

@@ -99,7 +99,6 @@ class Maker:
         return Block("tuple" if kind == "unnamed" else kind, name, [(None, value) for value in values])
 
     def document(self):
-        """A document of any size."""
         nodes = self.up_to(MOST_NODES)
         self.longest = self.up_to(max(MOST_BYTES // nodes, 4))
         return self.grown(nodes, 0)
@@ -144,13 +143,10 @@ class Maker:
         if form < 0.85:
             document = self.document() if form < 0.65 else types.made(self.random)
         else:
-            document = self.chain() if form < 0.92 else self.placed_leaf()
+            document = self.chain() if form < 0.92 else self.long_leaf()
+            if form >= 0.92 and self.random.random() < 0.5:
+                document = self.deeper(self.random.choice(self.places), document)
         return self.random.choice((plain, pretty))(document)
-
-    def placed_leaf(self):
-        """A long leaf, by itself or in a block."""
-        leaf = self.long_leaf()
-        return leaf if self.random.random() < 0.5 else self.deeper(self.random.choice(self.places), leaf)
 
     def changed(self, data):
         """The text with a change, most often by one byte or one piece."""
@@ -163,7 +159,6 @@ class Maker:
         return (before, after, before + after[1:], before + piece + after[1:], None, None, data + piece, before + piece + after)[form]
 
     def changed_at(self, data, piece):
-        """The text with this piece where it had another."""
         old = self.random.choice(self.pieces).encode()
         count = data.count(old)
         if count == 0:

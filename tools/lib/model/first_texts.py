@@ -58,7 +58,6 @@ def too_deep(maker):
 
 
 def first_texts(seed):
-    """All of them."""
     maker, debug_maker = Maker(seed), DebugMaker(seed)
     covering, debug_covering = Covering(maker), DebugCovering(debug_maker)
     yield from (b"", b"\n", b"()", b"[]", b"{}", b'""', b"''", b"x\n")

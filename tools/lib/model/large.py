@@ -2,8 +2,7 @@
 import resource
 import subprocess
 
-from lib.model.document import list_of
-from lib.model.verdicts import half, leaf_verdict
+from lib.model import verdicts
 
 SIZE = 16 * 1024 * 1024
 LINES = 1_000_000
@@ -13,15 +12,14 @@ SECONDS = 60
 
 
 def listed(leaf, count):
-    """A list of equal leaves: its plain text, its pretty text, and itself."""
-    plain = "[%s]" % ", ".join([leaf] * count)
-    return plain, "[\n%s]" % ("    %s,\n" % leaf * count), list_of(*[leaf] * count)
+    """The plain and the pretty text of a list of equal leaves."""
+    return "[%s]" % ", ".join([leaf] * count), "[\n%s]" % ("    %s,\n" % leaf * count)
 
 
-# Each makes a document, by its name. Of those that the model judges the last has as many words as it can in a minute.
+# Each makes both texts of a document. Of those that the model judges the last has as many words as it can in a minute.
 DOCUMENTS = {
-    "a long word": lambda: ("x" * SIZE,) * 3,
-    "a long text": lambda: ('"%s"' % ("a" * SIZE),) * 3,
+    "a long word": lambda: ("x" * SIZE,) * 2,
+    "a long text": lambda: ('"%s"' % ("a" * SIZE),) * 2,
     "a list of long words": lambda: listed("x" * 65536, SIZE // 65536),
     "a list of short words": lambda: listed("x", SIZE // 3),
     "a list of fewer short words": lambda: listed("x", 1_500_000),
@@ -34,7 +32,7 @@ PARTS = len(CONVERTED) + 1
 
 def document_runs(name):
     """Runs of the commands: of which program, its arguments, its input and its output."""
-    by_plain, by_pretty, _document = DOCUMENTS[name]()
+    by_plain, by_pretty = DOCUMENTS[name]()
     lengths = ", ".join(str(len(line)) for line in by_pretty.split("\n"))
     yield name, "ufmt_conv", ["pretty"], by_plain, by_pretty + "\n"
     yield name, "ufmt_conv", ["plain"], by_pretty, by_plain + "\n"
@@ -44,33 +42,20 @@ def document_runs(name):
 
 
 def line_runs():
-    """Runs of the commands on a million lines."""
     yield "a million lines", "ufmt_conv", ["lengths"], "x\n" * LINES, "[%s]\n" % ", ".join(["1"] * LINES)
     short, long = STAMP + "[1, 2]\n", STAMP + "[\n    1,\n    2,\n]\n"
     yield "a million lines", "ufmt_lines", ["--longer-than", "0"], short * LINES, long * LINES
     yield "a million groups", "ufmt_lines", ["--plain"], long * LINES, short * LINES
 
 
-def command_runs(number):
-    return document_runs(CONVERTED[number]) if number < len(CONVERTED) else line_runs()
-
-
-def verdict(text, document, other):
-    """The line of probe_model on one of both texts of a document. Other is the document's other text."""
-    is_leaf, is_pretty = text == other, text[1:2] == "\n"
-    documents = (False, None if is_pretty else document), (True, document if is_leaf or is_pretty else None)
-    return "plain: %s; pretty: %s; leaf: %s\n" % (*(half(text, each, each, mode) for mode, each in documents), leaf_verdict(text))
-
-
 def verdict_runs():
+    """Runs of probe_model, and the lines that it should print."""
     for name in JUDGED:
-        by_plain, by_pretty, document = DOCUMENTS[name]()
-        for text, other in ((by_plain, by_pretty), (by_pretty, by_plain))[: 1 + (by_plain != by_pretty)]:
-            yield name, "probe_model", [], "%d\n%s" % (len(text), text), verdict(text, document, other)
+        for text in dict.fromkeys(DOCUMENTS[name]()):
+            yield name, "probe_model", [], "%d\n%s" % (len(text), text), verdicts.verdict(text.encode())[0] + "\n"
 
 
 def run_fault(program, arguments, data, wanted):
-    """What is wrong with a run, or None."""
     ran = subprocess.run([str(program), *arguments], input=data.encode(), capture_output=True,
                          preexec_fn=lambda: resource.setrlimit(resource.RLIMIT_CPU, (SECONDS, SECONDS)))
     if ran.returncode != 0:
@@ -82,9 +67,8 @@ def run_fault(program, arguments, data, wanted):
 def run_faults(programs, runs):
     """The faults of the runs, and how many runs there were."""
     wrong, count = [], 0
-    for name, program, arguments, data, wanted in runs:
+    for count, (name, program, arguments, data, wanted) in enumerate(runs, 1):
         fault = run_fault(programs[program], arguments, data, wanted)
-        count += 1
         if fault:
             wrong.append("%s of %s: %s" % (" ".join([program, *arguments]), name, fault))
     return wrong, count
@@ -92,4 +76,4 @@ def run_faults(programs, runs):
 
 def faults(programs, number):
     """The faults of one part of the commands' runs. None of their costs is counted."""
-    return run_faults(programs, command_runs(number))[0], 0
+    return run_faults(programs, document_runs(CONVERTED[number]) if number < len(CONVERTED) else line_runs())[0], 0

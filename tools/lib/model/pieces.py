@@ -25,7 +25,7 @@ import functools
 import re
 import zlib
 
-from lib.model.document import EMPTY, INDENT, STRUCTS, converted, is_single
+from lib.model.document import EMPTY, INDENT, STRUCTS, is_single
 
 END = b"\xff"
 OPENING = {"list": "[", "set": "{", "map": "{"}
@@ -104,12 +104,6 @@ def printed_ending(document, is_pretty, depth):
         dots = indents(depth + 1) + by_text("..\n") if kind == "open struct" else b""
         return dots + indents(depth) + by_text(CLOSING[kind])
     return by_text(*{"struct": (" ",), "open struct": (", ..", " ")}.get(kind, (",",) * is_single(document)), CLOSING[kind])
-
-
-def of_text(document, is_pretty):
-    """The pieces of a text that was read as this document in this mode."""
-    pieces = printed(document, is_pretty), by_text(*converted(document, not is_pretty))
-    return "pieces printed %s, converted %s" % tuple(map(digest, pieces))
 
 
 ZEROS = re.compile(r"(-?)(0*)([0-9]+)(?:(\.)(0*)([0-9]+))?")

@@ -124,13 +124,6 @@ def stop(kind, texts):
 LATER_BYTES = bytes(range(0x80, 0xC0))
 
 
-def line_and_column(data, at):
-    """Both from 1. A column counts the bytes that begin a character."""
-    before = data[:at]
-    last = before[before.rfind(b"\n") + 1 :]
-    return before.count(b"\n") + 1, len(last.translate(None, LATER_BYTES)) + 1
-
-
 def after_name(data, at):
     """What is printed of the name before a place, if a colon and a space come after one."""
     before = data[:at]
@@ -155,7 +148,9 @@ def found_at(data, at):
 
 def stopped(data, at, expected):
     """What is printed of a type by which the text stops here."""
-    place = found_at(data, at), *line_and_column(data, at), after_name(data, at)
+    *lines, last = data[:at].split(b"\n")
+    # A column counts the bytes that begin a character.
+    place = found_at(data, at), len(lines) + 1, len(last.translate(None, LATER_BYTES)) + 1, after_name(data, at)
     return "expected %s%s at line %d column %d%s, NotText { at: %d, expected: %s };" % (WORDS[expected], *place, at, expected)
 
 

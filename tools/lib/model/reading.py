@@ -31,6 +31,12 @@ def leaf_at(text, at):
 
 TOKEN = TextClass("token", leaf_at, WORD.fullmatch, has_open_structs=False)
 
+
+def is_of_tokens(leaf):
+    found = leaf_at(leaf, 0)
+    return found is not None and found[1] == len(leaf)
+
+
 # A leaf of the class DEBUG may begin with a word in parentheses, or with an address in brackets, a colon and a byte of a word. A
 # piece of it is bytes of a word, a text in quotation marks, one character or escape in apostrophes, any other apostrophe before
 # a byte of a word, `()`, or colons. In quotes a backslash takes the next character with it. In a word it is no byte before a
@@ -71,10 +77,6 @@ DEBUG = TextClass("debug", debug_leaf_at, is_debug_name, has_open_structs=True)
 # ---- The readers of plain and pretty texts. A call returns a document and where it ends, or None.
 
 
-def empty_at(text, at):
-    return next(((Block(kind, "", []), at + 2) for kind in ("list", "map") if text.startswith(EMPTY[kind], at)), None)
-
-
 class Reader:
     """A reader of one mode and one class. `reached` is where the last piece of a text ended that fits it, of the text that was
     read last."""
@@ -103,7 +105,9 @@ class Reader:
         found = self.text_class.leaf_at(text, at)
         if found is False:
             return None
-        found = found or empty_at(text, at)
+        for kind in ("list", "map"):
+            if text.startswith(EMPTY[kind], at):
+                found = Block(kind, "", []), at + 2
         name, start = found if found and isinstance(found[0], str) and self.text_class.is_name(found[0]) else ("", at)
         block = self.block_at(text, start, depth, name) if name or not found else None
         if found and block is None:

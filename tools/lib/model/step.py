@@ -1,17 +1,15 @@
-"""Makes random texts, passes each to every call of the library, and compares the results with those of a model, which shares no code with the
-project. Values that no text makes are printed by random options. What is compared also has the pieces that a writer is passed.
+"""Makes random texts, passes each to every call of the library, and compares the results with those of a model, which shares no
+code with the project. Values that no text makes are printed by random options. What is compared also has the pieces that a writer
+is passed.
 
-The built probe_model makes the calls: crates/probe_model/out/probe_model, which `rt ci` leaves there. The built ufmt_conv is
-run too, on some of the texts. Each text is passed to the calls on token texts and to those on debug texts. The texts that come first fill
-each cell of the table of shapes, tools/lib/model/coverage.py: a cell that no text fills is a fault. They are followed by random ones, and by half as many from debug documents. With 3000 or more,
-each character there is comes in apostrophes too.
+The built probe_model makes the calls, and the built ufmt_conv is run on some of the texts. The texts that come first fill each
+cell of the table of shapes (coverage.py): a cell that no text fills is a fault. With 3000 or more, each character there is comes in
+apostrophes too.
 
-Then each call is made by itself on a text of each shape, and its allocations, its memory and its steps are compared with the bounds in
-tools/lib/model/bounds.py. Steps are counted on short texts, and on those long ones where a call was slow. So are those of calls with widths
-and rows up to the largest number, on a buffer that is too small. So are those of ufmt_conv, and of ufmt_lines for each line of a log. Both
-programs are run on texts of 16 MiB and on a million lines. Memory is counted if there is a C compiler, and steps if there is valgrind too.
-
-With `--full` it only passes texts of 16 MiB, and one of 1,500,000 words, to every call of the library, in some minutes.
+Then each call is made by itself on a text of each shape, and its memory and its steps are compared with what was measured
+(costs.py); and so are runs of both programs (commands.py), which are also run on texts of 16 MiB and on a million lines (large.py).
+Memory is counted if there is a C compiler, and steps if there is valgrind too. With `--full` it only passes texts of 16 MiB, and one
+of 1,500,000 words, to every call of the library, in some minutes.
 """
 import concurrent.futures
 import pathlib
@@ -32,7 +30,7 @@ CONVERTED_EACH = 40
 COMMANDS = ("lengths", "pretty", "plain")
 # So many random texts there are. From BULK on the run takes minutes, and has all texts that there are.
 COUNT, BULK = 1000, 3000
-TOLD = "Of `x try texts`: steps of each call, in the order of its line"
+TOLD = "Of `x try texts`: steps of each call, in the order of its line, and memory (lib/model/costs.py, commands.py)"
 
 
 def shown(data):
@@ -102,18 +100,16 @@ def cost_jobs(pool, programs, meter):
         probed = meter, programs["probe_model"]
         jobs += [pool.submit(costs.part_faults, *probed, number, is_counted) for number in range(costs.PARTS)]
         jobs.append(pool.submit(costs.request_faults, *probed, is_counted))
-    jobs.append(pool.submit(commands.conv_faults, meter, programs["ufmt_conv"]))
     jobs.append(pool.submit(commands.short_read_faults, meter, programs))
-    return jobs + [pool.submit(commands.line_faults, meter, programs["ufmt_lines"], is_plain) for is_plain in (False, True)]
+    return jobs + [pool.submit(commands.faults_of, meter, programs, part) for part in commands.PARTS]
 
 
 def measured_again(is_written):
-    """Writes the table again, or names each row whose bound left the band."""
     needs.require("measure", "cc", "valgrind")
     programs = counter.programs_of(None)
     with tempfile.TemporaryDirectory() as room:
         meter = counter.Counter(pathlib.Path(room))
-        rows = {**costs.measured_rows(meter, programs["probe_model"]), **commands.read_steps(meter, programs)}
+        rows = {**costs.measured_rows(meter, programs["probe_model"]), **commands.measured_rows(meter, programs)}
     return measures.measured_again(costs.MEASURED, rows, TOLD, is_written)
 
 

@@ -1,6 +1,6 @@
 """The lines that the programs should print: of each text all that the calls say of it, and what ufmt_conv writes."""
 from lib.model import coverage, pieces, places, requests, types
-from lib.model.document import DEEPEST, depth_of, plain, pretty, quoted
+from lib.model.document import DEEPEST, converted as converted_pieces, depth_of, plain, pretty, quoted
 from lib.model.reading import DEBUG, MODES, NO_UTF8, READERS, TOKEN, converted
 from lib.model.shown import events, parts, shown
 
@@ -20,7 +20,9 @@ def reading(document, is_pretty, is_token):
     """What the calls of either class say of a text with this document."""
     other = (plain if is_pretty else pretty)(document)
     found = "yes" if is_token else "no", said(events, document), digest(other), said(parts, document), said(shown, document)
-    return "token %s, events %s, converted %s, parts %s, shown %s, %s" % (*found, pieces.of_text(document, is_pretty))
+    written = pieces.printed(document, is_pretty), pieces.by_text(*converted_pieces(document, not is_pretty))
+    told = "token %s, events %s, converted %s, parts %s, shown %s, pieces printed %s, converted %s"
+    return told % (*found, *map(pieces.digest, written))
 
 
 def parsed(document, data, is_pretty, judged):
@@ -43,11 +45,10 @@ def of_classes(text, document, debug_document, is_pretty):
     return "%s, in a list %s; debug: %s" % (reading(document, is_pretty, True), in_a_list, debug)
 
 
-def half(text, document, debug_document, is_pretty, judged=None):
+def half(text, documents, is_pretty, judged):
     """What the calls of one mode say of a text: of its token document, of its debug document, and of values."""
-    data = text.encode(errors="surrogateescape")
-    judged = judged or types.judged(data, is_pretty)
-    return "%s; values: %s" % (of_classes(text, document, debug_document, is_pretty), parsed(debug_document, data, is_pretty, judged))
+    of_values = parsed(documents[1], text.encode(errors="surrogateescape"), is_pretty, judged)
+    return "%s; values: %s" % (of_classes(text, *documents, is_pretty), of_values)
 
 
 def kinds(text_class, text):
@@ -71,7 +72,7 @@ def verdict(data):
     for mode in MODES:
         is_pretty = mode == "pretty"
         documents, judged = [READERS[mode, name].read(text) for name in ("token", "debug")], types.judged(data, is_pretty)
-        halves.append(half(text, *documents, is_pretty, judged))
+        halves.append(half(text, documents, is_pretty, judged))
         cells |= coverage.cells(data, documents[1], mode, judged)
     leaf = "no UTF-8" if NO_UTF8.search(text) else leaf_verdict(text)
     return "plain: %s; pretty: %s; leaf: %s" % (*halves, leaf), cells

@@ -170,7 +170,6 @@ def rests_on(tree, places, is_near=lambda path: True):
 
 
 def places_in(text):
-    """Where each promise is, by its calls and clauses."""
     return [place for _, place in items_of(text)]
 
 

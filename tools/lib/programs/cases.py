@@ -19,6 +19,7 @@ import threading
 from typing import NamedTuple, Optional
 
 from lib import data, findings, needs
+from lib.log_model import devices
 from lib.model.counter import Counter
 
 # A run that takes longer is a fault.
@@ -61,7 +62,6 @@ class Cases:
         self.faults += [findings.case(name, shown(wanted), shown(ran))] if ran != wanted else []
 
     def same(self, name, wanted, got):
-        """Compares what is no run."""
         self.judge(name, Ran(0, repr(got).encode(), b""), 0, repr(wanted).encode())
 
     def filled(self, column):
@@ -159,20 +159,10 @@ class Cases:
 
     def judge_slow(self, name, arguments, *steps):
         """Runs the program beside a producer that is slow. Of each step, the first is what is written then, and the second what
-        must come before more is written: `soon` says that nothing may come. After the steps stands the output that comes last. A
-        run in which an output was late or early has no status."""
-        process, (*steps, last) = self.start(arguments), steps
-        pairs = [(written, b"" if wanted == b"soon" else wanted) for written, wanted in zip(steps[::2], steps[1::2])]
-        output, in_time = b"", True
-        for written, wanted in pairs:
-            process.stdin.write(written)
-            process.stdin.flush()
-            came = taken(process.stdout, len(wanted) or 1, LATE if wanted else SOON)
-            output, in_time = output + came, in_time and came == wanted
-        process.stdin.close()
-        output += process.stdout.read()
-        ran = Ran(process.wait(SECONDS) if in_time else None, output, process.stderr.read())
-        self.judge("a slow producer: " + name, ran, 0, b"".join(wanted for _, wanted in pairs) + last)
+        must come before more is written: `soon` says that nothing may come. After the steps stands the output that comes last."""
+        *steps, last = steps
+        rounds = [[] if wanted in (b"", b"soon") else [wanted] for wanted in (*steps[1::2], last)]
+        self.same("a slow producer: " + name, None, devices.fault(devices.Program(self.program), arguments, steps[::2], rounds))
 
     def leaves(self, arguments, text, size, endless=False, ignores=False):
         """Runs the program before a reader that takes so many bytes of the output and goes away. The input is the text, or

@@ -10,9 +10,7 @@ import shutil
 import signal
 import subprocess
 import sys
-import tempfile
 import time
-import unittest
 
 from lib import data, findings
 from lib.programs.cases import LATE, Ran, filled, run
@@ -39,12 +37,11 @@ def state_of(number):
     return "there"
 
 
-class Check(unittest.TestCase):
+class Check(findings.Trial):
     """`x check` in a folder with these crates, and a script in the place of the checker."""
 
     def setUp(self):
-        self.room = pathlib.Path(tempfile.mkdtemp(prefix="x-check-")).resolve()
-        self.addCleanup(shutil.rmtree, self.room)
+        super().setUp()
         self.kit, self.crates = self.room / "kit", self.room / "crates"
         self.checker = self.kit / "bin" / "rattle"
         self.checker.parent.mkdir(parents=True)

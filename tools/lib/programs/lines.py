@@ -7,7 +7,7 @@ import time
 import tty
 
 from lib import data
-from lib.programs.cases import LATE, OTHERS, SOON, Cases, Ran, taken, texts
+from lib.programs.cases import LATE, SOON, Cases, Ran, taken, texts
 
 VERSION = b"ufmt_lines 0.4.0\n"
 HELP = (data.DATA / "programs" / "help.txt").read_bytes()
@@ -57,12 +57,6 @@ def runs_of_table(cases):
     os.symlink("loop", cases.room / "loop")
     (cases.room / "secret").touch(0o200)
     cases.table("lines.txt", TEXTS)
-
-
-def environments(cases):
-    """No variable that another program takes from the environment changes anything."""
-    for name, value in ((name, value) for name in OTHERS for value in ("", "1")):
-        cases.judge("%s=%s" % (name, value), cases.run(text=LONG, variables={name: value}), 0, LONG_PRETTY)
 
 
 def file_names(cases):
@@ -157,6 +151,6 @@ def slow_reader_goes_away(cases):
 
 def main(program):
     cases = Cases(program)
-    for part in (conversions, runs_of_table, environments, file_names, named_pipe, each_byte, terminals, slow_reader_goes_away):
+    for part in (conversions, runs_of_table, file_names, named_pipe, each_byte, terminals, slow_reader_goes_away):
         part(cases)
     return cases.end()

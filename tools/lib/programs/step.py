@@ -13,7 +13,6 @@ from lib.top import TOP
 
 
 def of_table(file):
-    """What runs a program over a table."""
 
     def main(program):
         cases = Cases(program)

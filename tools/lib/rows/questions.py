@@ -111,7 +111,6 @@ def value(words, cells):
 
 
 def told(words, cells):
-    """What the error of a text says, with its place and the name before it."""
     at, expected = places.stop(TYPES[" ".join(words[1:])], places.Texts(encoded(cells[0]), words[0] == "pretty"))
     yield cells[0], cells[1], places.stopped(encoded(cells[0]), at, expected).split(", NotText")[0]
 
@@ -128,7 +127,6 @@ def nested(name, around):
 
 
 def deep(words, cells):
-    """A value inside so many others."""
     name = " ".join(words)
     document = nested(name, int(cells[0]))
     for mode, wanted in zip(LAID_OUT, cells[1:]):

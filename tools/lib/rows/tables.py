@@ -1,8 +1,8 @@
 """The tables of rows in tools/data/rows: what is asked of each row, and what is wanted.
 
-A line `== WORDS` begins a part and says what is asked of its rows, by a name of `questions.py` and more words. A line that begins with `# `
-tells of it. A row has cells, with ` => ` between them. In a cell a character that can't stand in it, as a space at its end, is written as in a
-literal of Rust: `\\n`, `\\\\`, `\\u{20}`, and a byte as `\\xff`.
+A line `== WORDS` begins a part and says what is asked of its rows, by a name of questions.py and more words. A row has cells, with
+` => ` between them. What can't stand in a cell, as a space at its end, is written as in a literal of Rust: `\\n`, `\\\\`,
+`\\u{20}`, and a byte as `\\xff`.
 """
 import re
 from typing import NamedTuple

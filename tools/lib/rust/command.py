@@ -40,7 +40,6 @@ def sizes(tried, features, profile, target, ufmt):
 
 
 def counts(tried, features, profile, told):
-    """A line for each call."""
     made = tried.build("calls", (table.DATA / "measured" / "calls.rs").read_text(), profile, features, root=PROGRAM)
     for what, name, number in calls.CALLS if made else ():
         count = calls.instructions([made / "calls"], name, number)

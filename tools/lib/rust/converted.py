@@ -22,7 +22,6 @@ IMPL = re.compile(r"^impl\b[^{]* (\w+)", re.M)
 
 
 def in_rust(path):
-    """The text of a file of tests."""
     text = ghost.without_ghost(path, path.read_text())
     for old, new in TEST_RULES:
         text = re.sub(old, new, text)

@@ -15,7 +15,6 @@ MATHEMATICS = re.compile(r"[^\x00-\x7f]")
 
 
 def without_ghost(path, text):
-    """The text less what is ghost in it."""
     source = Source(path, text)
     edits = Edits(source)
     for at, token in enumerate(source.tokens):

@@ -1,11 +1,9 @@
 """Tries the package that `x rust` writes, as rustc and cargo compile it.
 
-The package compiles without a warning with each choice of features. Its tests pass, also with `proved`, where std's own tests of
-an index end a program: worked rows, the sources' own tests, cursors of every size, writers that refuse each piece, builders'
-calls in each order, and 10,000 random values and floats beside core::fmt. Valgrind sees no wrong access. `cargo doc` and clippy
-have no warning. The calls have no symbol of `core::panicking` with `proved`, at opt-level 3, `s` and `z`, and have some without.
-Programs stay within bounds of bytes. The tool refuses each of its own wrong sources. 32-bit programs are linked where rustc has
-`core` for one, or its sources, from which `core` is built: `RUSTC=/path/of/rustc ./x try rust` uses another rustc.
+It compiles without a warning with each choice of features, and its tests pass, also with `proved`, where std's own tests of an
+index end a program. Valgrind sees no wrong access; `cargo doc` and clippy have no warning. With `proved` the calls have no symbol
+of `core::panicking`. Programs stay within bounds of bytes. The tool refuses each of its own wrong sources. 32-bit programs are
+linked where rustc has `core` for one, or its sources: `RUSTC=/path/of/rustc ./x try rust` uses another rustc.
 """
 import os
 import pathlib
@@ -31,8 +29,6 @@ NARROW_HOST = "i686-unknown-linux-gnu"
 
 
 class Trial:
-    """A folder with the package, and the faults that were found."""
-
     def __init__(self, room):
         self.room, self.faults, self.package = room, [], room / "package"
         self.environment = dict(os.environ, CARGO_TARGET_DIR=str(room / "target"), CARGO_NET_OFFLINE="true", RUST_BACKTRACE="0",
@@ -48,7 +44,6 @@ class Trial:
         return ran.stdout
 
     def features(self):
-        """The package compiles without warnings with each choice of features."""
         for features in ("", "alloc", "std", "proved", "alloc,proved", "small"):
             self.cargo("check", "--quiet", "-p", "ufmt", "--features", features)
 
@@ -124,7 +119,6 @@ class Trial:
         return self.library("sizes", source, profile, features, target, ours="ours", peer=peer)
 
     def sizes(self):
-        """Programs stay within their bounds."""
         library, linker = self.library_of_sizes("release", "proved"), linking.Linker(self.room)
         for name, bound in BYTES.items() if library else ():
             size = linker.size(library, name)
