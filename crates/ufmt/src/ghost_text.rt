@@ -1,4 +1,4 @@
-//! A text that only proofs read.
+//! A text that only proofs read: what a writer has been offered, for a writer that keeps less.
 ghost use Rattle.std.specs.Prelude.{◌≡◌, ℕ, List, ◌++◌, if◌then◌else◌};
 ghost use Rattle.std.specs.Borrow.{ftrue};
 
@@ -6,8 +6,8 @@ use std::marker::Model;
 
 /// A text that only proofs read. It takes no memory, and its calls do nothing.
 #[derive(Drop)]
-pub(crate) struct GhostText {
-    pub(crate) ghost bytes: { List ℕ },
+pub struct GhostText {
+    pub ghost bytes: { List ℕ },
 }
 
 impl Model for GhostText {
@@ -15,17 +15,17 @@ impl Model for GhostText {
 }
 
 impl GhostText {
-    // The text that the caller's proof picks. The proof of this call is by hand: the check makes none
-    // where ghost data gets its value.
-    pub(crate) fn new() -> GhostText
+    // The proof of this call is by hand: the check makes none where ghost data gets its value.
+    /// Returns the text that the caller's proof picks.
+    pub fn new() -> GhostText
         ghost bytes: { List ℕ }
         ensures { result.bytes ≡ bytes }
     {
         GhostText {}
     }
 
-    // The text of these bytes.
-    pub(crate) fn of(bytes: &[u8]) -> GhostText
+    /// Returns the text of these bytes.
+    pub fn of(bytes: &[u8]) -> GhostText
         ghost whole: { List ℕ }
         requires { whole ≡ bytes.now }
         ensures { result.bytes ≡ whole }
@@ -34,8 +34,8 @@ impl GhostText {
         GhostText::new()
     }
 
-    // This text, and then the piece.
-    pub(crate) fn and(&self, piece: &[u8]) -> GhostText
+    /// Returns this text with the piece after it.
+    pub fn and(&self, piece: &[u8]) -> GhostText
         ghost whole: { List ℕ }
         requires { whole ≡ self.now.bytes ++ piece.now }
         ensures { result.bytes ≡ whole }
@@ -44,8 +44,8 @@ impl GhostText {
         GhostText::new()
     }
 
-    // This text, and then the piece, but where `is_closed` only this text.
-    pub(crate) fn and_unless(&self, is_closed: bool, piece: &[u8]) -> GhostText
+    /// Returns this text, with the piece after it unless `is_closed`.
+    pub fn and_unless(&self, is_closed: bool, piece: &[u8]) -> GhostText
         ghost whole: { List ℕ }
         requires { whole ≡ (if is_closed then self.now.bytes else self.now.bytes ++ piece.now) }
         ensures { result.bytes ≡ whole }

@@ -10,7 +10,7 @@ mod display;
 mod dump;
 mod fields;
 mod fixed;
-mod ghost_text;
+pub mod ghost_text;
 mod hex;
 pub mod laws;
 mod number;

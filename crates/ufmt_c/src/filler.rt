@@ -4,8 +4,8 @@ ghost use Rattle.ufmt_c.specs.Calls.{HasPut, PutsText, reported};
 ghost use Rattle.ufmt_c.specs.Private.Narrow.{StandsFor};
 
 use crate::code::FULL;
-use crate::ghost_text::GhostText;
 use std::convert::Infallible;
+use ufmt::ghost_text::GhostText;
 use ufmt::uWrite;
 
 /// Puts as much of its text as fits to the front of a buffer, and counts all of it, up to the largest

@@ -18,7 +18,6 @@ mod dump;
 mod field;
 mod filler;
 mod fixed;
-mod ghost_text;
 mod kinds;
 mod message;
 mod numbers;

@@ -1,4 +1,0 @@
-use Rattle.ufmt_c.proofs.ghost_text.GhostText.and.Given as goal
-
-abbrev pub ghost-new : goal.ghost-new
-ghost-new g a = g.whole
