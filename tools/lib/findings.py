@@ -15,7 +15,6 @@ def case(name, wanted, got):
 
 
 def most(name, bound, got, what):
-    """A count that is past its bound."""
     return case(name, "at most %d %s" % (bound, what), got)
 
 

@@ -45,7 +45,6 @@ def heartbeat(name):
 
 
 def begun(words, **how):
-    """Starts a command as a process group of its own."""
     process = subprocess.Popen(words, start_new_session=True, **how)
     started.append(process)
     return process

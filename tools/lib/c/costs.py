@@ -38,7 +38,6 @@ def compared_steps(faults, program):
 
 
 def steps_of(program, name, asked):
-    """The steps of each call of the function of this name, by callgrind."""
     with tempfile.TemporaryDirectory() as folder:
         file = pathlib.Path(folder) / "steps"
         counting = ["--tool=callgrind", "--combine-dumps=yes", "--toggle-collect=" + name, "--dump-after=" + name]
@@ -48,7 +47,6 @@ def steps_of(program, name, asked):
 
 
 def stacks(faults, program):
-    """Compares the stack that each call takes at most, in the program's machine code, with its bound."""
     code, bounds = frames.Frames(program), measures.Table("stack").of("from C")
     for name in cases.CALLS:
         most, (bound, _) = code.most("ufmt_" + name), bounds.get(name, (0, 0))

@@ -25,7 +25,6 @@ class Function:
         return self.owner.startswith("trait")
 
     def owner_name(self):
-        """The name of the trait, or of the type that is implemented."""
         return type_name(self.owner)
 
 
@@ -97,7 +96,6 @@ class Exports:
         return len(self.names) + len(self.modules) > before
 
     def is_module(self, module):
-        """Whether the module is public as far as is known."""
         if not module:
             return True
         *outer, name = module

@@ -92,7 +92,6 @@ def types(count):
 
 
 def parse_fields_tests(count):
-    """`parse_fields!` for so many fields, of texts that are right and texts that aren't."""
     template = (FOLDER / "parsed.rt.txt").read_text()
     for number, its in enumerate(commas(count), 1):
         yield filled(template, {**words_for(count, 101, *its), "NUMBER": str(number)})
@@ -108,7 +107,6 @@ def lines_of(kinds):
 
 
 def line(pieces, first):
-    """The pieces in a row, with a number of its own for each, and their text."""
     numbers = [[format(number, form) for form in ("d", "04x", "04o", "010b")] for number in range(first, first + len(pieces))]
     filled_in = [(source.format(*each), text.format(*each)) for each, (source, text) in zip(numbers, pieces)]
     return ", ".join(source for source, _ in filled_in), "".join(text for _, text in filled_in)

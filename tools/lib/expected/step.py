@@ -26,7 +26,6 @@ SAME = ("same", "same")
 
 
 def outcomes(name, row):
-    """What comes out of a row's plain text and of its pretty text, in a class."""
     texts = row.plain, row.pretty
     found = [(converted(mode, name, text), other) for mode, text, other in zip(MODES, texts, texts[::-1])]
     return tuple("refused" if each is None else "same" if each == wanted else "another" for each, wanted in found)
@@ -54,7 +53,6 @@ def wrong_in_debug(row):
 
 
 def wrong_refused():
-    """The texts of no debug document that the model reads."""
     for text in debug_refused.texts():
         for mode in MODES:
             if converted(mode, "debug", text.decode("utf-8", "surrogateescape")) is not None:

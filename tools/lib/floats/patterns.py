@@ -22,7 +22,6 @@ def round_numbers():
 
 
 def bits_of(text, width):
-    """The bits of the float nearest to a decimal."""
     pair = {64: "<d<Q", 32: "<f<I"}[width]
     return struct.unpack(pair[2:], struct.pack(pair[:2], float(text)))[0]
 
@@ -73,7 +72,6 @@ def middles(width):
 
 
 def patterns(width, count, seed):
-    """Edges and hard cases with both signs, and `count` random patterns."""
     dice = random.Random(seed * 100 + width)
     sign = 1 << (width - 1)
     some = [*edges(width), *hard(width)]
@@ -110,6 +108,5 @@ def rows(width):
 
 
 def fixed_rows(width):
-    """The bits of the rows with decimals, and how many those are."""
     split = (word.split(":") for word in HARD["fixed %d" % width])
     return [(bits_of(text, width), int(decimals)) for text, decimals in split]

@@ -8,7 +8,6 @@ HEAD = "//! Bits of floats%s, with what rustc prints of them by %s. `x try float
 
 
 def printed(program, text):
-    """A line for each float."""
     return subprocess.run([program], input=text, stdout=subprocess.PIPE, text=True, check=True).stdout.splitlines()
 
 
@@ -19,13 +18,11 @@ def row(words):
 
 
 def plain(program, width):
-    """What stands in each row: the bits, and the texts by `{:?}` and `{}`."""
     bits = ["%0*x" % (width // 4, it) for it in patterns.rows(width)]
     return [("0x" + it, *('"%s"' % text for text in line.split(" "))) for it, line in zip(bits, printed(program, "\n".join(bits) + "\n"))]
 
 
 def fixed(program, width):
-    """The bits, a number of decimals, and the text with these."""
     asked = ["%0*x %d" % (width // 4, *pair) for pair in patterns.fixed_rows(width)]
     return [("0x%s" % it.split(" ")[0], it.split(" ")[1], '"%s"' % line) for it, line in zip(asked, printed(program, "\n".join(asked) + "\n"))]
 
@@ -36,7 +33,6 @@ FILES = {"ufmt_float": (HEAD % ("", "`{:?}` and `{}`"), "&str, &str", plain),
 
 
 def made(program):
-    """The text of each file, by its path, by the program that rustc built."""
     for crate, (head, kinds, rows_of) in FILES.items():
         lines = [head]
         for width, rows in ((width, rows_of(program, width)) for width in (64, 32)):

@@ -49,7 +49,6 @@ def in_a_row(first, piece, last, size):
 
 
 def indented():
-    """A list whose pretty text is nearly all indentation."""
     document = list_of(*["x"] * 60)
     for _ in range(60):
         document = list_of(document)
@@ -65,7 +64,6 @@ SHAPES = (
 
 
 def steps(counter, path, mode, log, name):
-    """The steps of a run on this log, by valgrind."""
     return counter.steps([path, *ARGUMENTS[mode]], log, name, seconds=SECONDS)[0]
 
 

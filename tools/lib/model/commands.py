@@ -105,7 +105,6 @@ def in_one_log(counter, programs, is_plain):
 
 
 def faults_of(counter, programs, part):
-    """The faults of a part, and how many runs were counted."""
     rows, wrong = counted(counter, programs, part)
     wrong += measures.Table(MEASURED).faults(rows, is_whole=False)
     if part != "conv":
@@ -133,7 +132,6 @@ def read_steps(counter, programs):
 
 
 def short_read_faults(counter, programs):
-    """The faults of runs in which each read takes few bytes, and how many were counted."""
     found = read_steps(counter, programs) if counter.valgrind else {}
     return list(measures.Table(MEASURED).faults(found, is_whole=False)), len(found)
 

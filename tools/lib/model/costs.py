@@ -77,18 +77,15 @@ class Run:
         return len(self.lines) == len(self.texts) and len(self.counts) >= len(self.made)
 
     def calls(self):
-        """Each call: its text, the half of the line that it is in, its place there, its name, and its counts."""
         return [(*call, counts) for call, counts in zip(self.made, self.counts)]
 
     def steps(self):
-        """A row for each half of a line."""
         rows = {}
         for one, half, _, call, steps in self.calls():
             rows.setdefault("%s: %s" % (one.name, half), []).append(("%s: steps" % call, steps - self.around))
         return rows
 
     def memory(self):
-        """The same of the calls that take memory."""
         rows = {}
         for one, half, _, call, counts in self.calls():
             if counts.allocations:
@@ -117,7 +114,6 @@ def slow_faults(counter, program, run, small):
 
 
 def faults_of(run, rows):
-    """What is wrong with a run and with its rows, and how many calls were counted."""
     if not run.is_whole():
         return ["%d lines and %d counts of %d texts" % (len(run.lines), len(run.counts), len(run.texts))], len(run.made)
     return list(measures.Table(MEASURED).faults(rows, is_whole=False)), len(run.made)

@@ -104,5 +104,4 @@ class Counter:
 
 
 def counts_in(path):
-    """The counts in each line of a file that the library wrote."""
     return [Counts(*map(int, line.split())) for line in path.read_text().splitlines()]

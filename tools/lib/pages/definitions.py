@@ -87,7 +87,6 @@ class Tree:
         return next(((path, name) for path in there if (path, name) in self.definitions), None)
 
     def cited(self, path, identifiers):
-        """The definitions that these identifiers mean in this file."""
         own = {(path, it) for it in identifiers if (path, it) in self.definitions}
         imports = self.imports[path]
         brought = {self.named(*imports[it]) for it in identifiers if (path, it) not in own and it in imports}

@@ -38,7 +38,6 @@ def cannot_read(name, reason):
 
 
 def bytes_of(shown):
-    """The bytes of a log that is shown as `cat -v` shows it."""
     return (data.DATA / "logs" / shown).read_bytes().replace(b"^[", b"\x1b").replace(b"^M", b"\r")
 
 

@@ -49,7 +49,6 @@ def short(name):
 
 
 def defined(function):
-    """The definitions of this repository that the clauses of a function name."""
     brought = {word.strip() for names in IMPORT.findall(function.path.read_text()) for word in names.split(",")}
     return {word for word in function.identifiers & brought if word[:1].isupper()}
 
@@ -111,7 +110,6 @@ class Reader:
 
 
 def shown(reader, section):
-    """The promises of a section: by the order of crates, or of the headline by its parts."""
     edits = all_edits()
     told = [promise.shown(edits) for promise in reader.promises if promise.section == section]
     return sorted(told) if section == "headline" else told
