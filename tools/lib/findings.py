@@ -18,12 +18,6 @@ def most(name, bound, got, what):
     return case(name, "at most %d %s" % (bound, what), got)
 
 
-def over(name, counts, allowed):
-    """A line with the first count that is more than allowed, by its name, or None."""
-    past = ((what, bound) for what, bound in allowed.items() if getattr(counts, what) > bound)
-    return next((most(name, bound, getattr(counts, what), what) for what, bound in past), None)
-
-
 def ended(faults, counts):
     """Prints the faults and the counts, and returns the status."""
     faults = list(faults)

@@ -7,7 +7,6 @@ line with or without a line feed, and grows for the fifth and the ninth.
 from typing import NamedTuple
 
 from lib import data, needs
-from lib.alloc_failures import tried
 from lib.programs.cases import filled
 from lib.programs.lines import TEXTS
 
@@ -43,7 +42,7 @@ def wrong_run(case, ended):
     """What is wrong with a run in which an allocation was to be refused: it ends with want of memory and no output, or as with
     ample memory."""
     is_wanted = ended[:3] == (OUT_OF_MEMORY, b"", case.program.encode() + b": out of memory\n")
-    wrong = tried.end_fault(ended, (OUT_OF_MEMORY, case.status))
+    wrong = ended.fault((OUT_OF_MEMORY, case.status))
     if wrong or is_wanted or ended[:3] == (case.status, case.output, case.error):
         return wrong
     return "status %d, standard error %s, standard output %s" % (ended.status, ended.error[:80], ended.output[:80])
@@ -51,9 +50,9 @@ def wrong_run(case, ended):
 
 def faults_of(case, ample, runs):
     """What is wrong with a run with ample memory, and with those in which one allocation after another was refused."""
-    wrong, made = tried.end_fault(ample, [case.status]), case.allocations + ASKED_AGAIN
-    if wrong or tried.asked(ample.counts) != made:
-        yield "with ample memory: %s" % (wrong or "wanted %d allocations, got %d" % (made, tried.asked(ample.counts)))
+    wrong, made = ample.fault([case.status]), case.allocations + ASKED_AGAIN
+    if wrong or ample.counts.asked() != made:
+        yield "with ample memory: %s" % (wrong or "wanted %d allocations, got %d" % (made, ample.counts.asked()))
     for number, ended in enumerate(runs, 1):
         wrong = wrong_run(case, ended)
         if wrong:
@@ -67,7 +66,7 @@ def tried_programs(counter, pool):
     """The faults of all cases, and how many runs and refusals there were."""
     def run(case, number):
         name = "%s-%d-%d" % (case.program, listed.index(case), number)
-        return counter.run_refused([needs.built(case.program), *case.words], case.text, name, number, tried.SECONDS)
+        return counter.run_refused([needs.built(case.program), *case.words], case.text, name, number)
 
     listed, faults, count, refusals = list(cases()), [], 0, 0
     for case in listed:

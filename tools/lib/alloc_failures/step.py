@@ -10,13 +10,14 @@ import pathlib
 import tempfile
 from concurrent.futures import ThreadPoolExecutor
 
-from lib.alloc_failures import calls, programs, tried
+from lib import needs
+from lib.alloc_failures import calls, programs
 from lib.findings import ended
 from lib.model.counter import Counter
 
 
 def main(_given):
-    with tempfile.TemporaryDirectory(prefix="x-memory-") as room, ThreadPoolExecutor(tried.SIDE_BY_SIDE) as pool:
+    with tempfile.TemporaryDirectory(prefix="x-memory-") as room, ThreadPoolExecutor(needs.processors()) as pool:
         counter = Counter(pathlib.Path(room))
         of_calls, made = calls.tried_calls(counter, pool)
         of_programs, runs, refusals = programs.tried_programs(counter, pool)

@@ -6,7 +6,7 @@ from fractions import Fraction
 
 from lib import data
 
-HARD = data.words("floats/hard.txt")
+HARD = {part: " ".join(rows).split() for part, rows in data.parts("floats/hard.txt").items()}
 # By width: the bits of a significand without its leading one, and those of an exponent.
 FORMATS = {64: (52, 11), 32: (23, 8)}
 
