@@ -1,5 +1,5 @@
-"""What a step found, in one form: a line for each fault, as `file:line: what` or `case: wanted .., got ..`, and last a line of
-counts."""
+"""What a step found, in one form: a line for each fault, as `file:line: what` or `case: wanted .., got ..`,
+and last a line of counts."""
 import io
 import pathlib
 import shutil

@@ -1,10 +1,12 @@
 """Refuses each allocation of probe_memory, which makes each call of the library.
 
-It prints a line for each call, which says how many allocations that makes; before a call without any it makes one of its own,
-and one more after all calls. So it is known which line each refusal is for: that line says so, and all others are as with ample
-memory. A call that makes an allocation in secret gets a refusal that is for the next one's line.
+It prints a line for each call, which says how many allocations that makes; before a call without any it makes
+one of its own, and one more after all calls. So it is known which line each refusal is for: that line says
+so, and all others are as with ample memory. A call that makes an allocation in secret gets a refusal that is
+for the next one's line.
 
-First there is a run with ample memory. It makes as many allocations as its lines say, so none of the C library's is counted.
+First there is a run with ample memory. It makes as many allocations as its lines say, so none of the C
+library's is counted.
 """
 import itertools
 import re
@@ -26,7 +28,8 @@ BEGINNINGS = {mode: ["", *itertools.accumulate(piece[1:].decode().replace("\n", 
 
 
 def wrong_line(line, ample, left):
-    """What is wrong with the line of the call that was refused memory, or None. Each later refusal of a `fmt` leaves more."""
+    """What is wrong with the line of the call that was refused memory, or None. Each later refusal of a `fmt`
+    leaves more."""
     prefix, found = AMPLE.sub(r": want of memory, \1 allocations", ample), LEFT.match(line)
     if found and line.startswith(prefix + "; "):
         mode, text = found.groups()

@@ -1,8 +1,8 @@
-"""Refuses each allocation of ufmt_conv and of ufmt_lines on the inputs of tools/data/programs/refused.txt, and some more, which
-they don't make.
+"""Refuses each allocation of ufmt_conv and of ufmt_lines on the inputs of tools/data/programs/refused.txt,
+and some more, which they don't make.
 
-Some inputs show the allocations of line_lengths, which no other crate can call: its vector is made with the first number, of a
-line with or without a line feed, and grows for the fifth and the ninth.
+Some inputs show the allocations of line_lengths, which no other crate can call: its vector is made with the
+first number, of a line with or without a line feed, and grows for the fifth and the ninth.
 """
 from typing import NamedTuple
 
@@ -19,8 +19,8 @@ OUT_OF_MEMORY = 5
 
 
 class Case(NamedTuple):
-    """What a run is given, and with ample memory its status, its output and what is on standard error; how many allocations it
-    can't do without."""
+    """What a run is given, and with ample memory its status, its output and what is on standard error; how
+    many allocations it can't do without."""
 
     program: str
     words: list
@@ -39,8 +39,8 @@ def cases():
 
 
 def wrong_run(case, ended):
-    """What is wrong with a run in which an allocation was to be refused: it ends with want of memory and no output, or as with
-    ample memory."""
+    """What is wrong with a run in which an allocation was to be refused: it ends with want of memory and no
+    output, or as with ample memory."""
     is_wanted = ended[:3] == (OUT_OF_MEMORY, b"", case.program.encode() + b": out of memory\n")
     wrong = ended.fault((OUT_OF_MEMORY, case.status))
     if wrong or is_wanted or ended[:3] == (case.status, case.output, case.error):
@@ -49,7 +49,8 @@ def wrong_run(case, ended):
 
 
 def faults_of(case, ample, runs):
-    """What is wrong with a run with ample memory, and with those in which one allocation after another was refused."""
+    """What is wrong with a run with ample memory, and with those in which one allocation after another was
+    refused."""
     wrong, made = ample.fault([case.status]), case.allocations + ASKED_AGAIN
     if wrong or ample.counts.asked() != made:
         yield "with ample memory: %s" % (wrong or "wanted %d allocations, got %d" % (made, ample.counts.asked()))

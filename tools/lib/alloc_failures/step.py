@@ -1,10 +1,10 @@
 """Refuses one allocation after another, and looks at what each call then returns.
 
-It runs the built probe_memory, which makes each call of the library (calls.py), and the built ufmt_conv and ufmt_lines
-(programs.py). They are crates/NAME/out/NAME, as `rt ci` or `rt run` leave them. With each stands tools/lib/model/counter.c in the
-place of the C library's calls for memory: it refuses the Nth allocation or growth of a run, and counts them. No run may leave a
-block that is never freed, nor be killed. A read of freed memory finds other bytes, and a write past the end of a block ends the
-run.
+It runs the built probe_memory, which makes each call of the library (calls.py), and the built ufmt_conv and
+ufmt_lines (programs.py). They are crates/NAME/out/NAME, as `rt ci` or `rt run` leave them. With each stands
+tools/lib/model/counter.c in the place of the C library's calls for memory: it refuses the Nth allocation or
+growth of a run, and counts them. No run may leave a block that is never freed, nor be killed. A read of freed
+memory finds other bytes, and a write past the end of a block ends the run.
 """
 import pathlib
 import tempfile

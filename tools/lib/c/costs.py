@@ -1,8 +1,9 @@
 """Steps and stack of the library's calls.
 
-The steps of each call at a size and at twice that, and with options up to the largest number in small buffers (sized.py), have
-bounds by tools/data/measured/c.txt (tools/lib/measures.py): they are of the library that is built here. Each call takes at most
-so many bytes of stack on any input, by its machine code, and none recurses.
+The steps of each call at a size and at twice that, and with options up to the largest number in small buffers
+(sized.py), have bounds by tools/data/measured/c.txt (tools/lib/measures.py): they are of the library that is
+built here. Each call takes at most so many bytes of stack on any input, by its machine code, and none
+recurses.
 """
 import pathlib
 import re

@@ -6,9 +6,9 @@
 - `texts`: steps and memory of each call on a text of each shape, and of runs of ufmt_conv and ufmt_lines
 - `logs`: steps and memory of ufmt_lines on a log of each shape
 
-With `--write` it writes the tables in tools/data/measured again. What `costs`, `c` and `floats` count is built with nothing
-proved; `texts` and `logs` count the proved programs that `rt ci` leaves. It takes minutes. The status is 0 if each bound is in the
-band.
+With `--write` it writes the tables in tools/data/measured again. What `costs`, `c` and `floats` count is
+built with nothing proved; `texts` and `logs` count the proved programs that `rt ci` leaves. It takes minutes.
+The status is 0 if each bound is in the band.
 """
 import importlib
 
