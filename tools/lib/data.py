@@ -21,10 +21,6 @@ def parts(name):
     return found
 
 
-def words(name):
-    return {part: " ".join(rows).split() for part, rows in parts(name).items()}
-
-
 def named(name):
     """The texts of each row by the name before them, in each part. ` => ` stands between."""
     split = {part: [row.split(" => ") for row in rows] for part, rows in parts(name).items()}

@@ -1,5 +1,5 @@
-"""What a step found, in one form: a line for each fault, as `file:line: what` or `case: wanted .., got ..`, and last a line of
-counts."""
+"""What a step found, in one form: a line for each fault, as `file:line: what` or `case: wanted .., got ..`,
+and last a line of counts."""
 import io
 import pathlib
 import shutil
@@ -15,14 +15,7 @@ def case(name, wanted, got):
 
 
 def most(name, bound, got, what):
-    """A count that is past its bound."""
     return case(name, "at most %d %s" % (bound, what), got)
-
-
-def over(name, counts, allowed):
-    """A line with the first count that is more than allowed, by its name, or None."""
-    past = ((what, bound) for what, bound in allowed.items() if getattr(counts, what) > bound)
-    return next((most(name, bound, getattr(counts, what), what) for what, bound in past), None)
 
 
 def ended(faults, counts):

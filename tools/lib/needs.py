@@ -17,7 +17,6 @@ def missing(names):
 
 
 def told(name):
-    """A program that isn't there, with what brings it."""
     package = PACKAGES.get(name)
     return "no %s on the path (%s)" % (name, "Debian has it in %s" % package if package else "the Rattle kit has it")
 
@@ -36,5 +35,4 @@ def built(name):
 
 
 def processors():
-    """How many processors this process may use."""
     return len(os.sched_getaffinity(0))

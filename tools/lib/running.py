@@ -1,7 +1,7 @@
 """Commands that run beside each other, and end with this one.
 
-Each command is a process group of its own, so whatever it starts ends with it. When this process is interrupted, or ended by a
-signal, it ends them all.
+Each command is a process group of its own, so whatever it starts ends with it. When this process is
+interrupted, or ended by a signal, it ends them all.
 """
 import concurrent.futures
 import os
@@ -45,14 +45,14 @@ def heartbeat(name):
 
 
 def begun(words, **how):
-    """Starts a command as a process group of its own."""
     process = subprocess.Popen(words, start_new_session=True, **how)
     started.append(process)
     return process
 
 
 def lines_of(process):
-    """The lines that a process prints on the pipe of its standard output, and None for each minute in which none came."""
+    """The lines that a process prints on the pipe of its standard output, and None for each minute in which
+    none came."""
     left, pipe = b"", process.stdout.fileno()
     while True:
         if not select.select([pipe], [], [], SAY)[0]:
@@ -66,7 +66,8 @@ def lines_of(process):
 
 
 def output_of(words, seconds=None, **how):
-    """What a command prints. If it fails, or takes longer, this one ends with what it said; what valgrind said comes first."""
+    """What a command prints. If it fails, or takes longer, this one ends with what it said; what valgrind
+    said comes first."""
     words = [str(word) for word in words]
     how = how if "input" in how else {"stdin": subprocess.DEVNULL, **how}
     try:
@@ -85,7 +86,8 @@ def say(line):
 
 
 def side_by_side(jobs, most):
-    """Runs these jobs, so many at a time, and yields each when it has ended. Once a minute it says which are running."""
+    """Runs these jobs, so many at a time, and yields each when it has ended. Once a minute it says which are
+    running."""
     with concurrent.futures.ThreadPoolExecutor(most) as pool:
         left = {pool.submit(job.run): job for job in jobs}
         try:

@@ -40,7 +40,6 @@ def is_ours(crate):
 
 
 def libraries():
-    """The crates that others use, lowest first."""
     return [crate for crate in listed() if is_ours(crate) and crate != "ufmt_c" and (TOP / "crates" / crate / "src" / "lib.rt").is_file()]
 
 
@@ -56,7 +55,6 @@ def version():
 
 
 def commit():
-    """The commit of this tree, and whether files of it are changed. A tree without git has none."""
     if not (TOP / ".git").exists():
         return "unknown"
     head, changed = (output_of(["git", *words], cwd=TOP).strip() for words in (("rev-parse", "HEAD"), ("status", "--porcelain")))

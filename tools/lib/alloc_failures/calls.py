@@ -1,16 +1,17 @@
 """Refuses each allocation of probe_memory, which makes each call of the library.
 
-It prints a line for each call, which says how many allocations that makes; before a call without any it makes one of its own,
-and one more after all calls. So it is known which line each refusal is for: that line says so, and all others are as with ample
-memory. A call that makes an allocation in secret gets a refusal that is for the next one's line.
+It prints a line for each call, which says how many allocations that makes; before a call without any it makes
+one of its own, and one more after all calls. So it is known which line each refusal is for: that line says
+so, and all others are as with ample memory. A call that makes an allocation in secret gets a refusal that is
+for the next one's line.
 
-First there is a run with ample memory. It makes as many allocations as its lines say, so none of the C library's is counted.
+First there is a run with ample memory. It makes as many allocations as its lines say, so none of the C
+library's is counted.
 """
 import itertools
 import re
 
 from lib import needs
-from lib.alloc_failures import tried
 from lib.model.pieces import END, printed
 from lib.model.reading import MODES, document_of
 from lib.top import TOP
@@ -27,7 +28,8 @@ BEGINNINGS = {mode: ["", *itertools.accumulate(piece[1:].decode().replace("\n", 
 
 
 def wrong_line(line, ample, left):
-    """What is wrong with the line of the call that was refused memory, or None. Each later refusal of a `fmt` leaves more."""
+    """What is wrong with the line of the call that was refused memory, or None. Each later refusal of a `fmt`
+    leaves more."""
     prefix, found = AMPLE.sub(r": want of memory, \1 allocations", ample), LEFT.match(line)
     if found and line.startswith(prefix + "; "):
         mode, text = found.groups()
@@ -42,7 +44,7 @@ def faults_of(ample, order, runs):
     left = {}
     for number, (place, ended) in enumerate(zip(order, runs), 1):
         told, lines = "allocation %d of probe_memory refused" % number, ended.output.decode(errors="replace").splitlines()
-        wrong = tried.end_fault(ended, [0])
+        wrong = ended.fault([0])
         if wrong or ended.error or len(lines) != len(ample):
             yield "%s: %s" % (told, wrong or "%d lines, and on standard error %s" % (len(lines), ended.error[:80]))
             continue
@@ -59,13 +61,13 @@ def tried_calls(counter, pool):
     order = [place for place, line in enumerate(ample) for _ in range(int(AMPLE.search(line)[1]) or 1)]
 
     def run(number):
-        return counter.run_refused([program], b"0\n", "calls-%d" % number, number, tried.SECONDS)
+        return counter.run_refused([program], b"0\n", "calls-%d" % number, number)
 
     ended = run(0)
-    wrong = tried.end_fault(ended, [0])
+    wrong = ended.fault([0])
     if wrong or ended.output.decode(errors="replace").splitlines() != ample:
         return ["probe_memory with ample memory: %s" % (wrong or "another output than the file stdout has")], 1
-    if tried.asked(ended.counts) != len(order):
-        return ["probe_memory makes %d allocations, and its lines say %d" % (tried.asked(ended.counts), len(order))], 1
+    if ended.counts.asked() != len(order):
+        return ["probe_memory makes %d allocations, and its lines say %d" % (ended.counts.asked(), len(order))], 1
     found = faults_of(ample, order, pool.map(run, range(1, len(order) + 1)))
     return list(itertools.islice(found, MOST_FAULTS)), len(order)

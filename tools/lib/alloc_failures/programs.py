@@ -1,13 +1,12 @@
-"""Refuses each allocation of ufmt_conv and of ufmt_lines on the inputs of tools/data/programs/refused.txt, and some more, which
-they don't make.
+"""Refuses each allocation of ufmt_conv and of ufmt_lines on the inputs of tools/data/programs/refused.txt,
+and some more, which they don't make.
 
-Some inputs show the allocations of line_lengths, which no other crate can call: its vector is made with the first number, of a
-line with or without a line feed, and grows for the fifth and the ninth.
+Some inputs show the allocations of line_lengths, which no other crate can call: its vector is made with the
+first number, of a line with or without a line feed, and grows for the fifth and the ninth.
 """
 from typing import NamedTuple
 
 from lib import data, needs
-from lib.alloc_failures import tried
 from lib.programs.cases import filled
 from lib.programs.lines import TEXTS
 
@@ -20,8 +19,8 @@ OUT_OF_MEMORY = 5
 
 
 class Case(NamedTuple):
-    """What a run is given, and with ample memory its status, its output and what is on standard error; how many allocations it
-    can't do without."""
+    """What a run is given, and with ample memory its status, its output and what is on standard error; how
+    many allocations it can't do without."""
 
     program: str
     words: list
@@ -40,20 +39,21 @@ def cases():
 
 
 def wrong_run(case, ended):
-    """What is wrong with a run in which an allocation was to be refused: it ends with want of memory and no output, or as with
-    ample memory."""
+    """What is wrong with a run in which an allocation was to be refused: it ends with want of memory and no
+    output, or as with ample memory."""
     is_wanted = ended[:3] == (OUT_OF_MEMORY, b"", case.program.encode() + b": out of memory\n")
-    wrong = tried.end_fault(ended, (OUT_OF_MEMORY, case.status))
+    wrong = ended.fault((OUT_OF_MEMORY, case.status))
     if wrong or is_wanted or ended[:3] == (case.status, case.output, case.error):
         return wrong
     return "status %d, standard error %s, standard output %s" % (ended.status, ended.error[:80], ended.output[:80])
 
 
 def faults_of(case, ample, runs):
-    """What is wrong with a run with ample memory, and with those in which one allocation after another was refused."""
-    wrong, made = tried.end_fault(ample, [case.status]), case.allocations + ASKED_AGAIN
-    if wrong or tried.asked(ample.counts) != made:
-        yield "with ample memory: %s" % (wrong or "wanted %d allocations, got %d" % (made, tried.asked(ample.counts)))
+    """What is wrong with a run with ample memory, and with those in which one allocation after another was
+    refused."""
+    wrong, made = ample.fault([case.status]), case.allocations + ASKED_AGAIN
+    if wrong or ample.counts.asked() != made:
+        yield "with ample memory: %s" % (wrong or "wanted %d allocations, got %d" % (made, ample.counts.asked()))
     for number, ended in enumerate(runs, 1):
         wrong = wrong_run(case, ended)
         if wrong:
@@ -67,7 +67,7 @@ def tried_programs(counter, pool):
     """The faults of all cases, and how many runs and refusals there were."""
     def run(case, number):
         name = "%s-%d-%d" % (case.program, listed.index(case), number)
-        return counter.run_refused([needs.built(case.program), *case.words], case.text, name, number, tried.SECONDS)
+        return counter.run_refused([needs.built(case.program), *case.words], case.text, name, number)
 
     listed, faults, count, refusals = list(cases()), [], 0, 0
     for case in listed:

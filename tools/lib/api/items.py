@@ -29,7 +29,7 @@ def items_of(path, exports):
         at = function.line - 1
         if exports.has(function) and not is_hidden(lines, at) and (function.is_of_trait() or "pub" in function.before):
             group = function.owner_name() if function.owner else function.name
-            yield Item(group, not function.owner, function.name, shown(lines, at, signature(lines, at)))
+            yield Item(group, not function.owner, function.name, shown(lines, at, function.signature.split("\n")))
 
 
 def macros_of(paths, names):
@@ -72,18 +72,6 @@ def shown(lines, at, item):
     told = first_sentence(comment(lines, at))
     indent = len(lines[at]) - len(lines[at].lstrip())
     return "\n".join((["/// " + told] if told else []) + [line[indent:] for line in item])
-
-
-def signature(lines, at):
-    """The lines of a function up to its body, closed by a semicolon."""
-    found = []
-    for line in lines[at:]:
-        if line.strip() in ("{", "{}"):
-            break
-        found.append(re.sub(r" \{(?: *\})?$", "", line) if "ensures" not in line and "requires" not in line and "ghost" not in line else line)
-        if line.endswith((";", " {", "{}")) and found[-1] != line or line.endswith(";"):
-            break
-    return [*found[:-1], found[-1].rstrip(",;") + ";"]
 
 
 def declared(lines, at):

@@ -10,7 +10,6 @@ FEW, MANY = 1000, 3000
 
 
 def instructions(program, value):
-    """How many instructions a call takes, with the loop around it. A number of decimals may follow the value, after a colon."""
     number, _, decimals = value.partition(":")
     bits = b"%016x" % patterns.bits_of(number, 64) + (b" " + decimals.encode() if decimals else b"")
     few, many = (counted([program, "%x" % turns], bits)[0] for turns in (FEW, MANY))

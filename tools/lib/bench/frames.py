@@ -41,7 +41,6 @@ class Frame(NamedTuple):
 
 
 def symbols(program):
-    """The address of each function, by its name."""
     found = re.findall(r"(?m)^([0-9a-f]+) [tTwW] (.*)$", output_of(["nm", program]))
     return {name: int(address, 16) for address, name in found}
 

@@ -1,8 +1,8 @@
 """Counts the instructions that ufmt_lines takes for each byte of a log of each shape.
 
-The shapes are those of tools/lib/log_model/log_costs.py. Each log is counted at two sizes: the difference is what its bytes
-cost. A line has the shape, the mode, the instructions for a byte, and those that the table has, of which `x try logs` allows
-some more. A proved build takes some instructions more or less.
+The shapes are those of tools/lib/log_model/log_costs.py. Each log is counted at two sizes: the difference is
+what its bytes cost. A line has the shape, the mode, the instructions for a byte, and those that the table
+has, of which `x try logs` allows some more. A proved build takes some instructions more or less.
 """
 from lib import measures
 from lib.bench import build

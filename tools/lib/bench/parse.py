@@ -1,6 +1,5 @@
 """Instructions that parsing takes for each byte of a text and for each value, beside serde_json and ron, and the bytes of one
 more type that is parsed."""
-import subprocess
 import sys
 
 from lib.bench import build, values
@@ -54,12 +53,9 @@ def sizes(room):
         print("%-20s%9d%9d" % (told, one, both - one), flush=True)
 
 
-def table(room, given):
-    """Prints a line for each kind of values, and one for each kind of type. With a script, it calls that with the program in
-    place of its own counting."""
+def table(room, _given):
+    """Prints a line for each kind of values, and one for each kind of type."""
     program = build.over_copies(room, "parse", ["ufmt_parse"])
-    if given.script:
-        return subprocess.call([given.script, program])
     peer = room / "peers" / "parse" / "target" / "linked" / "parse"
     has_peer = cargo(room, "parse", "program", DEPENDENCIES, [], ["linked"])
     print("%-20s%18s%18s%18s" % ("instructions", "ours", "serde_json", "ron"))

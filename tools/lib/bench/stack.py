@@ -55,7 +55,6 @@ def past_bounds(room, programs):
 
 
 def within(name, taken, bounds):
-    """A line if a call's bytes of stack, or those of a level more, are past their bounds."""
     if any(count > bound for count, bound in zip(taken, bounds)):
         yield case(name, "at most %d bytes of stack, and %d a level" % tuple(bounds), "%d and %d" % tuple(taken))
 
@@ -65,7 +64,6 @@ def table(room, _given):
 
 
 def runs(words, text, size):
-    """Whether the program ends well with this much stack."""
     limit = functools.partial(resource.setrlimit, resource.RLIMIT_STACK, (size, size))
     ran = subprocess.run(["setarch", "-R", *words], input=text, stdout=subprocess.PIPE, stderr=subprocess.DEVNULL, preexec_fn=limit,
                          env={})

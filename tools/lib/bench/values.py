@@ -159,7 +159,6 @@ def of_kind(kind, size):
 
 
 def wide(random):
-    """A map of a list of numbers and a pair of them."""
     numbers = [random.below(10 ** (1 + random.below(8))) for _ in range(1 + random.below(7))]
     pair = (random.below(10 ** 5), random.below(10 ** 5))
     return {random.below(10 ** 6): numbers, random.below(10 ** 6): pair}
@@ -170,6 +169,5 @@ def short_text(random):
 
 
 def of_texts(random):
-    """A map of a list of texts and a pair with a character."""
     texts = [short_text(random) for _ in range(1 + random.below(4))]
     return {short_text(random): texts, short_text(random) + "2": (Char(random.of(("a", "'", "\u00e9"))), random.below(1000))}

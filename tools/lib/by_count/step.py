@@ -59,7 +59,6 @@ def wrapped(found):
 
 
 def written(name, counts, words):
-    """The file of a template, for these numbers of fields."""
     parts = re.sub(r"(?m)^# .*\n", "", (DATA / "by_count" / name).read_text(encoding="utf-8")).split("====\n")
     if len(parts) == 1:
         return filled(parts[0], counts[0], words).rstrip("\n") + "\n"

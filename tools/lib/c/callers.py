@@ -23,7 +23,6 @@ def callers(room, library, shared):
 
 
 def wrong(case, is_printed, ran):
-    """What is wrong with how a caller ended, which prints the text or says why it doesn't."""
     error = b"" if is_printed else b"not a text from byte %d on" % case.detail if case.text is None else b"%d bytes will do" % len(case.text)
     fits = ran.status == 0 and ran.output == case.text + b"\n" if is_printed else ran.status == 1 and not ran.output
     return None if fits and error in ran.error else "wanted %r, got %s" % (case.text if is_printed else error, ran)

@@ -1,8 +1,9 @@
 """Steps and stack of the library's calls.
 
-The steps of each call at a size and at twice that, and with options up to the largest number in small buffers (sized.py), have
-bounds by tools/data/measured/c.txt (tools/lib/measures.py): they are of the library that is built here. Each call takes at most
-so many bytes of stack on any input, by its machine code, and none recurses.
+The steps of each call at a size and at twice that, and with options up to the largest number in small buffers
+(sized.py), have bounds by tools/data/measured/c.txt (tools/lib/measures.py): they are of the library that is
+built here. Each call takes at most so many bytes of stack on any input, by its machine code, and none
+recurses.
 """
 import pathlib
 import re
@@ -38,7 +39,6 @@ def compared_steps(faults, program):
 
 
 def steps_of(program, name, asked):
-    """The steps of each call of the function of this name, by callgrind."""
     with tempfile.TemporaryDirectory() as folder:
         file = pathlib.Path(folder) / "steps"
         counting = ["--tool=callgrind", "--combine-dumps=yes", "--toggle-collect=" + name, "--dump-after=" + name]
@@ -48,7 +48,6 @@ def steps_of(program, name, asked):
 
 
 def stacks(faults, program):
-    """Compares the stack that each call takes at most, in the program's machine code, with its bound."""
     code, bounds = frames.Frames(program), measures.Table("stack").of("from C")
     for name in cases.CALLS:
         most, (bound, _) = code.most("ufmt_" + name), bounds.get(name, (0, 0))

@@ -52,7 +52,6 @@ def by_rust(faults, room, library, tried):
 
 
 def built(room, given):
-    """The library to try, and which functions of a C library it may need."""
     if given.proved:
         run(["rt", "lib"], cwd=CRATE, seconds=3600)
         return CRATE / "out" / "libufmt_c.a", ["memmove", "__udivti3"]

@@ -37,7 +37,6 @@ def public_of(crate):
 
 
 def listed():
-    """The names of each probe's calls."""
     printed = {probe: (CRATES / probe / "stdout").read_text() for probe in ("probe_memory", "probe_model")}
     of_memory = set(re.findall(r"^([\w:]+)", printed["probe_memory"], re.M))
     of_model = {name for path in sources("probe_model") for name in COUNTED.findall(path.read_text())}
@@ -63,7 +62,6 @@ def reasons():
 
 
 def wrong(reason, function, names):
-    """What the reason says of the function that isn't so."""
     for name, probe in NAMED.findall(reason):
         if name not in names[probe]:
             yield "%s lists no call `%s`" % (probe, name)

@@ -10,8 +10,7 @@ numbers each time. Without a NAME it measures all, one after another. The progra
 - `texts`, 6 minutes: instructions for each byte of a text that is converted, read, or printed in quotes.
 - `parse`, 6 minutes: instructions for each byte of a text, and for each value, of `ufmt_parse`, serde_json and ron; `one` is one call
   on a struct of two numbers. Then bytes of a program that parses one type, and how many more a second type takes. Columns of crates
-  that cargo can't build have `-`. SCRIPT counts in place of this tool: it is called with our program, which is called as
-  `PROGRAM KIND MODE parse`, or `none`, with a text on standard input.
+  that cargo can't build have `-`.
 - `floats`, 3 minutes: instructions of one `{:?}` of an `f64`, beside core::fmt and the kit's ryu, and of one `{:.N}`, as `21.5:2`.
 - `stack`, 4 minutes: bytes of stack that a call takes at most, and what a level more takes. The status is 1 if one is past its bound.
 - `lines`, a minute: instructions that ufmt_lines takes for each byte of a log of each shape. PROGRAM is another build of it.
@@ -31,7 +30,6 @@ NEEDED = {"calls": ("rt", "valgrind", "gcc", "readelf"), "texts": ("rt", "valgri
 def add_arguments(parser):
     add_names(parser, "NAME", NEEDED, ", ".join(NEEDED))
     parser.add_argument("--ufmt", type=pathlib.Path, metavar="FOLDER", help="calls: a checkout of ufmt 0.2.0")
-    parser.add_argument("--script", type=pathlib.Path, metavar="SCRIPT", help="parse: what counts")
     parser.add_argument("--program", type=pathlib.Path, metavar="PATH", help="lines: another build of ufmt_lines")
 
 

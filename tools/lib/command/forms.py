@@ -68,7 +68,6 @@ def make_room(room, forms):
 
 
 def page_faults(forms):
-    """Forms without an entry on the page, and entries without a form."""
     names = {form.name for form in forms}
     on_page = set(re.findall(r"\(forms/(\w+)\.(?:rt|antt)\.txt\)", PAGE.read_text()))
     yield from ("docs/forms/%s.rt.txt:1: docs/DECISIONS.md has no link to it" % name for name in sorted(names - on_page))

@@ -13,8 +13,10 @@ class Function:
     """The function at a word `fn`, with its `impl` or trait, the words before it, as `pub` and `const`, and its clauses."""
 
     def __init__(self, source, at, owner):
-        clauses = list(clauses_of(source, at))
+        clauses, body = clauses_of(source, at)
         self.path, self.line, self.owner, self.name = source.path, source.line(at + 1), owner, source.name(at + 1)
+        line = source.text.rfind("\n", 0, source.tokens[at].start) + 1
+        self.signature = source.text[line : source.tokens[body].start].rstrip().rstrip(",") + ";"
         self.before = words_before(source, at)
         self.clauses = {name for _, names, _, _ in clauses for name in names}
         self.identifiers = {token.name for _, _, start, end in clauses for token in source.tokens[start:end]}
@@ -25,7 +27,6 @@ class Function:
         return self.owner.startswith("trait")
 
     def owner_name(self):
-        """The name of the trait, or of the type that is implemented."""
         return type_name(self.owner)
 
 
@@ -54,12 +55,15 @@ def is_pub(source, at):
 
 
 def clauses_of(source, at):
-    """The clauses of the function at `at`, up to its body: the kind of each, its names, and where its tokens begin and end."""
+    """The clauses of the function at `at`: the kind of each, its names, and where its tokens begin and end; and where its
+    body begins."""
+    found = []
     while source.name(at) not in ("", "{", ";"):
         if source.name(at) in CLAUSES:
             brace = source.find(at, ["{"])
             end = source.tokens[brace].pair
-            yield source.name(at), [token.name for token in source.tokens[at + 1 : brace]], brace, end + 1
+            names = [token.name for token in source.tokens[at + 1 : brace]]
+            found.append((source.name(at), names, brace, end + 1))
             at = end
         elif source.name(at) == "ghost":
             # A parameter that only proofs have, with its type in braces.
@@ -67,6 +71,7 @@ def clauses_of(source, at):
         elif source.name(at) in ("(", "["):
             at = source.tokens[at].pair
         at += 1
+    return found, at
 
 
 def type_name(head):
@@ -97,7 +102,6 @@ class Exports:
         return len(self.names) + len(self.modules) > before
 
     def is_module(self, module):
-        """Whether the module is public as far as is known."""
         if not module:
             return True
         *outer, name = module

@@ -61,7 +61,6 @@ class Source:
         return self.tokens[at].name if 0 <= at < len(self.tokens) else ""
 
     def all(self, *names):
-        """The indices of the tokens of these names."""
         return [at for at, token in enumerate(self.tokens) if token.name in names]
 
     def is_word(self, at):

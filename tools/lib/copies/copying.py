@@ -72,7 +72,6 @@ class CratesTxt:
         self.rows = self.path.read_text().splitlines() if self.path.exists() else []
 
     def at(self, name):
-        """The place of a crate's line, or None."""
         return next((at for at, row in enumerate(self.rows) if re.match(r"%s(\s+\w+)?\s*:" % re.escape(name), row)), None)
 
     def below(self, name):
@@ -109,7 +108,6 @@ class Copies:
         return sorted(self.kept.lines)
 
     def older(self):
-        """Files that are as they were copied, and are different here now."""
         now = {file: path for crate in self.names() if crate in top.listed() for file, path in files_of(crate).items()}
         return [file for file, path in now.items() if (self.crates / file).is_file() and self.kept.is_ours(self.crates, file) and sum_of(path) != self.kept.sums[file]]
 
@@ -180,7 +178,6 @@ class Copies:
 
 
 def version():
-    """The version of all crates, and the commit."""
     return "%s, commit %s" % (top.version(), top.commit())
 
 

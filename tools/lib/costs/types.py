@@ -92,7 +92,6 @@ BY_SIZE = {
 
 
 def tuple_of(count):
-    """A tuple, one with a field more, and one whose last field is wrong."""
     fields = ["255", "true"] * count
     longer, wrong = fields[: count + 1], [*fields[: count - 1], "?"]
     texts = plainly(in_parentheses(fields[:count]), "(%s)" % ", ".join(longer), "(%s)" % ", ".join(wrong))
@@ -118,7 +117,6 @@ def implementations():
 
 
 def missing():
-    """A line for each implementation that no type here has."""
     found = implementations()
     if len(found) < 60:
         yield "only %d implementations of uParse are found" % len(found)

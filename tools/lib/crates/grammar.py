@@ -1,9 +1,10 @@
-"""Writes the tests of each form of each macro: every kind of piece in each place, and many numbers of fields, with and
-without the comma at the end. What is to be printed is written here, as core::fmt has it.
+"""Writes the tests of each form of each macro: every kind of piece in each place, and many numbers of fields,
+with and without the comma at the end. What is to be printed is written here, as core::fmt has it.
 
-Where the macros are called, `Result`, `Ok` and their like are names of other things, and what a macro names of the libraries
-has no name of its own. tools/data/crates/grammar has the file's head, the tests of enums, each kind of piece with its text, and
-the forms for each number of fields, where words in capitals stand for what depends on that number.
+Where the macros are called, `Result`, `Ok` and their like are names of other things, and what a macro names
+of the libraries has no name of its own. tools/data/crates/grammar has the file's head, the tests of enums,
+each kind of piece with its text, and the forms for each number of fields, where words in capitals stand for
+what depends on that number.
 """
 import re
 
@@ -92,7 +93,6 @@ def types(count):
 
 
 def parse_fields_tests(count):
-    """`parse_fields!` for so many fields, of texts that are right and texts that aren't."""
     template = (FOLDER / "parsed.rt.txt").read_text()
     for number, its in enumerate(commas(count), 1):
         yield filled(template, {**words_for(count, 101, *its), "NUMBER": str(number)})
@@ -108,7 +108,6 @@ def lines_of(kinds):
 
 
 def line(pieces, first):
-    """The pieces in a row, with a number of its own for each, and their text."""
     numbers = [[format(number, form) for form in ("d", "04x", "04o", "010b")] for number in range(first, first + len(pieces))]
     filled_in = [(source.format(*each), text.format(*each)) for each, (source, text) in zip(numbers, pieces)]
     return ", ".join(source for source, _ in filled_in), "".join(text for _, text in filled_in)

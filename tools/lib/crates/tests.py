@@ -40,14 +40,12 @@ def read(folder):
 
 
 def wanted_in(module, text):
-    """Each test with its message if it must fail, and else None."""
     for comment, name in TEST.findall(text):
         _, fails, message = "".join(line[3:] for line in comment.splitlines(True)).partition("fails:\n")
         yield (module, name), message.rstrip("\n") if fails else None
 
 
 def results_in(said):
-    """Each test that ran, with its message if it failed, and else None."""
     for module, name, verdict, lines in RESULT.findall(said):
         message = "\n".join(line[4:] for line in KILLED.sub("", lines).splitlines())
         yield (module, name), message if verdict == "FAILED" else None

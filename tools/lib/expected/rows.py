@@ -32,7 +32,8 @@ def row(name, first, *others):
 
 
 def reasons():
-    """What comes out of a row's plain and of its pretty text, by its name and a class. A line of another form ends the run."""
+    """What comes out of a row's plain and of its pretty text, by its name and a class. A line of another form
+    ends the run."""
     found, current = {}, None
     for line in (DATA / "reasons").read_text(encoding="utf-8").splitlines():
         if line.startswith(ENTRY):

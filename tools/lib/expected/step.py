@@ -1,12 +1,13 @@
-"""Reads what rustc printed of values of std, by the model, and compares what comes out with what rustc printed in the other
-mode, for each class of texts: token texts and debug texts.
+"""Reads what rustc printed of values of std, by the model, and compares what comes out with what rustc
+printed in the other mode, for each class of texts: token texts and debug texts.
 
-tools/expected/rows.txt has each value's text by `{:?}` and by `{:#?}`: tools/expected/print wrote it. In tools/expected/reasons
-each row that a class refuses, or that comes out as another text, has its reason. A row without a reason is a fault, and so is a
-reason without a row and one that no longer holds. The model refuses the texts of tools/data/texts/refused.txt.
+tools/expected/rows.txt has each value's text by `{:?}` and by `{:#?}`: tools/expected/print wrote it. In
+tools/expected/reasons each row that a class refuses, or that comes out as another text, has its reason. A row
+without a reason is a fault, and so is a reason without a row and one that no longer holds. The model refuses
+the texts of tools/data/texts/refused.txt.
 
-All these texts are passed to the built probe_model, which `rt ci` leaves in crates/probe_model/out, and what the calls of both
-classes say of them is compared with what the model says.
+All these texts are passed to the built probe_model, which `rt ci` leaves in crates/probe_model/out, and what
+the calls of both classes say of them is compared with what the model says.
 """
 import sys
 
@@ -26,7 +27,6 @@ SAME = ("same", "same")
 
 
 def outcomes(name, row):
-    """What comes out of a row's plain text and of its pretty text, in a class."""
     texts = row.plain, row.pretty
     found = [(converted(mode, name, text), other) for mode, text, other in zip(MODES, texts, texts[::-1])]
     return tuple("refused" if each is None else "same" if each == wanted else "another" for each, wanted in found)
@@ -54,7 +54,6 @@ def wrong_in_debug(row):
 
 
 def wrong_refused():
-    """The texts of no debug document that the model reads."""
     for text in debug_refused.texts():
         for mode in MODES:
             if converted(mode, "debug", text.decode("utf-8", "surrogateescape")) is not None:

@@ -6,7 +6,7 @@ from fractions import Fraction
 
 from lib import data
 
-HARD = data.words("floats/hard.txt")
+HARD = {part: " ".join(rows).split() for part, rows in data.parts("floats/hard.txt").items()}
 # By width: the bits of a significand without its leading one, and those of an exponent.
 FORMATS = {64: (52, 11), 32: (23, 8)}
 
@@ -22,7 +22,6 @@ def round_numbers():
 
 
 def bits_of(text, width):
-    """The bits of the float nearest to a decimal."""
     pair = {64: "<d<Q", 32: "<f<I"}[width]
     return struct.unpack(pair[2:], struct.pack(pair[:2], float(text)))[0]
 
@@ -73,7 +72,6 @@ def middles(width):
 
 
 def patterns(width, count, seed):
-    """Edges and hard cases with both signs, and `count` random patterns."""
     dice = random.Random(seed * 100 + width)
     sign = 1 << (width - 1)
     some = [*edges(width), *hard(width)]

@@ -34,7 +34,6 @@ def indent(line):
 
 
 def loop_at(lines, at):
-    """A loop with its body, by the indentation."""
     end = at + 1
     while end < len(lines) and (not lines[end] or indent(lines[end]) > indent(lines[at])):
         end += 1

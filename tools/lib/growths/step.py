@@ -33,7 +33,6 @@ def sources():
 
 
 def table():
-    """How often each line may be there, and its reason."""
     rows, reasons = collections.Counter(), {}
     for block in TABLE.read_text().split("\n\n")[1:]:
         reason, *lines = map(str.strip, block.strip("\n").split("\n"))
@@ -71,7 +70,6 @@ def wrong_places(texts, rows):
 
 
 def wrong_text(text, place, put, keeps):
-    """The source with the wrong body, or None if the place is nowhere in it."""
     word, _, name = place.partition(" ")
     found = re.search(PLACES[word].replace("%s", name) if word in PLACES else place, text, re.DOTALL)
     return found and text[: found.end() if keeps else found.start()] + put + text[found.end() :]

@@ -63,7 +63,6 @@ class Channel:
             raise OSError("sockets take %d bytes, less than the longest outputs (net.core.wmem_max)" % self.most())
 
     def most(self):
-        """How many bytes a message can have."""
         return self.ours.getsockopt(socket.SOL_SOCKET, socket.SO_SNDBUF) - 1000
 
     def close(self):

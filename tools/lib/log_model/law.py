@@ -15,7 +15,7 @@ from lib.log_model import log_model
 LIMITS = (0, 8, 40)
 NAMED, PIECES = ([data.data_of(row) for row in data.parts("logs/nasty.txt")[part]] for part in ("named", "pieces"))
 MARKED = data.DATA / "logs" / "five_formats.txt"
-WANTED, STAYS = ("\u00ab", "\u00bb"), ("\u2039", "\u203a")
+WANTED = "\u00ab", "\u00bb"
 MARK = re.compile("[\u00ab\u00bb\u2039\u203a]")
 
 
@@ -49,24 +49,20 @@ def faults(count, seed):
 
 
 def marked_lines():
-    """Each line without its marks, and the places of the values that are wanted, and of those that stay."""
-    lines = []
+    """Each line without its marks, and the places of the values that are wanted. What stays is marked for a reader."""
     for line in MARKED.read_bytes().decode().split("\n")[:-1]:
-        found, starts, at = {WANTED: [], STAYS: []}, [], 0
+        found, starts, at = [], [], 0
         for character in line:
-            kind = next((kind for kind in found if character in kind), None)
-            if kind is None:
-                at += 1
-            elif character == kind[0]:
+            if character == WANTED[0]:
                 starts.append(at)
-            else:
-                found[kind].append((starts.pop(), at))
-        lines.append((MARK.sub("", line), found[WANTED], found[STAYS]))
-    return lines
+            elif character == WANTED[1]:
+                found.append((starts.pop(), at))
+            at += not MARK.match(character)
+        yield MARK.sub("", line), found
 
 
 def marked_log():
-    return b"".join(line.encode() + b"\n" for line, _wanted, _stays in marked_lines())
+    return b"".join(line.encode() + b"\n" for line, _wanted in marked_lines())
 
 
 def is_same(line, value, wanted):
@@ -79,7 +75,7 @@ def wrong_marks():
     """What is wrong with the model: a value that is wanted and stays, another one that is laid out, or a log that doesn't come
     back; and how many values are wanted."""
     found, count = [], 0
-    for number, (line, wanted, _stays) in enumerate(marked_lines(), 1):
+    for number, (line, wanted) in enumerate(marked_lines(), 1):
         given = [(start, end) for start, end, other in log_model.values("pretty", line) if other is not None]
         count += len(wanted)
         if len(given) != len(wanted) or not all(map(is_same, [line] * len(given), given, wanted)):

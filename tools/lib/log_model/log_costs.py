@@ -1,8 +1,9 @@
-"""What a run of ufmt_lines costs on logs of each shape, beside what was measured in the past: tools/data/measured/logs.txt
-(tools/lib/measures.py).
+"""What a run of ufmt_lines costs on logs of each shape, beside what was measured in the past:
+tools/data/measured/logs.txt (tools/lib/measures.py).
 
-Steps are counted on a log of 32 KiB, less those of a run on no log: with one step more for each pair of bytes, each byte would
-cost 16,384 steps more. Memory, reads and writes are those of a log of 512 KiB: most of them hold a line or a group.
+Steps are counted on a log of 32 KiB, less those of a run on no log: with one step more for each pair of
+bytes, each byte would cost 16,384 steps more. Memory, reads and writes are those of a log of 512 KiB: most of
+them hold a line or a group.
 """
 import pathlib
 import tempfile
@@ -49,7 +50,6 @@ def in_a_row(first, piece, last, size):
 
 
 def indented():
-    """A list whose pretty text is nearly all indentation."""
     document = list_of(*["x"] * 60)
     for _ in range(60):
         document = list_of(document)
@@ -65,7 +65,6 @@ SHAPES = (
 
 
 def steps(counter, path, mode, log, name):
-    """The steps of a run on this log, by valgrind."""
     return counter.steps([path, *ARGUMENTS[mode]], log, name, seconds=SECONDS)[0]
 
 

@@ -25,7 +25,6 @@ class Maker:
         return int((most + 1) ** self.random.random())
 
     def text(self):
-        """The plain or pretty text of a document, which may be too deep."""
         document = self.documents.chain() if self.random.random() < 0.02 else self.documents.grown(self.size(50), 0)
         return self.random.choice((plain, pretty))(document).encode()
 
@@ -76,7 +75,6 @@ class Maker:
         return self.words() + self.text() + self.random.choice((b" ", b"  ", b", ", b"\r ")) + self.text()
 
     def log(self):
-        """A log of one to 100 entries that ends with or without a line feed."""
         return b"\n".join(self.entry() for _ in range(self.size(100))) + self.random.choice((b"", b"\n", b"\n\n", b"\r\n", b" "))
 
     def chunks(self, log):
@@ -97,12 +95,10 @@ class Maker:
 
 
 def whole(log):
-    """The longest chunks."""
     return [log[at : at + CHUNK] for at in range(0, len(log), CHUNK)]
 
 
 def each_byte():
-    """Lines with each byte before, in and after a text."""
     for byte in (bytes([code]) for code in range(256) if code != 10):
         yield from (byte, b"a" + byte + b"[1]", byte + b" [1]", b"[" + byte + b"]", b"[1]" + byte, b"[1] " + byte, b'a ["' + byte + b'"]')
         yield from (b"a " + byte + b"\n    1,\n]", b"a [\n" + byte + b"   1,\n]", b"a [\n    1," + byte + b"\n]", b"a [" + byte, b"b")

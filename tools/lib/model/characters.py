@@ -70,7 +70,6 @@ def no_utf_8():
 
 
 def scalars(each):
-    """Each character there is, so many in a row."""
     rows = ([*map(chr, filter(is_scalar, range(start, start + each)))] for start in range(0, 0x110000, each))
     return filter(None, rows)
 

@@ -1,5 +1,5 @@
-"""Compares what ufmt_conv and ufmt_lines take of steps, memory and calls of their devices with what was measured in the past:
-the rows of tools/data/measured/texts.txt."""
+"""Compares what ufmt_conv and ufmt_lines take of steps, memory and calls of their devices with what was
+measured in the past: the rows of tools/data/measured/texts.txt."""
 from concurrent.futures import ThreadPoolExecutor
 from typing import NamedTuple
 
@@ -29,7 +29,8 @@ class Run(NamedTuple):
 
 
 def conv_runs():
-    """Runs of ufmt_conv: on a list of each shape, on some shapes that are longer, and on lines of each length."""
+    """Runs of ufmt_conv: on a list of each shape, on some shapes that are longer, and on lines of each
+    length."""
     made = shapes.documents()
     few, many = (list_of(*(make(size) for make in made.values())) for size in (COUNTED_SIZE, 32 * COUNTED_SIZE))
     documents = {"a list of each shape": few, "a long list of each shape": many}
@@ -48,7 +49,8 @@ def conv_runs():
 
 
 def line_runs(is_plain):
-    """A run of ufmt_lines for each shape, on a group of lines, with its values in the other mode by the model of logs."""
+    """A run of ufmt_lines for each shape, on a group of lines, with its values in the other mode by the model
+    of logs."""
     name, mode = ("ufmt_lines --plain", "plain") if is_plain else ("ufmt_lines", "pretty")
     texts = {shape: (pretty if is_plain else plain)(make(4 * COUNTED_SIZE))
              for shape, make in {**shapes.documents(), **shapes.debug_documents()}.items()}
@@ -64,8 +66,8 @@ def line_runs(is_plain):
 
 
 def rows_of(counter, programs, run, nothing):
-    """What a run takes: memory, reads and writes, and if valgrind is there its steps, less those of a run on nothing; and what
-    is wrong with its output."""
+    """What a run takes: memory, reads and writes, and if valgrind is there its steps, less those of a run on
+    nothing; and what is wrong with its output."""
     words = [programs[run.program], *run.words]
     output, counts = counter.run(words, run.data, run.name, seconds=SECONDS)
     rows = {run.name: [(label, getattr(counts[0], label)) for label in LABELS]}
@@ -105,7 +107,6 @@ def in_one_log(counter, programs, is_plain):
 
 
 def faults_of(counter, programs, part):
-    """The faults of a part, and how many runs were counted."""
     rows, wrong = counted(counter, programs, part)
     wrong += measures.Table(MEASURED).faults(rows, is_whole=False)
     if part != "conv":
@@ -114,7 +115,8 @@ def faults_of(counter, programs, part):
 
 
 def short_reads():
-    """What is read in few bytes: of ufmt_conv one text, of ufmt_lines a line for each read, and a line or group of all."""
+    """What is read in few bytes: of ufmt_conv one text, of ufmt_lines a line for each read, and a line or
+    group of all."""
     yield Run("ufmt_conv pretty", "ufmt_conv", ("pretty",), plain(list_of(*["12345678"] * READS)).encode())
     for name, words in (("ufmt_lines", ()), ("ufmt_lines --plain", ("--plain",))):
         yield Run(name, "ufmt_lines", words, b"a line: 7\n" * READS)
@@ -133,7 +135,6 @@ def read_steps(counter, programs):
 
 
 def short_read_faults(counter, programs):
-    """The faults of runs in which each read takes few bytes, and how many were counted."""
     found = read_steps(counter, programs) if counter.valgrind else {}
     return list(measures.Table(MEASURED).faults(found, is_whole=False)), len(found)
 

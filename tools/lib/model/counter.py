@@ -9,6 +9,8 @@ from typing import NamedTuple, Optional
 from lib.top import TOP
 
 HERE = pathlib.Path(__file__).resolve().parent
+# A run in which an allocation is refused and that takes longer is a fault.
+SECONDS = 60
 CALLGRIND = ("--tool=callgrind", "--combine-dumps=yes", "--zero-before=counts_begin", "--dump-before=counts_end")
 
 
@@ -34,6 +36,10 @@ class Counts(NamedTuple):
     writes: int
     nanoseconds: int
 
+    def asked(self):
+        """How many allocations there were, each growth among them."""
+        return self.allocations + self.growths
+
 
 class Ended(NamedTuple):
     """How a run ended: its status, or None if it didn't end in time; what it wrote; and its counts, or None if it was killed."""
@@ -42,6 +48,14 @@ class Ended(NamedTuple):
     output: bytes
     error: bytes
     counts: Optional[Counts]
+
+    def fault(self, statuses):
+        """What is wrong with the end of a run that may have one of these statuses, or None."""
+        if self.status is None:
+            return "it doesn't end"
+        if self.status not in statuses or self.counts is None:
+            return "it ended with status %d: %s" % (self.status, self.error[:80])
+        return "%d blocks are never freed" % self.counts.left if self.counts.left else None
 
 
 class Counter:
@@ -58,11 +72,11 @@ class Counter:
         path = self.written(name, "counts")
         return self.ran(arguments, data, name, path, seconds, COUNTS_REFUSE=refused), counts_in(path)
 
-    def run_refused(self, arguments, data, name, number, seconds):
+    def run_refused(self, arguments, data, name, number):
         """Runs a program, and returns how it ended. Of the whole run, the allocation or growth of this number is refused, if it isn't 0."""
         path = self.written(name, "counts")
         try:
-            ran = self.ended(arguments, data, name, path, seconds, COUNTS_REFUSE=number, COUNTS_REFUSE_OF="run")
+            ran = self.ended(arguments, data, name, path, SECONDS, COUNTS_REFUSE=number, COUNTS_REFUSE_OF="run")
         except subprocess.TimeoutExpired:
             return Ended(None, b"", b"", None)
         counts = counts_in(path)
@@ -104,5 +118,4 @@ class Counter:
 
 
 def counts_in(path):
-    """The counts in each line of a file that the library wrote."""
     return [Counts(*map(int, line.split())) for line in path.read_text().splitlines()]

@@ -39,7 +39,6 @@ class Covering:
         return "()" if kind == "unit" else self.maker.word() if kind == "word" else self.maker.character()
 
     def kinds(self):
-        """A document of each kind, in any order."""
         documents = [self.of_kind(kind) for kind in BLOCKS + LEAVES]
         self.random.shuffle(documents)
         return documents
@@ -76,7 +75,6 @@ class Covering:
         yield from (self.maker.word(self.within(size)) for size in powers(16384))
 
     def text(self, length):
-        """A text in quotes whose leaf has this length."""
         return quoted("".join(self.random.choices("ab ,:[]{}()\u00e9\u20ac\U0001f980", k=max(length - 2, 0))))
 
     def entries(self):
@@ -140,7 +138,6 @@ class Covering:
         return self.nested(self.depths(-1) | {1}, lambda _depth: [self.maker.leaf() for _ in range(count - 1)], "key")
 
     def equals(self):
-        """Two equal entries, keys or names of fields, side by side and not."""
         for kind in BLOCKS:
             for names in ("aa", "aba", "baa", "abca", "aaa"):
                 entries = [(name, self.maker.leaf()) for name in names if kind in ("map", "struct")]
@@ -162,13 +159,11 @@ class DebugCovering(Covering):
         return self.leaves.of_shape("p" if kind == "debug word" else self.random.choice(("o", "wt", "cpc", "Ct")))
 
     def shapes(self):
-        """Leaves of each shape, and each character after a backslash."""
         for start in range(0, len(SHAPES), SHAPES_EACH):
             yield list_of(*map(self.leaves.of_shape, SHAPES[start : start + SHAPES_EACH]))
         yield from (list_of(*("b%s\\%s%s" % (quote, character, quote) for character in ESCAPED)) for quote in "\"'")
 
     def debug_places(self):
-        """Each kind in each place: alone, first, in the middle and last."""
         for kind in DEBUG_LEAVES + OPEN_STRUCTS:
             yield self.of_debug_kind(kind)
             for place in DEBUG_PLACES:
@@ -187,7 +182,6 @@ class DebugCovering(Covering):
         yield from (word("p", self.within(size)) for size in powers(4096))
 
     def counts(self):
-        """Leaves of so many pieces, and with so many colons."""
         sizes = self.sizes(EXACT_ENTRIES, 1024)
         yield list_of(*map(self.leaves.of_pieces, sizes))
         yield list_of(*(":" * size + self.leaves.of_shape("p") for size in sizes))
@@ -196,7 +190,6 @@ class DebugCovering(Covering):
         yield from ("a" + ":" * self.within(size) + "1.5" for size in (*powers(32768)[11:], 131072))
 
     def names(self):
-        """Structs, tuples and fields with names of each shape."""
         for letters in NAME_SHAPES:
             name = self.leaves.of_shape
             yield list_of(*(Block(kind, name(letters), [(name(letters), "1.5")]) for kind in STRUCTS))
@@ -213,7 +206,6 @@ class DebugCovering(Covering):
         yield self.spine(lambda depth: [self.of_debug_kind(kind) for kind in OPEN_STRUCTS if depth < DEEPEST or kind == "empty open struct"])
 
     def open_struct(self, count):
-        """A struct of so many fields that ends in dots."""
         return Block("open struct", self.maker.word(), [(self.maker.word(), self.maker.small()) for _ in range(count)])
 
     def open_structs(self):

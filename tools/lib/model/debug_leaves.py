@@ -41,7 +41,6 @@ def shape(leaf):
 
 
 def is_shape(letters):
-    """Whether a leaf that only debug documents have can have this shape."""
     if letters in ("w", "t", "c", "U") or any(letter in STARTS for letter in letters[1:]):
         return False
     pairs = [*zip(letters, letters[1:] + " ")]
@@ -108,7 +107,6 @@ class LeafMaker:
         return '"' + "".join(self.inside('"') for _ in range(length)) + '\\x"'
 
     def inside(self, quote):
-        """A character between these quotes, or a backslash and a character."""
         if self.random.random() < 0.4:
             return "\\" + self.random.choice(ESCAPED)
         character = characters.any_character(self.random)
@@ -130,13 +128,11 @@ class LeafMaker:
         return joined(self.piece(letter, self.random.randint(1, longest)) for letter in letters)
 
     def of_pieces(self, count):
-        """A leaf of so many pieces: words and texts in quotes in turn."""
         in_quotes = self.random.choice(QUOTES)
         letters = (in_quotes if (count - number) % 2 else WORDS[number % 3] for number in range(count))
         return joined(self.piece(letter, 1) for letter in letters)
 
     def of_length(self, kind, length):
-        """A leaf of so many characters: a word, or with quotes."""
         return self.word("p", length) if kind == "word" else 'b"' + "x" * (length - 3) + '"'
 
     def name(self, length):

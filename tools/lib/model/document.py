@@ -122,7 +122,6 @@ def unquoted(leaf):
 
 
 def depth_of(document):
-    """How deep blocks with entries are nested."""
     if isinstance(document, str) or not document.entries:
         return 0
     inside = [each for before, value in document.entries for each in ((before, value) if document.kind == "map" else (value,))]

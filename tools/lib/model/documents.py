@@ -75,7 +75,6 @@ class Maker:
         return self.text(self.up_to(self.longest) - 1) if form < 0.8 else self.character()
 
     def small(self):
-        """A short leaf, or an empty block."""
         return self.random.choice(SMALL)
 
     def long_leaf(self):
@@ -83,7 +82,6 @@ class Maker:
         return self.random.choice(self.long_leaves())(length)
 
     def long_leaves(self):
-        """What makes a leaf of a length."""
         return self.word, lambda length: quoted(self.random.choice(CHARACTERS) * length), self.text
 
     def empty(self):
@@ -114,12 +112,10 @@ class Maker:
         return Block("map", "", [self.pair(share, depth + 1) for share in shares])
 
     def pair(self, nodes, depth):
-        """A key and a value. Most often the key is a leaf."""
         inside = nodes - 1 if self.random.random() < 0.7 else self.random.randint(0, nodes - 1)
         return self.grown(nodes - 1 - inside, depth), self.grown(inside, depth)
 
     def deeper(self, place, document):
-        """A block that has the document in this place."""
         if place in ("key", "value"):
             return Block("map", "", [(document, self.leaf()) if place == "key" else (self.leaf(), document)])
         if place == "last of two":
@@ -168,7 +164,6 @@ class Maker:
         return old.join(pieces[:at]) + piece + old.join(pieces[at:])
 
     def noise(self):
-        """Bytes that are most often no text, and can be long."""
         length, form = self.up_to(100_000), self.random.randrange(4)
         if form < 2:
             return self.random.choice(self.pieces).encode() * length if form else self.characters(length).encode()

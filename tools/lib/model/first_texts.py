@@ -49,7 +49,6 @@ def changed():
 
 
 def too_deep(maker):
-    """In each place a chain that is almost too deep, and one that is."""
     for depth, place in itertools.product((DEEPEST - 1, DEEPEST, DEEPEST + 1), maker.places):
         document = "x"
         for _ in range(depth):

@@ -12,7 +12,6 @@ SECONDS = 60
 
 
 def listed(leaf, count):
-    """The plain and the pretty text of a list of equal leaves."""
     return "[%s]" % ", ".join([leaf] * count), "[\n%s]" % ("    %s,\n" % leaf * count)
 
 
@@ -65,7 +64,6 @@ def run_fault(program, arguments, data, wanted):
 
 
 def run_faults(programs, runs):
-    """The faults of the runs, and how many runs there were."""
     wrong, count = [], 0
     for count, (name, program, arguments, data, wanted) in enumerate(runs, 1):
         fault = run_fault(programs[program], arguments, data, wanted)

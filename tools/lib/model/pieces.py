@@ -42,12 +42,10 @@ def digest(data):
 
 
 def by_text(*pieces):
-    """Pieces that come by `write_str`."""
     return b"".join([b"t" + piece.encode() + END for piece in pieces])
 
 
 def by_character(*pieces):
-    """Pieces that come by `write_char`."""
     return b"".join(b"c" + piece.encode() + END for piece in pieces)
 
 
@@ -110,7 +108,6 @@ ZEROS = re.compile(r"(-?)(0*)([0-9]+)(?:(\.)(0*)([0-9]+))?")
 
 
 def with_zeros(text):
-    """The pieces of a number's text that may begin with zeros."""
     sign, zeros, digits, point, more_zeros, places = (part or "" for part in ZEROS.fullmatch(text).groups())
     before = by_text(*filter(None, [sign])) + by_character("0") * len(zeros) + by_text(digits)
     return before + (by_text(point) + by_character("0") * len(more_zeros) + by_text(places) if point else b"")

@@ -39,7 +39,6 @@ class Texts:
         self.ends = {}
 
     def line(self, blocks):
-        """What begins a line in so many blocks."""
         return b"    " * (blocks * self.is_pretty)
 
     def piece(self, piece, at, expected="Punctuation"):
@@ -107,12 +106,10 @@ class Texts:
             at += len(self.later(inner))
 
     def document(self, at, end, blocks):
-        """The document of a value with this text, in so many blocks."""
         return READERS[self.is_pretty].document_at(self.data[at:end].decode(), 0, blocks)[0]
 
 
 def stop(kind, texts):
-    """Where the text stops, and what is expected there. None if it is the text of a value."""
     try:
         end = kind.taken(texts, 0, 0)
     except Stop as found:

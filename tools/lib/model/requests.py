@@ -55,7 +55,6 @@ class Request(NamedTuple):
 
 
 def asked(data):
-    """The request that these bytes are."""
     line, payload = data[len(REQUEST_PREFIX) :].split(b"\n", 1)
     return Request(*map(int, line.split()), payload)
 
@@ -73,7 +72,6 @@ def filled(request, count):
 
 
 def in_column(request, text, pieces):
-    """The pieces of a value with this text, in the column."""
     missing = max(request.width - len(text), 0)
     before = (0, missing // 2, missing)[min(request.align, 2)]
     return filled(request, before) + pieces + filled(request, missing - before)
@@ -91,7 +89,6 @@ def padded(request, digits, letter="x"):
 
 
 def hexadecimal(request, number, bits, letter="x"):
-    """A number in the radix with this letter."""
     digits = format(number % 2**bits, letter)
     return padded(request, digits.upper() if request.upper_case else digits, letter)
 
@@ -205,7 +202,6 @@ COLLECTIONS = (*["[x, x, x]"] * 5, "{}", "{x}", "{x}", "{}", "{x: 7}", "{x: 7}")
 
 
 def with_leaf(document, leaf):
-    """The document with this leaf where it has `x`."""
     if isinstance(document, str):
         return leaf if document == "x" else document
     entries = [(leaf if before == "x" else before, with_leaf(value, leaf)) for before, value in document.entries]

@@ -25,7 +25,6 @@ def placed(place, document):
 
 
 def wide(place, value, size):
-    """A block with the value in this place in each entry."""
     block = placed(place, value)
     count = max(size // len(plain(block)), 2)
     if place in STRUCTS:
@@ -46,7 +45,6 @@ def deep(place, size):
 
 
 def deep_and_wide(place, size):
-    """A chain with leaves before and after each block."""
     document, depth = "x", 20
     leaves = placed(place, "x").entries * (size // depth // 16)
     for _ in range(depth):
@@ -72,7 +70,6 @@ def halved(size):
 
 
 def trees(size):
-    """A list of trees, each with one that has another and so on."""
     tree = TREE
     for number in range(20):
         tree = Block("struct", "Tree", [("size", str(number)), ("children", list_of(tree))])
@@ -88,23 +85,19 @@ def chain(size):
 
 
 def ordered_map(size):
-    """A map whose keys ascend."""
     return Block("map", "", [(quoted("%06d" % number), tuple_of("7", name="Some")) for number in range(size // 19)])
 
 
 def named(size, kind="struct"):
-    """A struct of this kind and a tuple with long names, and fields with long names."""
     fields = [("f" * (size // 16) + str(number), "x") for number in range(8)]
     return list_of(Block(kind, "S" * (size // 4), fields), tuple_of("x", name="T" * (size // 4)))
 
 
 def repeated(document, size):
-    """A list of as many of these as are of this size."""
     return list_of(*[document] * (size // (len(plain(document).encode()) + 2)))
 
 
 def numbers(size, *more):
-    """A set of numbers, and then more of them."""
     return Block("set", "", [(None, str(number)) for number in (*range(size // 6), *more)])
 
 

@@ -50,7 +50,6 @@ def parts(document, out):
 
 
 def text_of(document):
-    """The text of a leaf, without its quotes. None of a block."""
     if not isinstance(document, str):
         return None
     inside = unquoted(document)

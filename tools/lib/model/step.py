@@ -122,7 +122,6 @@ def result_of(job):
 
 
 def counted(meter, number):
-    """A message with what was counted."""
     if meter.library is None:
         return "%d costs counted: none of memory and steps, for want of a C compiler" % number
     return "%d costs counted, of memory%s" % (number, " and steps" if meter.valgrind else "; no steps, for want of valgrind")

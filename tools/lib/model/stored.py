@@ -13,7 +13,6 @@ sys.setrecursionlimit(20_000)
 
 
 def texts():
-    """The texts of the file stdin, each after a line with its length."""
     left = (FOLDER / "stdin").read_bytes()
     while left:
         size, left = left.split(b"\n", 1)

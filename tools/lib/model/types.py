@@ -12,7 +12,6 @@ from lib.model.values import Choice, Decimal, Fields, Float, Keyed, List, Number
 
 
 def integers():
-    """Each type of integers by its name."""
     for name, bits in (("8", 8), ("16", 16), ("32", 32), ("64", 64), ("128", 128), ("size", 64)):
         low, high = -(2 ** (bits - 1)), 2 ** (bits - 1)
         yield from {"u" + name: Number(0, 2 * high - 1), "i" + name: Number(low, high - 1)}.items()
@@ -37,7 +36,6 @@ GENERIC = {
 
 
 def listed(text):
-    """The types between commas."""
     depth, found = 0, [""]
     for sign in text:
         depth += (sign in "<([") - (sign in ">)]")
@@ -86,7 +84,6 @@ def judged(data, is_pretty):
 
 
 def fields(document, shapes):
-    """The fields of a document of one of these shapes, as the program prints them."""
     if not shapes:
         return ""
     texts = [] if isinstance(document, str) else [plain(value) for _name, value in document.entries]
@@ -118,12 +115,10 @@ def first_documents(random):
 
 
 def surely(kind, random):
-    """A value of the type."""
     while not values.has(kind, document := kind.made(random)):
         pass
     return document
 
 
 def made(random):
-    """A value of one of the types, or what is nearly one."""
     return random.choice(KINDS).made(random)

@@ -46,7 +46,6 @@ class Number:
         return random.choice(("-0", "00", "01", "-01", "-", "1_000", "0x1"))
 
     def sized(self, random):
-        """A number of the type with any number of digits."""
         size = 10 ** random.randrange(len(str(self.high)))
         return max(self.low, min(self.high, random.randrange(size, 10 * size)))
 
@@ -278,5 +277,4 @@ NODE.fields = Fields("struct", "Node", [("value", SIZE), ("next", option(NODE))]
 
 
 def has(kind, document):
-    """Whether a document is that of a value."""
     return stop(kind, Texts(plain(document).encode(), False)) is None

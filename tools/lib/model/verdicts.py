@@ -10,7 +10,6 @@ def digest(text):
 
 
 def said(add, document):
-    """What one of the calls says of a document."""
     out = []
     add(document, out)
     return digest("".join(out))
@@ -52,7 +51,6 @@ def half(text, documents, is_pretty, judged):
 
 
 def kinds(text_class, text):
-    """Whether the text is a leaf of the class, and whether it is a name of it."""
     found = text_class.leaf_at(text, 0)
     is_leaf = bool(found) and found[1] == len(text)
     return "yes" if is_leaf else "no", "yes" if is_leaf and text_class.is_name(text) else "no"
@@ -83,7 +81,6 @@ READ = {"pretty": "plain", "plain": "pretty"}
 
 
 def outcome(command, data):
-    """The status, standard output and standard error of ufmt_conv."""
     if command == "lengths":
         lines = data.removesuffix(b"\n").split(b"\n") if data else []
         return 0, "[%s]\n" % ", ".join(str(len(line)) for line in lines), ""

@@ -1,5 +1,5 @@
-"""Builds callers over the installed library: crates/ufmt_c/examples/convert.c by pkg-config, with the archive and with the
-shared library, and convert.rs by cargo with build.rs."""
+"""Builds callers over the installed library: crates/ufmt_c/examples/convert.c by pkg-config, with the archive
+and with the shared library, and convert.rs by cargo with build.rs."""
 import shlex
 import shutil
 import unittest

@@ -1,5 +1,6 @@
-"""Runs `x dist` where others stand in the place of its builds, which take minutes and are made by other steps: of the
-compiler's, the archive's and the kit. What is tried is what it asks of them, where it puts what they leave, and what it says."""
+"""Runs `x dist` where others stand in the place of its builds, which take minutes and are made by other
+steps: of the compiler's, the archive's and the kit. What is tried is what it asks of them, where it puts what
+they leave, and what it says."""
 import argparse
 import ast
 import contextlib
@@ -56,8 +57,8 @@ class Dists(Trial):
             self.assertIn("proved=%s\n" % word, (to / "lib" / "pkgconfig" / "ufmt_c.pc").read_text())
 
     def test_builds(self):
-        """Without --proved each program is built by its own sources and those below it, as fast code, in a folder that is
-        removed."""
+        """Without --proved each program is built by its own sources and those below it, as fast code, in a
+        folder that is removed."""
         asked, places = [], []
 
         def kept(place, made):
@@ -80,8 +81,8 @@ class Dists(Trial):
         self.assertEqual((3, False), (len(set(places)), any(place.exists() for place in places)))
 
     def test_proved_builds(self):
-        """With --proved each program is run by `rt`, and the library is made, in their crates and with no input. What these
-        leave is taken."""
+        """With --proved each program is run by `rt`, and the library is made, in their crates and with no
+        input. What these leave is taken."""
         said = run(["env", self.kit(KEEPING_KIT), sys.executable, "-c", PROVED % str(TOP / "tools")], b"an input")
         crates, words = TOP / "crates", {"ufmt_conv": "run -- lengths", "ufmt_lines": "run -- --version", "ufmt_c": "lib"}
         asked = (self.room / "kit" / "rt.asked").read_text().splitlines()
@@ -90,8 +91,8 @@ class Dists(Trial):
         self.assertEqual(" ".join(map(str, made)), said.output.decode().strip())
 
     def test_what_goes_wrong(self):
-        """A folder in use and a file stay as they are, and of a kit that doesn't prove a program or the library nothing is
-        left."""
+        """A folder in use and a file stay as they are, and of a kit that doesn't prove a program or the
+        library nothing is left."""
         full, to, spare = (self.room / name for name in ("full", "unbuilt", "spare"))
         full.mkdir()
         spare.mkdir()
@@ -107,8 +108,8 @@ class Dists(Trial):
             self.assertEqual(2, run([X, "dist", *words]).status)
 
     def test_the_library(self):
-        """The shared library's name for the loader, and what is seen of it if the archive has a function more. Programs can be
-        started, and links lead to the same file after the folder is moved."""
+        """The shared library's name for the loader, and what is seen of it if the archive has a function
+        more. Programs can be started, and links lead to the same file after the folder is moved."""
         source, compiled, more = (self.room / ("more." + end) for end in "coa")
         source.write_text(SHARED)
         shutil.copy(self.library, more)
@@ -125,8 +126,8 @@ class Dists(Trial):
 
     @unittest.skipIf(needs.missing(["git"]), "no git")
     def test_commits(self):
-        """Of a copy without git, of a tree, of one with a changed file, with a new one, of another tree of the same repository,
-        and of a folder in one."""
+        """Of a copy without git, of a tree, of one with a changed file, with a new one, of another tree of
+        the same repository, and of a folder in one."""
         tree, beside = self.room / "tree", self.room / "beside"
         (tree / "copy").mkdir(parents=True)
         git = ["git", "-C", tree, "-c", "user.name=trial", "-c", "user.email=trial@localhost"]

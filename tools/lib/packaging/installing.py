@@ -62,7 +62,6 @@ def remove(prefix, files):
 
 
 def uninstall(prefix):
-    """Removes the files that are listed, and leaves the folders."""
     if not listed(prefix):
         sys.exit("x uninstall: %s isn't there: nothing of ufmt is installed" % (prefix / FILES))
     remove(prefix, listed(prefix))

@@ -1,4 +1,5 @@
-"""Installs what `x dist` left, installs a second version over it, removes it, and tries the ways in which that goes wrong."""
+"""Installs what `x dist` left, installs a second version over it, removes it, and tries the ways in which
+that goes wrong."""
 import os
 import pathlib
 import shutil
@@ -34,7 +35,8 @@ class Installs(Trial):
         self.prefix = self.room / "a prefix"
 
     def x(self, command, *words, status=0, error=None, before=(), **variables):
-        """A command ends with this status, and says this on standard error, if that is told. Returns what it prints."""
+        """A command ends with this status, and says this on standard error, if that is told. Returns what it
+        prints."""
         ran = run(["env", "-C", self.room, *("%s=%s" % it for it in variables.items()), *before, X, command, *words])
         self.assertEqual((status, ran.error if error is None else error.encode()), (ran.status, ran.error))
         return ran.output
@@ -72,7 +74,8 @@ class Installs(Trial):
         self.has_all(self.prefix, 0o700)
 
     def test_an_upgrade(self):
-        """A second version replaces each file of the first: who has one of those open, or runs it, has it as before."""
+        """A second version replaces each file of the first: who has one of those open, or runs it, has it as
+        before."""
         first, second = (shutil.copytree(self.built, self.room / name, symlinks=True) for name in ("first", "second"))
         for path in second.rglob("*"):
             if path.is_file() and not path.is_symlink():
@@ -132,8 +135,8 @@ class Installs(Trial):
             self.x("install", *words, status=2)
 
     def test_what_is_removed(self):
-        """A file that can't be removed is a fault. What is listed is removed, as by a later version of the tool, and nothing
-        else; the folders stay."""
+        """A file that can't be removed is a fault. What is listed is removed, as by a later version of the
+        tool, and nothing else; the folders stay."""
         self.x("install", self.built, self.prefix)
         own, program, more = (self.prefix / "bin" / name for name in ("ufmt_own", "ufmt_conv", "ufmt_more"))
         own.write_text("mine")

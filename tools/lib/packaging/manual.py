@@ -1,8 +1,9 @@
 """Runs the installed programs, and compares their manual pages with them.
 
-Each page has the options or commands that the program's own usage has, and no other, with a text that begins as it is kept
-here; its statuses are those of the table in the crate's CALLING.md, in the same words, and its numbers those of the usage; its
-version is that of all and of the program; and `man`, if there is one, formats it without a warning.
+Each page has the options or commands that the program's own usage has, and no other, with a text that begins
+as it is kept here; its statuses are those of the table in the crate's CALLING.md, in the same words, and its
+numbers those of the usage; its version is that of all and of the program; and `man`, if there is one, formats
+it without a warning.
 """
 import re
 import shutil
@@ -31,8 +32,8 @@ def words_of_usage(text):
 
 
 def texts_of_page(page, section):
-    """The words that a section of the page has, each in bold after a line of `.TP`, with the text of each, a line without
-    fonts."""
+    """The words that a section of the page has, each in bold after a line of `.TP`, with the text of each, a
+    line without fonts."""
     parts = page.split(".SH %s\n" % section)[1].split(".SH ")[0].split(".TP\n")[1:]
     found = filter(None, (re.fullmatch(r'\.BI? (\S+)(?: " \w+")?\n(.*?)(?:\.PP\n.*)?', part, re.DOTALL) for part in parts))
     texts = {it[1]: " ".join(re.sub(r"(?m)^\.[BIR]+ ", "", it[2]).splitlines()) for it in found}

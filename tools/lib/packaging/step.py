@@ -1,9 +1,10 @@
 """Installs what `x dist` leaves, as a packager would.
 
-The programs are those in out/ of their crates, which `rt ci` built; the archive is built here with nothing proved. They are put
-into a folder, and from there installed into a prefix, each with a space in its name. There the programs run, their manual pages
-are compared with them, and callers of the library are built. Then come other prefixes, a second version over the first, and the
-ways in which an installation goes wrong; and `x dist`.
+The programs are those in out/ of their crates, which `rt ci` built; the archive is built here with nothing
+proved. They are put into a folder, and from there installed into a prefix, each with a space in its name.
+There the programs run, their manual pages are compared with them, and callers of the library are built. Then
+come other prefixes, a second version over the first, and the ways in which an installation goes wrong; and `x
+dist`.
 """
 import pathlib
 import tempfile

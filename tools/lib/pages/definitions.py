@@ -1,30 +1,26 @@
 """Compares "The definitions to trust" in docs/PROMISES.md with what its headline rests on.
 
-A promise names calls and definitions. It rests on each definition of specs/ in the clauses of these calls, on each that
-such a definition cites, and so on. The list of that section must have every one of the headline's, and nothing else of
-this repository. An item lists a file of specs/ whole, or `without` some of its definitions, or only those that it names. A call's
-name may have stars.
+A promise rests on each definition of specs/ in the clauses of its calls, on each that such a definition
+cites, and so on. The list of that section must have every one of the headline's, and nothing else of this
+repository. An item lists a file of specs/ whole, or `without` some of its definitions, or only those that it
+names.
 
-A fault is a name of the page that is nothing, a definition that isn't listed, or one that is listed and not cited. `x list
-definitions` first prints, for each list of promises, the definitions that these rest on beside the headline's, by file.
+A fault is a name of the page that is nothing, a definition that isn't listed, or one that is listed and not
+cited. `x list definitions` first prints, for each section of promises, the definitions that these rest on
+beside the headline's, by file.
 """
-import fnmatch
 import re
 
-from lib.contracts.functions import functions_of
 from lib.contracts.source import Source, closing
 from lib.findings import ended
 from lib.pages.items import PAGE, items_of, promises_of, section
+from lib.promises.page import Reader, defined
 from lib.top import TOP, is_ours
 
 CRATES = TOP / "crates"
+HEADLINE = "headline"
 IMPORT = re.compile(r"^\s*(?:ghost |pub )?use Rattle\.(\w+)\.specs\.([\w.]+)\.\{([^}]*)\}", re.M)
 BEGINS = re.compile(r"^ *(?:(?:abbrev|unfoldable|pub|inductive|data) )*(record )?([\w◌]\S*) ?(.*)$")
-# Words of the page that stand for many calls.
-MANY_CALLS = {
-    "each builder call": ("formatter/builder.rt", *("core/src/%s.rt" % name for name in "list set map structs tuple".split())),
-    "the calls of `layout`": ("core/src/layout.rt",),
-}
 
 
 def typed_name(line):
@@ -39,8 +35,8 @@ def typed_name(line):
 
 
 def definitions_of(text):
-    """The lines of each definition of a file of specs/, by the name to which its first line gives a type. A record has its
-    fields."""
+    """The lines of each definition of a file of specs/, by the name that its first line types. A record has
+    its fields."""
     found, fields, its = {}, None, []
     for line in re.sub(r"(?m)^\s*(?:--|pub use |use |pub mod |mod ).*|\s*--.*", "", text).split("\n"):
         name, is_record = typed_name(line)
@@ -73,21 +69,20 @@ def promised(pattern):
 
 
 class Tree:
-    """The definitions of specs/, each with its identifiers, and the calls of src/."""
+    """The definitions of specs/, each with its identifiers, and what each file brings in."""
 
     def __init__(self):
         files = [path for path in promised("*/specs/**/*.antt") if path.stem not in ("Lib", "Private")]
-        sources = promised("*/src/**/*.rt")
-        texts = {path: path.read_text() for path in files + sources}
+        self.sources = promised("*/src/**/*.rt")
+        texts = {path: path.read_text() for path in files + self.sources}
         self.definitions = {(path, name): set(re.findall(r"\w+", "\n".join(lines)))
                             for path in files for name, lines in definitions_of(texts[path]).items()}
         # The files with one path below specs/ of each crate.
         self.files = {}
         for path in files:
             self.files.setdefault("/".join(path.relative_to(CRATES).parts[2:]), []).append(path)
-        self.calls = [call for path in sources for call in functions_of(path)]
-        self.names = {name for _, name in self.definitions}.union(*(re.findall(r"\w+", text) for text in texts.values()))
         self.imports = {path: imports_of(text) for path, text in texts.items()}
+        self.words = set().union(*(re.findall(r"\w+", text) for text in texts.values()))
 
     def named(self, crate, file, name):
         """The definition that an import means: a crate may pass on a file of another."""
@@ -95,7 +90,6 @@ class Tree:
         return next(((path, name) for path in there if (path, name) in self.definitions), None)
 
     def cited(self, path, identifiers):
-        """The definitions that these identifiers mean in this file."""
         own = {(path, it) for it in identifiers if (path, it) in self.definitions}
         imports = self.imports[path]
         brought = {self.named(*imports[it]) for it in identifiers if (path, it) not in own and it in imports}
@@ -110,20 +104,12 @@ class Tree:
         return known
 
 
-def calls_named(tree, name, before):
-    """The calls that a name of the page means; `_texts` ends the name before it in another way."""
-    parts = name.split("::")
-    if name.startswith("_"):
-        stems = [before[:at] + name for at in range(len(before)) if before[at] == "_"]
-        return [call for call in tree.calls if call.name in stems]
-    found = [call for call in tree.calls if fnmatch.fnmatchcase(call.name, parts[-1])]
-    if len(parts) > 1:
-        found = [call for call in found if parts[-2] in call.owner or parts[-2] in call.path.with_suffix("").parts]
-    if not found:
-        found = [call for call in tree.calls if call.path.stem == parts[-1] and (len(parts) == 1 or parts[-2] in call.path.parts)]
-    # Each implementation gives the names in a trait's clauses a meaning of its own. What all of them rest on is named beside the
-    # call.
-    return [call for call in found if not call.is_of_trait() and " for " not in call.owner]
+def ghost_identifiers(path, wanted):
+    """The identifiers of the ghost values of a file's implementations, as of `seen`, where a clause has their
+    name."""
+    source = Source(path)
+    values = [at + 3 for at in source.all("ghost") if source.name(at + 1) in wanted and source.name(at + 2) == "="]
+    return {token.name for at in values for token in source.tokens[at : source.tokens[at].pair]}
 
 
 def is_private(key):
@@ -131,52 +117,21 @@ def is_private(key):
     return "Private" in key[0].parts
 
 
-def ghost_identifiers(path, wanted):
-    """The identifiers of the ghost values of a file's implementations, as of `seen`, where a clause has their name."""
-    source = Source(path)
-    values = [at + 3 for at in source.all("ghost") if source.name(at + 1) in wanted and source.name(at + 2) == "="]
-    return {token.name for at in values for token in source.tokens[at : source.tokens[at].pair]}
-
-
-def calls_in(tree, place):
-    """The calls that a promise's place means, its names that are no clause's, and those that are nothing."""
-    ends = tuple(file for words, files in MANY_CALLS.items() if words in place for file in files)
-    calls, names, unknown, before = [call for call in tree.calls if ends and str(call.path).endswith(ends)], [], [], ""
-    for name in re.findall(r"`([\w:*]+)`", place):
-        if any(name in call.clauses for call in calls):
-            continue
-        names.append(name)
-        found, last = calls_named(tree, name, before), name.split("::")[-1]
-        before = before if name.startswith("_") else last
-        calls += found
-        unknown += [name] if not found and last not in tree.names else []
-    return calls, names, unknown
-
-
-def rests_on(tree, places, is_near=lambda path: True):
-    """The definitions that the promises with these places rest on, and the names in them that are nothing.
-
-    A clause that has the name of a ghost value means those of implementations, in the files that are near.
-    """
-    found = [calls_in(tree, place) for place in places]
-    calls, names = [call for its, _, _ in found for call in its], {name for _, its, _ in found for name in its}
+def rests_on(tree, promises, is_near=lambda path: True):
+    """The definitions that these promises rest on. A clause that has the name of a ghost value means those of
+    implementations, in the files that are near."""
+    functions = [function for promise in promises for _, _, function in promise.functions]
+    # Each implementation gives the names in a trait's clauses a meaning of its own: of these only the definitions count.
+    calls = [call for call in functions if not call.is_of_trait() and " for " not in call.owner]
+    names = set().union(*map(defined, functions))
     keys = {key for key in tree.definitions if key[1] in names and not is_private(key)}
-    keys = keys.union(*(tree.cited(call.path, call.identifiers) for call in calls))
     identifiers = set().union(*(call.identifiers for call in calls))
-    for path in {call.path for call in tree.calls if is_near(call.path)}:
+    for call in calls:
+        keys |= tree.cited(call.path, call.identifiers)
+    for path in filter(is_near, tree.sources):
         values = tree.cited(path, ghost_identifiers(path, identifiers))
         keys |= values if not any(map(is_private, values)) else set()
-    return tree.closed(keys), [name for _, _, its in found for name in its]
-
-
-def places_in(text):
-    return [place for _, place in items_of(text)]
-
-
-def beside_files(text):
-    """For each file in the headline's list the names beside it, and whether the file is listed without these: with no name it is
-    listed whole."""
-    return {CRATES / file.strip("`"): (set(re.findall(r"`(\w+)`", words)), "without" in words or "`" not in words) for file, words in items_of(text)}
+    return tree.closed(keys)
 
 
 def faults_of(tree, keys, table):
@@ -192,26 +147,28 @@ def faults_of(tree, keys, table):
             yield "the headline: nothing rests on %s" % path.relative_to(CRATES)
 
 
-def show_others(tree, text, headline):
-    """The definitions that the promises of each list rest on, less those of the headline, by file."""
-    for part in text.split("\n### ")[1:]:
-        title, _, rest = part.partition("\n")
-        places, names = places_in(rest), {}
-        crates = {crate_of(call.path) for place in places for call in calls_in(tree, place)[0]}
-        for path, name in sorted(rests_on(tree, places, lambda path: crate_of(path) in crates)[0] - headline) if places else ():
+def show_others(tree, promises, headline):
+    """The definitions that the promises of each section rest on, less those of the headline, by file."""
+    for part in dict.fromkeys(promise.section for promise in promises):
+        its, names = [promise for promise in promises if promise.section == part], {}
+        crates = {crate for promise in its for crate, _, _ in promise.functions}
+        for path, name in sorted(rests_on(tree, its, lambda path: crate_of(path) in crates) - headline):
             names.setdefault(path, []).append(name)
-        if places:
-            rows = ["  %s: %s" % (path.relative_to(CRATES), ", ".join(its)) for path, its in names.items()]
-            print("\n".join([title, *rows, ""]))
+        print("\n".join([part, *("  %s: %s" % (path.relative_to(CRATES), ", ".join(of)) for path, of in names.items()), ""]))
 
 
 def main(arguments):
-    tree, page = Tree(), PAGE.read_text()
-    text = promises_of(page)
-    whole, unknown = rests_on(tree, places_in(text))
-    part, _ = rests_on(tree, places_in(section(text, "### The headline, by clause")))
+    tree, promises = Tree(), Reader().promises
+    whole = rests_on(tree, promises)
+    part = rests_on(tree, [promise for promise in promises if promise.section == HEADLINE])
     if arguments:
-        show_others(tree, text, part)
-    faults = ["there is no `%s`" % name for name in unknown]
-    faults += faults_of(tree, part, beside_files(section(page, "## The definitions to trust")))
-    return ended(["docs/PROMISES.md:1: " + fault for fault in faults], "%d definitions, %d of them of the headline" % (len(whole), len(part)))
+        show_others(tree, promises, part)
+    # For each file the names beside it, and whether it is listed without these: with no name it is listed whole.
+    listed = items_of(section(PAGE.read_text(), "## The definitions to trust"))
+    table = {CRATES / file.strip("`"): (set(re.findall(r"`(\w+)`", words)), "without" in words or "`" not in words)
+             for file, words in listed}
+    places = [place for _, place in items_of(promises_of(PAGE.read_text()))]
+    named = {name for place in places for name in re.findall(r"`([\w:]+)`", place) if not name.startswith("_")}
+    faults = ["there is no `%s`" % name for name in sorted(named) if name.split("::")[-1] not in tree.words]
+    faults = ["docs/PROMISES.md:1: " + fault for fault in (*faults, *faults_of(tree, part, table))]
+    return ended(faults, "%d definitions, %d of them of the headline" % (len(whole), len(part)))

@@ -14,7 +14,6 @@ def items_of(text):
 
 
 def section(text, title):
-    """A section, up to the next title of its level."""
     return re.search(r"(?ms)^%s\n.*?(?=^%s |\Z)" % (re.escape(title), title.split(" ")[0]), text)[0]
 
 

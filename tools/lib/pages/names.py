@@ -86,7 +86,6 @@ NAMED = {"links": (r"\]\(((?![^)\s]*://)[^)\s]+)\)", wrong_link),
 
 
 def lines():
-    """Each line of the pages, with its page and its place."""
     for page in (*pages(), TOP / "CONTRIBUTING.md", TOP / "tools" / "README.md"):
         for number, line in enumerate(page.read_text().split("\n"), 1):
             yield page, "%s:%d" % (page.relative_to(TOP), number), line

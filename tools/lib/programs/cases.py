@@ -68,7 +68,6 @@ class Cases:
         return filled(self.texts, column)
 
     def arguments(self, words):
-        """The words of a row, of which `WORD**N` is so many."""
         split = (re.fullmatch(r"(.*?)(?:\*\*(\d+))?", word) for word in words.split(" ")) if words != "-" else ()
         return [word for it in split for word in [self.filled(it[1])] * int(it[2] or 1)]
 
@@ -242,7 +241,6 @@ def taken(stream, size, seconds):
 
 
 def fed(stream, text, endless):
-    """Writes the text to a program that may end before it is written."""
     with contextlib.suppress(BrokenPipeError, ValueError):
         stream.write(text)
         while endless:

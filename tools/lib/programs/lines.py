@@ -1,7 +1,6 @@
 """Runs the built ufmt_lines as a shell would, and compares its status, standard output and standard error."""
 import os
 import pty
-import subprocess
 import threading
 import time
 import tty
@@ -14,8 +13,6 @@ HELP = (data.DATA / "programs" / "help.txt").read_bytes()
 USAGE = HELP.decode().split("\n")[0]
 # What the C library says of these failures.
 IS_GONE, IS_MISSING = "Input/output error (os error 5)", "No such file or directory (os error 2)"
-# The status of a program that SIGPIPE ends, as a shell has it.
-PIPE_STATUS = 141
 PLAIN, PRETTY = texts("node")
 # A line with a value of more than forty bytes, and the same made pretty.
 LONG = b"got [1, 12345678901234567890, 23456789012345678901]\n"
@@ -38,7 +35,6 @@ def cannot_read(name, reason):
 
 
 def bytes_of(shown):
-    """The bytes of a log that is shown as `cat -v` shows it."""
     return (data.DATA / "logs" / shown).read_bytes().replace(b"^[", b"\x1b").replace(b"^M", b"\r")
 
 
@@ -132,25 +128,8 @@ def terminals(cases):
     os.close(follower)
 
 
-def slow_reader_goes_away(cases):
-    """The reader goes away after the first output, while the producer is slow: the next output ends the run."""
-    process = cases.start([])
-    process.stdin.write(b"b\n")
-    process.stdin.flush()
-    first = process.stdout.readline()
-    process.stdout.close()
-    process.stdin.write(b"c\n")
-    process.stdin.flush()
-    try:
-        status = process.wait(20)
-    except subprocess.TimeoutExpired:
-        process.kill()
-        status = None
-    cases.judge("a reader that goes away between two lines", Ran(status, first, process.stderr.read()), PIPE_STATUS, b"b\n")
-
-
 def main(program):
     cases = Cases(program)
-    for part in (conversions, runs_of_table, file_names, named_pipe, each_byte, terminals, slow_reader_goes_away):
+    for part in (conversions, runs_of_table, file_names, named_pipe, each_byte, terminals):
         part(cases)
     return cases.end()

@@ -49,7 +49,6 @@ def short(name):
 
 
 def defined(function):
-    """The definitions of this repository that the clauses of a function name."""
     brought = {word.strip() for names in IMPORT.findall(function.path.read_text()) for word in names.split(",")}
     return {word for word in function.identifiers & brought if word[:1].isupper()}
 
@@ -74,12 +73,13 @@ class Reader:
         self.public = {crate: public_functions(TOP / "crates" / crate / "src") for crate in listed() if crate.startswith("ufmt")}
         for crate in self.public:
             for path in sources(TOP / "crates" / crate / "src"):
-                for line, text, below in comments(path):
-                    self.add(crate, path, "%s:%d" % (path.relative_to(TOP), line), text, below)
+                found = list(comments(path))
+                functions = {one.line: one for one in functions_of(path)} if found else {}
+                for line, text, below in found:
+                    self.add(crate, "%s:%d" % (path.relative_to(TOP), line), text, functions.get(below))
 
-    def add(self, crate, path, place, text, below):
+    def add(self, crate, place, text, function):
         found = COMMENT.fullmatch(text)
-        function = next((one for one in functions_of(path) if one.line == below), None)
         if not found or function is None:
             self.faults.append("%s: no promise as `Promise (section): text.` right above a function" % place)
             return
@@ -111,7 +111,6 @@ class Reader:
 
 
 def shown(reader, section):
-    """The promises of a section: by the order of crates, or of the headline by its parts."""
     edits = all_edits()
     told = [promise.shown(edits) for promise in reader.promises if promise.section == section]
     return sorted(told) if section == "headline" else told

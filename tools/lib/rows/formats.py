@@ -18,7 +18,6 @@ def text_of(pieces):
 
 
 def number(request, spec, kind, value):
-    """A number in the digits of a radix, or in decimal digits with zeros before them."""
     _fill, _align, _prefix, _zero, width, _decimals, letter = spec.groups()
     if letter in ("x", "X", "b", "o"):
         size = BITS.fullmatch(kind)[1]

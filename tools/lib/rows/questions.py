@@ -30,7 +30,6 @@ def or_nothing(found):
 
 
 def texts(words, cells):
-    """A plain text and a pretty text, which are converted to each other."""
     for mode, text, other in zip(MODES, cells, reversed(cells)):
         yield text, other, or_nothing(converted(mode, *words, text))
 
@@ -45,7 +44,6 @@ def stop(words, cells):
 
 
 def leaf(words, cells):
-    """A leaf, which is read in each place or in none."""
     for mode, around in AROUND:
         text = around.replace("%s", cells[0])
         yield text, " ".join(words[1:]), "is refused" if converted(mode, words[0], text) is None else "is read"
@@ -59,7 +57,6 @@ def beginnings(words, cells):
 
 
 def unended(words, cells):
-    """So many lists that open, and none that is closed."""
     count = int(cells[0])
     text = "[" * count if words[0] == "plain" else "".join("    " * blocks + "[\n" for blocks in range(count))
     yield text, "nothing", or_nothing(converted(*words, text))
@@ -76,13 +73,11 @@ def of_document(add):
 
 
 def shown(words, cells):
-    """What a document shows, or its field with a name: a leaf its text without quotes."""
     document = READERS["plain", words[0]].read(cells[0])
     yield cells[0], cells[-1], or_nothing(text_of(document) if len(cells) == 2 else field_text(document, cells[1]))
 
 
 def kind(_words, cells):
-    """Whether a text is a leaf and a name, in each class."""
     found = [("%s %s" % (text_class.name, what), holds) for text_class in (TOKEN, DEBUG)
              for what, holds in zip(("leaf", "name"), kinds(text_class, cells[0]))]
     yield cells[0], cells[1], ", ".join(what for what, holds in found if holds == "yes") or "nothing"

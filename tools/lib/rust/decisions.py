@@ -33,7 +33,6 @@ def check(crates, files):
 
 
 def structs_with_invariants(text):
-    """The name and the line of each public struct with a public field and a ghost field beside it."""
     for match in re.finditer(r"^pub struct (\w+)[^{;]*\{(.*?)^\}", text, re.M | re.S):
         if re.search(r"^    (pub )?ghost \w+:", match[2], re.M) and re.search(r"^    pub (?!ghost)", match[2], re.M):
             yield match[1], text.count("\n", 0, match.start()) + 1

@@ -17,7 +17,7 @@ PACKAGES = {
     "ufmt": (("ufmt_float", "ufmt_core", "ufmt_fixed", "ufmt_grammar"), "Formatting without core::fmt, exported from proved sources"),
 }
 # The packages of the sources' own tests, each with those that it stands on.
-OF_TESTS = {"rattle": (), "test_rows": ("rattle",), "example_print": ("rattle",), "ufmt_rows": ("rattle", "test_rows", "example_print")}
+OF_TESTS = {"rattle": (), "test_rows": ("rattle",), "example_print": ("rattle",), "ufmt_rows": ("rattle", "test_rows", "example_print", "ufmt_fixed", "ufmt_float")}
 # The file by which a folder is known that an earlier call wrote.
 MARK = "SUBSTITUTIONS.md"
 NAMES = ("proved", "nonzero", "encoded", "ending", "ending_mut", "within", "IsSome")

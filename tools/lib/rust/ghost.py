@@ -53,7 +53,6 @@ def remove_ghost(source, edits, at):
 
 
 def group_after(source, at):
-    """The index of the bracket that ends the group after the sign at `at`."""
     if source.name(at + 1) != "{":
         raise source.fault(at, "a ghost form without braces")
     return source.tokens[at + 1].pair

@@ -75,7 +75,6 @@ class Linker:
         return sorted(it for it in symbols if "panic" in it.lower() or "begin_unwind" in it) if symbols.issuperset(entries) else None
 
     def size(self, library, entry):
-        """How many bytes of code and constants the program has, or None."""
         made = self.link(library, entry)
         sections = r"\]\s+\.(?:text|rodata|data)\S*\s+\S+\s+\S+\s+\S+\s+([0-9a-f]+)"
         found = re.findall(sections, run(["readelf", "-SW", made]) or "") if made else None

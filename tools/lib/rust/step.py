@@ -86,7 +86,6 @@ class Trial:
         return None if self.cargo(*words, folder=folder, RUSTFLAGS=flags) is None else self.room / "target" / target / profile
 
     def library(self, name, source, profile, features, target=HOST, **form):
-        """The static library of this source over the package, or None."""
         made, kept = self.build(name, source, profile, features, target, **form), features.replace(",", "-") or "plain"
         return made and shutil.copy(made / ("lib%s.a" % name), self.room / ("%s-%s-%s.a" % (name, profile, kept)))
 
@@ -126,13 +125,11 @@ class Trial:
                 self.faults.append(findings.most(name, bound, size, "bytes"))
 
     def example(self):
-        """The example of README.md, in a folder beside the package, as a user has them."""
         folder = shutil.copytree(DATA / "example", self.room / "example")
         (self.room / "rust").symlink_to(self.package)
         self.cargo("run", "--quiet", folder=folder)
 
     def tool(self):
-        """The tool refuses its wrong sources, and the page has its table."""
         self.faults += wrong.faults(self.room)
         if table.of_page() not in (TOP / "docs" / "RUST.md").read_text():
             self.faults.append("docs/RUST.md:1: hasn't the table that `x rust --table` prints")
