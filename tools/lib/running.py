@@ -39,8 +39,11 @@ def heartbeat(name):
     """Says once a minute on standard error that this command is running."""
     since = time.monotonic()
     if INSIDE not in os.environ:
-        # A print might be interrupted by another one.
-        signal.signal(signal.SIGALRM, lambda _number, _frame: os.write(2, b"%s: running for %d min\n" % (name.encode(), (time.monotonic() - since) // 60)))
+        def told(_number, _frame):
+            # A print might be interrupted by another one.
+            os.write(2, b"%s: running for %d min\n" % (name.encode(), (time.monotonic() - since) // 60))
+
+        signal.signal(signal.SIGALRM, told)
         signal.setitimer(signal.ITIMER_REAL, SAY, SAY)
 
 

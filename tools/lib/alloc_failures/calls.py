@@ -22,9 +22,16 @@ AMPLE = re.compile(r": as with ample memory, (\d+) allocations.*$")
 # What a `fmt` leaves that was refused memory.
 LEFT = re.compile(r'fmt of a node, ([a-z]*): .*; is_pretty=false depth=0 text="(.*)"$')
 NODE = document_of("Node { value: 1, next: Some(Node { value: 0, next: None }) }")
-# The beginnings of the node's text, at the ends of pieces that a writer is passed. A line feed is \\n, as it is printed.
-BEGINNINGS = {mode: ["", *itertools.accumulate(piece[1:].decode().replace("\n", "\\n") for piece in
-                                               printed(NODE, mode == "pretty").split(END)[:-1])] for mode in MODES}
+
+
+def beginnings(mode):
+    """The beginnings of the node's text, at the ends of the pieces that a writer is passed, as they are printed."""
+    pieces = printed(NODE, mode == "pretty").split(END)[:-1]
+    shown = (piece[1:].decode().replace("\n", "\\n") for piece in pieces)
+    return ["", *itertools.accumulate(shown)]
+
+
+BEGINNINGS = {mode: beginnings(mode) for mode in MODES}
 
 
 def wrong_line(line, ample, left):
@@ -35,7 +42,8 @@ def wrong_line(line, ample, left):
         mode, text = found.groups()
         is_longer = len(text) > len(left.get(mode, "")) or mode not in left
         left[mode] = text
-        return None if text in BEGINNINGS[mode] and is_longer else "left a text that ends within a piece, or no longer one: %s" % line
+        is_right = text in BEGINNINGS[mode] and is_longer
+        return None if is_right else "left a text that ends within a piece, or no longer one: %s" % line
     return None if line == prefix else "wanted %s, got %s" % (prefix, line)
 
 

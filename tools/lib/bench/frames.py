@@ -1,11 +1,10 @@
 """How many bytes of stack the functions of a program take at most, from its machine code.
 
-LLVM moves the stack pointer only at the beginning and the end of a function, by an amount that the code states. So a call
-takes eight bytes for the return address, the function's frame, and what its own calls take. The most that a call takes on any
-input is the heaviest path through the calls. A path goes through no function twice: what a turn of a cycle adds is counted
-apart, as the bytes of a level. A function without calls may also use bytes below its frame, and these are counted. What is
-outside of the program, as the C library, isn't counted. Code that moves the stack pointer in another way, or that calls
-through a pointer, ends the run: then nothing is known.
+LLVM moves the stack pointer only at the beginning and the end of a function, by an amount that the code states. So a call takes
+eight bytes for the return address, the function's frame, and what its own calls take: on any input at most the heaviest path
+through the calls. A path goes through no function twice; what a turn of a cycle adds is counted apart, as the bytes of a level.
+What a function without calls uses below its frame is counted, and what is outside of the program isn't. Code that moves the stack
+pointer in another way, or that calls through a pointer, ends the run: then nothing is known.
 """
 import re
 import sys

@@ -14,6 +14,8 @@ from lib.expected import rows as expected_rows  # noqa: E402
 from lib.log_model import log_model  # noqa: E402
 from lib.model.document import plain, pretty  # noqa: E402
 from lib.model.reading import DEBUG, TOKEN, PlainReader, PrettyReader  # noqa: E402
+from lib.programs.cases import filled  # noqa: E402
+from lib.top import TOP
 
 NO_TEXT, FULL, NOT_UTF8, BAD_OPTION = -1, -2, -3, -4
 # What each call takes after its buffer, if it has one, and before `detail`. A struct has its name and its members' types, and
@@ -76,15 +78,15 @@ def style(name, *members):
     return (SIZES[name], *members)
 
 
-def arguments(call, words, has_sizes=False):
-    """The arguments that these words are. A struct has its size first, or gets it here."""
+def arguments(call, words, has_sizes=False, texts=()):
+    """The arguments that these words are, which may name texts. A struct has its size first, or gets it here."""
     left, found = iter(words), []
     for kind in CALLS[call]:
         if kind in STYLES:
             members = [int(next(left)) for _ in STYLES[kind][not has_sizes :]]
             found.append(tuple(members) if has_sizes else style(kind, *members))
         elif kind not in ("buffer", "number"):
-            found.append(tables.data_of(next(left)) if kind == "bytes" else int(next(left)))
+            found.append(filled(texts, next(left)) if kind == "bytes" else int(next(left)))
     if list(left):
         raise ValueError("a row of %s has more words: %s" % (call, words))
     return tuple(found)

@@ -52,7 +52,8 @@ def stacks(faults, program):
     for name in cases.CALLS:
         most, (bound, _) = code.most("ufmt_" + name), bounds.get(name, (0, 0))
         if most.size > bound or most.level:
-            faults.append(findings.most("ufmt_%s, %s" % (name, " > ".join(most.path)), bound, "%d and %d a level" % (most.size, most.level), "bytes of stack"))
+            told, found = "ufmt_%s, %s" % (name, " > ".join(most.path)), "%d and %d a level" % (most.size, most.level)
+            faults.append(findings.most(told, bound, found, "bytes of stack"))
 
 
 def measured_again(is_written):

@@ -1,9 +1,8 @@
-"""The header by each standard of C and C++, what it declares beside what the library exports, and how its structs are laid out:
-what callers are compiled against.
+"""The header by each standard of C and C++, what it declares beside what the library exports, and how its structs are laid out.
 
-tools/data/c/interface.txt has that: the lines of the header without its comments, and for each constant its value, for each
-struct and each of its members its place and its size, as gcc has them. A line that changes or goes may break a caller. Each call,
-each constant and each member of a struct has its comment.
+tools/data/c/interface.txt has the lines of the header without its comments, and for each constant its value, for each struct and
+each of its members its place and its size, as gcc has them: a line that changes or goes may break a caller. Each call, each constant
+and each member of a struct has its comment.
 """
 import pathlib
 import re

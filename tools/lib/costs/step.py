@@ -1,10 +1,9 @@
-"""Counts what each call takes that prints values of a size, at one and at twice that, and what parsing takes of each type with `uParse`,
-of texts that are right and texts that aren't.
+"""Counts what each call takes that prints values of a size, at one and at twice that, and what parsing takes of each type with
+`uParse`, of texts that are right and texts that aren't.
 
-The program tools/data/costs/costs.rt.txt is built over copies of the libraries, with nothing proved and little inlined. Each call
-of it is counted by itself: its steps, by valgrind, and its memory. Their bounds are by tools/data/measured/costs.txt
-(tools/lib/measures.py). Nothing may be left when a result was dropped. A type that is in no row of tools/data/costs/types.txt is
-a fault. Each text is parsed again for each allocation of it, which is refused: then there is no value, and nothing is left.
+The program tools/data/costs/costs.rt.txt is built with nothing proved and little inlined. The steps and the memory of each call have
+bounds by tools/data/measured/costs.txt. A type that is in no row of tools/data/costs/types.txt is a fault. Each text is parsed again
+for each allocation of it, which is refused: then there is no value, and nothing is left.
 """
 import pathlib
 import tempfile

@@ -1,10 +1,8 @@
-"""Laws of ufmt_lines, on the model.
+"""Laws of ufmt_lines, on the model: a log that `--plain` leaves as it is comes back after pretty and plain, for every limit, and
+cuts of groups change no output.
 
-A log that `--plain` leaves as it is comes back after pretty and plain, for every limit. Cuts of groups change no output.
-
-A log of 200 lines in five formats has its values marked: those that a reader wants laid out, and those that stay on purpose. The
-formats are a package manager's, tracing's, env_logger's, panics, and a program's own. A name is as long as it may be, so a value
-that is marked from its bracket's word on may begin before it, as in `lock=Package { .. }`.
+A log of 200 lines in five formats has its values marked: those that a reader wants laid out, and those that stay on purpose. A name
+is as long as it may be, so a value that is marked from its bracket's word on may begin before it, as in `lock=Package { .. }`.
 """
 import random
 import re

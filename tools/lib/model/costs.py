@@ -22,8 +22,8 @@ MEASURED = "texts"
 MEMORY = ("allocations", "bytes", "growths", "held", "most", "left")
 # A call of so many nanoseconds is quick, and so is one of so many for a step.
 SOME_TIME, NANOSECONDS = 10_000_000, 3
-# Steps are as the size of a text or at most so many times that, since the keys of a map are sorted.
-GROWTH = 2
+# Steps grow as the size of a text, or at most so many times that: a text that grows is copied, and keys are sorted.
+GROWTH = 3
 
 
 class Sample(NamedTuple):

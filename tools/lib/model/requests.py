@@ -1,23 +1,17 @@
-"""Values that no text makes: columns, hexadecimal texts, dumps, lines, and values of std's types. A request asks the
-program to print them to a writer that notes pieces. The rules are those of `pieces.py`, and these:
+"""Values that no text makes: columns, numbers with options, dumps, lines, and values of std's types. A request asks the program to
+print them to a writer that notes pieces. The rules are those of pieces.py, and these:
 
-A value in a column has the fills before it and after it. Spaces come by `write_str`, 64 in a piece and last what is left.
-Another fill comes by `write_char`, each in a piece of its own. A text without fills has no piece for them.
-
-A number in a radix is a prefix, if it has one, each pad byte by `write_char`, and the digits. Where the pad byte is a
-space, the prefix comes after the padding. A decimal number to a width is its sign, each zero by `write_char`, and the
-digits; with places, after these a point, and again zeros and digits. Python's own formats have these texts.
-
-A row of a dump is one piece if rows have at most 32 bytes. In a longer row the pieces are the zeros and the digits of the
-offset; `: `; each byte, with the space before it; spaces in place of the bytes that a last row doesn't have, once for
-each of their digits and once for the spaces between their groups; two spaces; the bytes as text; and the line feed.
-Spaces and the bytes as text come 64 in a piece, and last what is left.
-
-A number that fits is the bits of a float too, of 32 and of 64. The text of a float is one piece. With so many decimals it is written
-to a text first, and the program writes that as one piece.
-
-A range is its ends and dots between them. A mark of a line adds no pieces. What is between the items of a slice is a
-piece, also if it is empty.
+- Before and after a value in a column spaces come by `write_str`, 64 in a piece and last what is left; another fill comes by
+  `write_char`, each in a piece of its own.
+- A number in a radix is a prefix, if it has one, each pad byte by `write_char`, and the digits; a prefix comes after spaces. A
+  decimal number to a width is its sign, each zero by `write_char`, and the digits; with places, then a point, and again zeros and
+  digits.
+- A row of a dump is one piece if rows have at most 32 bytes. In a longer row the pieces are the zeros and the digits of the
+  offset; `: `; each byte, with the space before it; spaces in place of the bytes that a last row doesn't have, once for each of
+  their digits and once for the spaces between their groups; two spaces; the bytes as text, 64 in a piece; and the line feed.
+- A number that fits is the bits of a float too; the text of a float is one piece. With a number of decimals it is written to a
+  text first, and the program writes that as one piece. A range is its ends and dots between them. A
+  mark of a line adds no pieces. What is between the items of a slice is a piece, also if it is empty.
 """
 import re
 from decimal import Decimal

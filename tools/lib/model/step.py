@@ -48,15 +48,15 @@ def batches(texts):
     return list(filter(None, found))
 
 
-def wrong_lines(program, texts):
-    """The faults of a run of the program on these texts, and the cells that these fill."""
+def wrong_lines(program, texts, name=shown):
+    """The faults of a run of the program on these texts, which have names, and the cells that these fill."""
     lines, faults = cases.answers(program, texts)
     cells = set()
     for text, line in zip(texts, lines):
         wanted, found = verdicts.verdict(text)
         cells |= found
         if line != wanted:
-            faults.append(case(shown(text), wanted, line))
+            faults.append(case(name(text), wanted, line))
     return faults, cells
 
 

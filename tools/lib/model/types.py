@@ -56,7 +56,8 @@ def type_of(text):
     return GENERIC[name](*listed(parameters[:-1]))
 
 
-TYPES = {row[0]: type_of(row[2:]) for row in data.parts("texts/types.txt")["types"]}
+TABLES = data.parts("texts/types.txt")
+TYPES = {row[0]: type_of(row[2:]) for row in TABLES["types"]}
 NAMES = "abcdefghijkl"
 
 
@@ -95,10 +96,6 @@ def fields(document, shapes):
 
 NAMED = ("None", "Some", "Ok", "Err", "Maybe")
 SINGLE = ("1", "-129", "'a'", '"a"', "[]")
-KEYS = ("1, 2", "2, 1", "1, 1", "-1, 1", "-1, -2", "1, 128", '"a", "b"')
-TEXTS = ("0", "-0", "00", "-1", "01", "-01", "None", "Some", "true", "True", "Tree", "Node", "Tree { children: [], size: 1 }",
-         "Tree { size: 1, children: None }", "Node { value: 1, next: 1 }", '{"": Some(255), "a": Some(255)}', '{"b": Some(255), "a": Some(255)}', '{"a": Some(255), "a": Some(255)}',
-         '{"z": Some(255), "\u00e9": Some(255)}', '{"\u20ac": Some(255), "\U0001f980": Some(255)}')
 
 
 def first_documents(random):
@@ -108,9 +105,9 @@ def first_documents(random):
         yield kind.made(random)
     for low, high in sorted({(kind.low, kind.high) for kind in TYPES.values() if isinstance(kind, Number)}):
         yield from (str(number) for number in (low - 1, low, high, high + 1))
-    yield from map(document_of, TEXTS)
+    yield from map(document_of, TABLES["near values"])
     yield from (document_of(form % (name, value)) for name in NAMED for value in SINGLE for form in ("%s(%s)", "%s { value: %s }"))
-    for keys in KEYS:
+    for keys in TABLES["keys"]:
         yield from map(document_of, ("{%s}" % keys, "[%s]" % keys, "{%s: None}" % keys.replace(",", ": None,")))
 
 

@@ -100,7 +100,8 @@ class Tree:
         known, left = set(), set(keys)
         while left:
             known |= left
-            left = {cited for path, name in left for cited in self.cited(path, self.definitions[path, name] - {name})} - known
+            cited = (self.cited(path, self.definitions[path, name] - {name}) for path, name in left)
+            left = set().union(*cited) - known
         return known
 
 
@@ -154,7 +155,8 @@ def show_others(tree, promises, headline):
         crates = {crate for promise in its for crate, _, _ in promise.functions}
         for path, name in sorted(rests_on(tree, its, lambda path: crate_of(path) in crates) - headline):
             names.setdefault(path, []).append(name)
-        print("\n".join([part, *("  %s: %s" % (path.relative_to(CRATES), ", ".join(of)) for path, of in names.items()), ""]))
+        rows = ["  %s: %s" % (path.relative_to(CRATES), ", ".join(of)) for path, of in names.items()]
+        print("\n".join([part, *rows, ""]))
 
 
 def main(arguments):

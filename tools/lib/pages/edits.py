@@ -1,12 +1,9 @@
-"""Each promise of docs/PROMISES.md with the edits that guard it.
+"""Each promise of docs/PROMISES.md with the edits that guard it: wrong bodies that the check must refuse.
 
-An edit is a wrong body that the check must refuse. crates/CRATE/more-edits.txt has the crate's edits, an empty line between two:
-the edit's name, a line `guards:` for each promise that it guards, with the first words of the promise, and then `file:`, `old:`
-and `new:` as in a file of must-fail/. An edit without these three lines is in must-fail/NAME.edit, which the gate tries. `guards:
-none` and a reason stand for an edit that guards no promise.
-
-Each edit guards a promise that is there and is the only one with these first words, and the texts that it replaces stand once in
-its file; else that is a fault. `x list edits` prints each promise with its edits.
+crates/CRATE/more-edits.txt has the crate's edits, an empty line between two: the edit's name, a line `guards:` for each promise
+that it guards, with the promise's first words, or `guards: none` and a reason; and then `file:`, `old:` and `new:` as in a file of
+must-fail/. An edit without these three is in must-fail/NAME.edit, which the gate tries. An edit that guards no promise or two, and
+one that replaces a text that doesn't stand once in its file, is a fault. `x list edits` prints each promise with its edits.
 """
 import re
 

@@ -1,11 +1,8 @@
-"""Compares "What calls ask for" in docs/PROMISES.md with each `requires` of a public function.
+"""Compares "What calls ask for" in docs/PROMISES.md with each `requires` of a public function of the libraries and of the programs.
 
-The functions, methods and methods of traits are those that another crate can call, of the libraries and of the modules `run` of
-the two programs. The list of that section names each one that asks for something, and says after the colon for what. A name is
-the last words of the function's path, as `Parser::is_named`, and may have stars. A call that is in two items asks for both.
-
-A fault is a function that asks for something and isn't in the list, or a name in the list that is of no function, or of one
-that asks for nothing. `x list requires` prints each function with what it asks for.
+The list of that section names each one that asks for something, by the last words of its path, as `Parser::is_named`, which may have
+stars, and says after the colon for what. A fault is a function that asks for something and isn't in the list, or a name in the list
+that is of no function, or of one that asks for nothing. `x list requires` prints each function with what it asks for.
 """
 import fnmatch
 import re

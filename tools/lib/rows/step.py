@@ -8,8 +8,7 @@ import pathlib
 import sys
 
 from lib.findings import case, ended
-from lib.model import verdicts
-from lib.programs import cases
+from lib.model import step
 from lib.rows.questions import QUESTIONS
 from lib.rows.tables import rows
 from lib.top import TOP
@@ -31,12 +30,7 @@ def asked(row, faults):
 
 def wrong_lines(program, places):
     """The faults of a run of the program on these texts, each of which has the place of its row."""
-    lines, faults = cases.answers(program, list(places))
-    for (text, place), line in zip(places.items(), lines):
-        wanted = verdicts.verdict(text)[0]
-        if line != wanted:
-            faults.append(case(place, wanted, line))
-    return faults
+    return step.wrong_lines(program, list(places), places.get)[0]
 
 
 def main(given):
