@@ -15,7 +15,6 @@ from lib.log_model import log_model  # noqa: E402
 from lib.model.document import plain, pretty  # noqa: E402
 from lib.model.reading import DEBUG, TOKEN, PlainReader, PrettyReader  # noqa: E402
 from lib.programs.cases import filled  # noqa: E402
-from lib.top import TOP
 
 NO_TEXT, FULL, NOT_UTF8, BAD_OPTION = -1, -2, -3, -4
 # What each call takes after its buffer, if it has one, and before `detail`. A struct has its name and its members' types, and
