@@ -1,7 +1,7 @@
-"""Runs a program over devices that see each call.
+"""Runs a built program with sockets as its standard input, output and error.
 
-Standard input, output and error are sockets that keep messages apart: a read takes one, and a write sends one. So a run is a row
-of reads and writes, and each is compared with what it should be.
+Each read receives one message and each write sends one, so what is written after each read is compared with what a model says. At the
+end the reads and writes are counted.
 """
 import os
 import pathlib
@@ -9,7 +9,7 @@ import socket
 import subprocess
 from typing import NamedTuple, Optional
 
-# How many bytes of messages can wait in a socket, as asked for: Linux doubles that. The longest outputs have 270,000.
+# The size that is asked for of a socket's buffer. Linux doubles it. The longest outputs have 270,000 bytes.
 ROOM = 200_000
 LONGEST = 350_000
 # An output that doesn't come in this time is a fault.
@@ -17,7 +17,7 @@ SECONDS = 20
 
 
 class Ended(NamedTuple):
-    """The status of a run, and how many reads and writes it called. None if the system doesn't count them."""
+    """The status of a run, and how many reads and writes it made, each None if the system doesn't count them."""
 
     status: int
     reads: Optional[int]
@@ -27,7 +27,7 @@ class Ended(NamedTuple):
 class Program:
     def __init__(self, path):
         self.path = path
-        # How many reads are called before the program's own: what loads it reads its libraries.
+        # How many reads are made before the program's own, because the loader reads its libraries.
         self.loads = calls(subprocess.Popen([self.path, "no such word"], stdin=subprocess.DEVNULL, stderr=subprocess.DEVNULL))[0]
 
     def start(self, arguments, source, sink, error=subprocess.DEVNULL):
@@ -40,7 +40,7 @@ class Program:
 
 
 def calls(process):
-    """How many reads and writes a process called up to its end."""
+    """How many reads and writes a process made up to its end."""
     os.waitid(os.P_PID, process.pid, os.WEXITED | os.WNOWAIT)
     try:
         counts = dict(row.split(": ") for row in pathlib.Path("/proc/%d/io" % process.pid).read_text().splitlines())
@@ -52,7 +52,7 @@ def calls(process):
 
 
 class Channel:
-    """A socket, of which one end is a device of a program."""
+    """A pair of connected sockets: `theirs` is a standard stream of the program, and `ours` is our end."""
 
     def __init__(self):
         self.ours, self.theirs = socket.socketpair(socket.AF_UNIX, socket.SOCK_SEQPACKET)
@@ -60,7 +60,7 @@ class Channel:
             end.setsockopt(socket.SOL_SOCKET, socket.SO_SNDBUF, ROOM)
         self.ours.settimeout(SECONDS)
         if self.most() < LONGEST:
-            raise OSError("sockets take %d bytes, less than the longest outputs (net.core.wmem_max)" % self.most())
+            raise OSError("a socket's messages have at most %d bytes, fewer than the longest outputs need (net.core.wmem_max)" % self.most())
 
     def most(self):
         return self.ours.getsockopt(socket.SOL_SOCKET, socket.SO_SNDBUF) - 1000
@@ -71,7 +71,7 @@ class Channel:
 
 
 class Devices:
-    """The standard devices of a run. In a block of `with`, they are open."""
+    """The standard input, output and error of a run. `with` opens and closes them."""
 
     def __enter__(self):
         self.input, self.output, self.error = self.channels = Channel(), Channel(), Channel()
@@ -112,7 +112,7 @@ def wrong_round(devices, number, chunk, writes):
 
 
 def wrong_end(devices, program, process, wanted, line):
-    """What is wrong after the last write of a run that should end so, with this line on standard error."""
+    """What is wrong with the end of a run, or None. After its last write it should end as `wanted` says, with `line` on standard error."""
     rest, error, ended = devices.rest(devices.output), devices.rest(devices.error), program.ended(process)
     # Each line is one message: programs that share standard error don't mix theirs.
     if rest or error != line.splitlines(keepends=True) or ended.status != wanted.status:
@@ -124,7 +124,8 @@ def wrong_end(devices, program, process, wanted, line):
 
 
 def fault(program, arguments, chunks, rounds, status=0, line=b""):
-    """What is wrong with a run whose reads take these chunks, and which should write so after each. None if nothing is."""
+    """What is wrong with a run that reads these chunks, or None. `rounds` has what it should write after each chunk, and last after the end
+    of the input."""
     wanted = Ended(status, len(chunks) + 1, sum(map(len, rounds)))
     with Devices() as devices:
         process = devices.start(program, arguments)

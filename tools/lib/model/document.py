@@ -1,4 +1,5 @@
-"""Documents of the model: their layout in both modes, and their leaves in quotes."""
+"""The model's documents: a leaf is a `str`, and any other document is a Block. Here are their plain and pretty texts, and the leaves in
+quotes."""
 import functools
 import re
 from typing import NamedTuple
@@ -52,7 +53,7 @@ def pretty(document, depth=0):
 
 
 def is_single(block):
-    """Whether a comma comes after the only field in plain text."""
+    """Whether it is a tuple with one value and no name, which has a comma in plain text: `(1,)`."""
     return block.kind == "tuple" and block.name == "" and len(block.entries) == 1
 
 
@@ -87,7 +88,7 @@ def converted(document, is_pretty, depth=0, out=None):
     return out
 
 
-# ---- Quoted leaves. The first rule that fits a character is its only spelling.
+# ---- Quoted leaves. Each character has one spelling: the first rule in `spelled` that fits it.
 
 
 def spelled(character, quote):
@@ -111,10 +112,11 @@ QUOTED_CHARACTER = re.compile(r"'(?:[^'\\\x00-\x1f\x7f]|\\[0tnr\\']|" + CODE + r
 ESCAPE = re.compile(r"\\u\{([0-9a-f]+)\}|\\(.)")
 
 
-# Each type with such a leaf asks for its text.
+# Cached, because each type with such a leaf asks for the leaf's text.
 @functools.lru_cache(maxsize=64)
 def unquoted(leaf):
-    """The text between the quotes of a leaf, without escapes. None if a token document has no such leaf in quotes."""
+    """The text between the quotes of a leaf, with its escapes decoded. None if the leaf isn't a text or a character in quotes as a token
+    document has it."""
     if leaf[0] not in "\"'" or not (QUOTED_TEXT.fullmatch(leaf) or QUOTED_CHARACTER.fullmatch(leaf)):
         return None
     letters = {"0": "\0", "t": "\t", "n": "\n", "r": "\r"}
