@@ -15,7 +15,7 @@ def listed(leaf, count):
     return "[%s]" % ", ".join([leaf] * count), "[\n%s]" % ("    %s,\n" % leaf * count)
 
 
-# Each makes both texts of a document. Of those that the model judges the last has as many words as it can in a minute.
+# Each makes both texts of a document. The model judges a list of fewer words, in some minutes.
 DOCUMENTS = {
     "a long word": lambda: ("x" * SIZE,) * 2,
     "a long text": lambda: ('"%s"' % ("a" * SIZE),) * 2,
