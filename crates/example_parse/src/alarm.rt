@@ -9,7 +9,9 @@ mod tests;
 
 use std::alloc::Global;
 use ufmt::{Formatter, fields, uDebug, uWrite};
-use ufmt_parse::{Expected, Fault, ParseError, ParseMode, Parser, parse, parse_fields, prove_fields, uParse};
+use ufmt_parse::{
+    Expected, Fault, ParseError, ParseMode, Parser, parse, parse_fields, prove_fields, uParse,
+};
 
 /// What a node of a network reports.
 #[derive(Drop)]

@@ -8,7 +8,9 @@ ghost use Rattle.ufmt_parse.specs.Values.{is_i16, is_u8};
 mod tests;
 
 use ufmt::{Formatter, fields, uDebug, uWrite};
-use ufmt_parse::{Expected, Fault, ParseError, ParseMode, Parser, parse, parse_fields, prove_fields, uParse};
+use ufmt_parse::{
+    Expected, Fault, ParseError, ParseMode, Parser, parse, parse_fields, prove_fields, uParse,
+};
 
 /// Sets the level of a channel.
 #[derive(Clone, Copy, PartialEq, Eq, Debug, Drop)]

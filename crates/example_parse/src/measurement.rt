@@ -5,7 +5,9 @@ ghost use Rattle.ufmt.specs.ValueDocuments.{integer, named_struct, number};
 ghost use Rattle.ufmt_parse.specs.Values.{is_i32, is_u8};
 
 use ufmt::{Formatter, fields, uDebug, uWrite};
-use ufmt_parse::{Expected, Fault, ParseError, ParseMode, Parser, parse, parse_fields, prove_fields, uParse};
+use ufmt_parse::{
+    Expected, Fault, ParseError, ParseMode, Parser, parse, parse_fields, prove_fields, uParse,
+};
 
 /// What a sensor measured.
 #[derive(Clone, Copy, PartialEq, Eq, Debug, Drop)]

@@ -36,7 +36,15 @@ impl<A: Copy> uParse<A> for Switch {
     ghost is_value = { λ s. IfSome s.next is_u8 };
 
     fn prove_value(&self) {
-        prove_fields!(A, self, Switch { is_on, next, is_lit })
+        prove_fields!(
+            A,
+            self,
+            Switch {
+                is_on,
+                next,
+                is_lit
+            }
+        )
     }
 
     fn parse_from<M: ParseMode>(alloc: A, parser: &mut Parser<'_, M>) -> Result<Switch, Fault> {
