@@ -1,12 +1,12 @@
 -- The arguments after the program's name.
-use Rattle.std.specs.Prelude.{ℕ, ◌+◌, ◌-◌, ◌*◌, ◌^◌, ◌==◌, ◌&&◌, nat_le, nat_lt, if◌then◌else◌, Bool, true, false, List, [], ◌∷◌, ◌++◌, codes, length, slice_index_or, Option, Some, None, Result, Ok, Err}
+use Rattle.std.specs.Prelude.{ℕ, ◌+◌, ◌-◌, ◌*◌, ◌^◌, ◌==◌, ◌&&◌, ◌||◌, is_some, nat_le, nat_lt, if◌then◌else◌, Bool, true, false, List, [], ◌∷◌, ◌++◌, choose, codes, drop, length, slice_index_or, take, Option, Some, None, Result, Ok, Err}
 use Rattle.std.specs.Str.{bytes_eq}
 use Rattle.ufmt_core.specs.declared.layout.Mode.TheVariants.{Plain as ToPlain, Pretty as ToPretty}
 use Rattle.ufmt_lines.specs.declared.run.arguments.Mistake.{Mistake}
 use Rattle.ufmt_lines.specs.declared.run.arguments.Request.{Request}
 use Rattle.ufmt_lines.specs.declared.run.arguments.Request.TheVariants.{Convert, Help, Version}
 use Rattle.ufmt_lines.specs.declared.run.arguments.Word.{Word}
-use Rattle.ufmt_lines.specs.declared.run.arguments.Word.TheVariants.{File, Last, LongerThan, OfHelp, OfVersion, Plain, Unknown}
+use Rattle.ufmt_lines.specs.declared.run.arguments.Word.TheVariants.{File, Last, LongerThan, LongerThanIs, OfHelp, OfVersion, Plain, Unknown}
 
 -- an ASCII digit
 abbrev pub is_digit : ℕ → Bool
@@ -26,14 +26,22 @@ decimal_value (c ∷ t) = digits_value 0 (c ∷ t)
 abbrev pub is_option : List ℕ → Bool
 is_option word = nat_lt 1 (length word) && (slice_index_or word 0 0 == 45)
 
+-- the number that comes in the same word, after an equals sign
+abbrev pub limit_in : List ℕ → Option (List ℕ)
+limit_in word = if bytes_eq (take 14 word) (codes "--longer-than=") then Some (drop 14 word) else None
+
+abbrev pub number_in : List ℕ → List ℕ
+number_in word = choose (limit_in word) (λ number. number) []
+
 -- what a word is, if no word before it is `--`
 unfoldable pub word_of : List ℕ → Word
 word_of word =
     if bytes_eq word (codes "--plain") then Plain else
     if bytes_eq word (codes "--longer-than") then LongerThan else
-    if bytes_eq word (codes "--help") then OfHelp else
-    if bytes_eq word (codes "--version") then OfVersion else
+    if bytes_eq word (codes "--help") || bytes_eq word (codes "-h") then OfHelp else
+    if bytes_eq word (codes "--version") || bytes_eq word (codes "-V") then OfVersion else
     if bytes_eq word (codes "--") then Last else
+    if is_some (limit_in word) then LongerThanIs else
     if is_option word then Unknown else File
 
 -- texts of more bytes become pretty, if nothing else is said
@@ -61,6 +69,7 @@ asked_after false plain limit (word ∷ words) = elim (word_of word) [
   | File ↦ asked_after false plain limit words
   | Plain ↦ asked_after false true limit words
   | LongerThan ↦ asked_after true plain limit words
+  | LongerThanIs ↦ within (decimal_value (number_in word)) (number_in word) (λ n. asked_after false plain (Some n) words)
   | OfHelp ↦ Ok Help
   | OfVersion ↦ Ok Version
   | Last ↦ conversion_of plain limit
@@ -78,6 +87,7 @@ files_after true (number ∷ words) = files_after false words
 files_after false (word ∷ words) = elim (word_of word) [
   | File ↦ word ∷ files_after false words
   | LongerThan ↦ files_after true words
+  | LongerThanIs ↦ files_after false words
   | Last ↦ words
   | Plain ↦ files_after false words
   | OfHelp ↦ files_after false words

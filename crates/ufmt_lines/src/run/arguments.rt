@@ -1,6 +1,6 @@
 //! The arguments after the program's name.
-ghost use Rattle.std.specs.Prelude.{◌≡◌, ◌++◌, drop, false, map, string_bytes, Err, IfErr, IfOk, Ok, OnOk};
-ghost use Rattle.ufmt_lines.specs.Arguments.{asked_of, conversion_of, decimal_value, files_after, inputs_of, is_digit, is_option, line_of_mistake, word_of};
+ghost use Rattle.std.specs.Prelude.{◌≡◌, ◌++◌, drop, false, map, option_map, string_bytes, Err, IfErr, IfOk, Ok, OnOk};
+ghost use Rattle.ufmt_lines.specs.Arguments.{asked_of, conversion_of, decimal_value, files_after, inputs_of, is_digit, is_option, limit_in, line_of_mistake, number_in, word_of};
 
 use super::conversion::Conversion;
 use std::alloc::{AllocError, Global};
@@ -32,6 +32,8 @@ enum Word {
     File,
     Plain,
     LongerThan,
+    /// The same with its number, after an equals sign.
+    LongerThanIs,
     OfHelp,
     OfVersion,
     Last,
@@ -81,6 +83,13 @@ pub fn asked(words: &[String]) -> Result<Request, Mistake<'_>>
                     }
                 },
             },
+            Word::LongerThanIs => {
+                let number = number_in(word.as_str());
+                match decimal_value(number.as_bytes()) {
+                    None => return Err(wrong(NOT_A_NUMBER, number)),
+                    Some(bytes) => limit = Some(bytes),
+                }
+            }
             Word::OfHelp => return Ok(Request::Help),
             Word::OfVersion => return Ok(Request::Version),
             Word::Last => return conversion(is_plain, limit),
@@ -139,7 +148,7 @@ fn files<'a>(alloc: Global, words: &'a [String]) -> Result<Vec<&'a str>, AllocEr
                 push_all(&mut names, rest)?;
                 rest = &[];
             }
-            Word::Plain | Word::OfHelp | Word::OfVersion | Word::Unknown => {}
+            Word::Plain | Word::LongerThanIs | Word::OfHelp | Word::OfVersion | Word::Unknown => {}
         }
     }
     Ok(names)
@@ -173,12 +182,27 @@ fn word_of(word: &str) -> Word
     match word {
         "--plain" => Word::Plain,
         "--longer-than" => Word::LongerThan,
-        "--help" => Word::OfHelp,
-        "--version" => Word::OfVersion,
+        "--help" | "-h" => Word::OfHelp,
+        "--version" | "-V" => Word::OfVersion,
         "--" => Word::Last,
+        _ if limit_in(word).is_some() => Word::LongerThanIs,
         _ if is_option(word.as_bytes()) => Word::Unknown,
         _ => Word::File,
     }
+}
+
+// The number that comes in the same word, after an equals sign.
+fn limit_in(word: &str) -> Option<&str>
+    ensures { option_map (λ number. number.now) result ≡ limit_in word.now }
+{
+    word.strip_prefix("--longer-than=")
+}
+
+// The same, or an empty text.
+fn number_in(word: &str) -> &str
+    ensures { result.now ≡ number_in word.now }
+{
+    limit_in(word).unwrap_or("")
 }
 
 // Whether a word begins with a hyphen and has more.
