@@ -1,6 +1,7 @@
 //! The arguments after the program's name.
-ghost use Rattle.std.specs.Prelude.{◌≡◌, ◌++◌, drop, false, map, option_map, string_bytes, Err, IfErr, IfOk, Ok, OnOk};
-ghost use Rattle.ufmt_lines.specs.Arguments.{asked_of, conversion_of, decimal_value, files_after, inputs_of, is_digit, is_option, limit_in, line_of_mistake, number_in, word_of};
+ghost use Rattle.std.specs.Prelude.{◌≡◌, ◌++◌, drop, false, map, string_bytes, Err, IfErr, IfOk, Ok, OnOk};
+ghost use Rattle.ufmt_lines.specs.Arguments.{asked_of, conversion_of, decimal_value, files_after, inputs_of, is_digit, is_option, limit_in, line_of_mistake, or_nothing, word_of};
+ghost use Rattle.ufmt_scan.specs.Rest.{now_of};
 
 use super::conversion::Conversion;
 use std::alloc::{AllocError, Global};
@@ -83,13 +84,10 @@ pub fn asked(words: &[String]) -> Result<Request, Mistake<'_>>
                     }
                 },
             },
-            Word::LongerThanIs => {
-                let number = number_in(word.as_str());
-                match decimal_value(number.as_bytes()) {
-                    None => return Err(wrong(NOT_A_NUMBER, number)),
-                    Some(bytes) => limit = Some(bytes),
-                }
-            }
+            Word::LongerThanIs => match decimal_value(number_in(word.as_bytes())) {
+                None => return Err(wrong(NOT_A_NUMBER, word.as_str())),
+                Some(bytes) => limit = Some(bytes),
+            },
             Word::OfHelp => return Ok(Request::Help),
             Word::OfVersion => return Ok(Request::Version),
             Word::Last => return conversion(is_plain, limit),
@@ -182,27 +180,32 @@ fn word_of(word: &str) -> Word
     match word {
         "--plain" => Word::Plain,
         "--longer-than" => Word::LongerThan,
-        "--help" | "-h" => Word::OfHelp,
-        "--version" | "-V" => Word::OfVersion,
+        "--help" => Word::OfHelp,
+        "-h" => Word::OfHelp,
+        "--version" => Word::OfVersion,
+        "-V" => Word::OfVersion,
         "--" => Word::Last,
-        _ if limit_in(word).is_some() => Word::LongerThanIs,
+        _ if limit_in(word.as_bytes()).is_some() => Word::LongerThanIs,
         _ if is_option(word.as_bytes()) => Word::Unknown,
         _ => Word::File,
     }
 }
 
-// The number that comes in the same word, after an equals sign.
-fn limit_in(word: &str) -> Option<&str>
-    ensures { option_map (λ number. number.now) result ≡ limit_in word.now }
+// The number in the same word as its option, after an equals sign.
+fn limit_in(word: &[u8]) -> Option<&[u8]>
+    ensures { now_of result ≡ limit_in word.now }
 {
-    word.strip_prefix("--longer-than=")
+    word.strip_prefix(b"--longer-than=")
 }
 
-// The same, or an empty text.
-fn number_in(word: &str) -> &str
-    ensures { result.now ≡ number_in word.now }
+// The same, or nothing.
+fn number_in(word: &[u8]) -> &[u8]
+    ensures { result.now ≡ or_nothing (limit_in word.now) }
 {
-    limit_in(word).unwrap_or("")
+    match limit_in(word) {
+        Some(number) => number,
+        None => &[],
+    }
 }
 
 // Whether a word begins with a hyphen and has more.

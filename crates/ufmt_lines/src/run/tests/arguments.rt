@@ -133,9 +133,9 @@ const WRONG: [(&[&str], &str, &str); 23] = [
     (&["--longer-than", "--plain"], NOT_A_NUMBER, "--plain"),
     (&["--longer-than", "--", "7"], NOT_A_NUMBER, "--"),
     (&["--longer-than", "4 "], NOT_A_NUMBER, "4 "),
-    (&["--longer-than=", "7"], NOT_A_NUMBER, ""),
-    (&["--longer-than==7"], NOT_A_NUMBER, "=7"),
-    (&["--longer-than=4 "], NOT_A_NUMBER, "4 "),
+    (&["--longer-than=", "7"], NOT_A_NUMBER, "--longer-than="),
+    (&["--longer-than==7"], NOT_A_NUMBER, "--longer-than==7"),
+    (&["--longer-than=4 "], NOT_A_NUMBER, "--longer-than=4 "),
     (&["--longer-than", "-1"], NOT_A_NUMBER, "-1"),
     (&["--longer-than", "+1"], NOT_A_NUMBER, "+1"),
     (
