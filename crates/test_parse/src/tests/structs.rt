@@ -10,7 +10,8 @@ use std::alloc::Global;
 use ufmt::{Formatter, fields, uDebug, uWrite};
 use ufmt_parse::ParseError::NotText;
 use ufmt_parse::{
-    Expected, Fault, ParseError, ParseMode, Parser, parse_fields, parse_pretty, uParse,
+    Expected, Fault, ParseError, ParseMode, Parser, parse_fields, parse_pretty, prove_fields,
+    uParse,
 };
 
 /// Two truth values, each of which is one document or another.
@@ -97,9 +98,16 @@ impl<T: uParse<Global>> uParse<Global> for Entry<T> {
     ghost is_value = { λ e. is_u8 e.id × is_u64 e.time × T.is_value e.value };
 
     fn prove_value(&self) {
-        let _id = self.id;
-        let _time = self.time;
-        self.value.prove_value();
+        prove_fields!(
+            Global,
+            self,
+            Entry {
+                id,
+                time,
+                value,
+                ..
+            }
+        )
     }
 
     fn parse_from<M: ParseMode>(

@@ -9,7 +9,9 @@ ghost use Rattle.test_parse.specs.declared.tests.enums.shapes.Eight.TheVariants.
 use crate::tests::{first_other, same};
 use std::alloc::Global;
 use ufmt::{Formatter, fields, uDebug, uWrite, variants};
-use ufmt_parse::{Fault, ParseMode, Parser, parse, parse_fields, parse_variants, uParse};
+use ufmt_parse::{
+    Fault, ParseMode, Parser, parse, parse_fields, parse_variants, prove_variants, uParse,
+};
 
 /// Variants of each shape.
 #[derive(Clone, Copy, PartialEq, Eq, Debug, Drop)]
@@ -73,16 +75,7 @@ impl uParse<Global> for Signal {
     ] };
 
     fn prove_value(&self) {
-        match self {
-            Signal::A => {}
-            Signal::AB(level, on) => {
-                let _level = *level;
-                <Option<bool> as uParse<Global>>::prove_value(on);
-            }
-            Signal::ABC { level, .. } => {
-                let _level = *level;
-            }
-        }
+        prove_variants!(Global, self, Signal { A, AB(level, on), ABC { on, level, text } })
     }
 
     fn parse_from<M: ParseMode>(
