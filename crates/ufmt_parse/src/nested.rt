@@ -20,7 +20,8 @@ pub trait ParsesNested<A>: uDebug + ProvesValue + Drop {
     /// What holds of a value, if this fact holds of each value in it.
     ghost is_outer: { (Self → Type 0) → Self → Type 0 };
 
-    /// Parses a value from the front, and the values in it by `inner`, as `Each(inner)` or `Optional(Boxed(inner))`.
+    /// Parses a value from the front. `inner` parses the values in it: the parser of a field is `Each(inner)`, or
+    /// `Optional(Boxed(inner))`.
     fn parse_outer<M: ParseMode, P: ParsesBy<A, M, Self>>(
         alloc: A,
         parser: &mut Parser<'_, M>,
@@ -79,7 +80,7 @@ fn parse_outer_by<A: Copy, M: ParseMode, T: ParsesNested<A>, P: ParsesBy<A, M, T
     T::parse_outer(alloc, parser, inner)
 }
 
-// Parses by a function, as `By`. The function's last argument only names the type: the check wants it in an argument.
+// Parses by a function, as `By` does. The function's last argument only names the type: the check wants an argument that does.
 #[derive(Drop)]
 struct Level<F, T>(F, PhantomData<T>);
 
