@@ -1,16 +1,12 @@
--- What holds of nodes and trees, and their documents, by their fields.
+-- What holds of nodes, and their documents, by their fields.
 use Rattle.std.specs.Global.{Box}
 use Rattle.std.proofs.Common.{◌≡◌, ◌↔◌, refl, sym, ap, ◌∙◌, subst, Option, None, Some, [], ◌∷◌}
 use Rattle.std.specs.Prelude.{IfSome}
 use Rattle.ufmt.specs.Document.{Document}
 use Rattle.ufmt.specs.ValueDocuments.{named_struct, number, option_document}
 use Rattle.ufmt_parse.specs.Values.{is_u64}
-use Rattle.ufmt_parse.proofs.Layers.{all_map, same_holds}
-use Rattle.example_parse.specs.Nested.{is_node, node_step, is_tree, tree_step}
-use Rattle.example_parse.specs.declared.tree.Tree.{Tree, out-Tree}
-use Rattle.example_parse.specs.declared.tree.Tree.TheViews.{roll-Tree, roll-out-Tree}
-use Rattle.example_parse.specs.declared.tree.Tree.TheOpen.{Tree-F}
-use Rattle.example_parse.specs.declared.tree.Tree.TheFolds.{rec-roll-Tree}
+use Rattle.ufmt_parse.proofs.Layers.{same_holds}
+use Rattle.example_parse.specs.Nodes.{is_node, node_step}
 use Rattle.example_parse.specs.declared.node.Node.{Node, out-Node}
 use Rattle.example_parse.specs.declared.node.Node.TheViews.{roll-Node, roll-out-Node}
 use Rattle.example_parse.specs.declared.node.Node.TheOpen.{Node-F}
@@ -49,9 +45,3 @@ document_of n = ap (λ d. named_struct "Node" (("value", number (out-Node n).val
 pub document_made : (n : Node-F Node) → fields_document n ≡ node_document (roll-Node n)
 document_made n = ap (λ d. named_struct "Node" (("value", number n.value) ∷ ("next", d) ∷ [])) (next_document n.value n.next)
     ∙ sym (fold-roll-Node _ _ n)
-
-pub tree_made : (t : Tree-F Tree) → is_tree (roll-Tree t) ↔ tree_step Tree (λ x. x) is_tree t
-tree_made t = same_holds (rec-roll-Tree (Type 0) tree_step (λ X v P x. ap (λ C. is_u64 x.size × C) (all_map P v x.children.items)) t)
-
-pub tree_is : (t : Tree) → is_tree t ↔ tree_step Tree (λ x. x) is_tree (out-Tree t)
-tree_is t = subst (λ u. is_tree u ↔ tree_step Tree (λ x. x) is_tree (out-Tree t)) (roll-out-Tree t) (tree_made (out-Tree t))
