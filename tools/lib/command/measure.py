@@ -7,7 +7,7 @@
 - `logs`: steps and memory of ufmt_lines on a log of each shape
 
 With `--write` it writes the tables in tools/data/measured again. What `costs`, `c` and `floats` count is
-built with nothing proved; `texts` and `logs` count the proved programs that `rt ci` leaves. It takes minutes.
+built with nothing proved; `texts` and `logs` count the proved programs that `rt ci` leaves.
 The status is 0 if each bound is in the band.
 """
 import importlib
