@@ -1,4 +1,4 @@
-"""Measures again what calls take, and names each bound that isn't between 1.3 and 2 times that.
+"""Measures again what calls cost, and names each bound that isn't between 1.3 and 2 times that cost.
 
 - `costs`: steps and memory of each call that prints, at two sizes, and of parsing each type
 - `c`: steps of each call of the library for C, at two sizes and with options up to the largest number
