@@ -7,10 +7,7 @@ use super::asserts::{has_wanted_rows, same};
 use test_rows::printed::{Displayed, column};
 use test_rows::rows::Table;
 use test_rows::{put_rows, rows_of};
-use ufmt::{
-    Align, Fixed, Formatter, Full, laws, line_into, pieces, uDebug, uDisplayFixed, uWrite,
-    write_line,
-};
+use ufmt::{Align, Fixed, Formatter, Full, laws, line_into, pieces, uDebug, uWrite};
 use ufmt_fixed::ShortText;
 use ufmt_float::shortest;
 
@@ -27,43 +24,6 @@ impl uDebug for Sample {
     fn fmt<W: uWrite>(&self, f: &mut Formatter<W>) -> Result<(), W::Error> {
         ufmt::fields!(f, self, Sample { hectopascal })
     }
-}
-
-// Adds a row of the float with 0, 1, 2 and 5 decimals, and with 2 in three columns of 8. A bar is after each.
-fn put_decimals<X: uDisplayFixed>(table: &mut Table, x: &X) {
-    let mut row = String::new(table.alloc());
-    let (left, right) = (column(Align::Left, '*', 8), column(Align::Right, '*', 8));
-    let center = column(Align::Center, '*', 8);
-    let line = pieces!(
-        fixed x to 0, text "|", fixed x to 1, text "|", fixed x to 2, text "|", fixed x to 5, text "|",
-        fixed x to 2 in left, text "|", fixed x to 2 in center, text "|", fixed x to 2 in right, text "|"
-    );
-    match write_line(&mut row, &line) {
-        Ok(()) => table.put(row.as_str()),
-        Err(_) => table.put_nothing(),
-    }
-}
-
-// Of each number, by rustc: {:.0}|{:.1}|{:.2}|{:.5}|{:*<8.2}|{:*^8.2}|{:*>8.2}|
-#[test]
-fn floats_print_with_decimals_as_by_rustc(rt: HostRuntime) {
-    let mut table = Table::new(rt.alloc());
-    for (number, wanted) in rows_of![
-        0.0 => "0|0.0|0.00|0.00000|0.00****|**0.00**|****0.00|";
-        -0.001 => "-0|-0.0|-0.00|-0.00100|-0.00***|*-0.00**|***-0.00|";
-        0.125 => "0|0.1|0.12|0.12500|0.12****|**0.12**|****0.12|";
-        2.5 => "2|2.5|2.50|2.50000|2.50****|**2.50**|****2.50|";
-        -123456.789 => "-123457|-123456.8|-123456.79|-123456.78900|-123456.79|-123456.79|-123456.79|";
-        f64::NAN => "NaN|NaN|NaN|NaN|NaN*****|**NaN***|*****NaN|";
-        f64::NEG_INFINITY => "-inf|-inf|-inf|-inf|-inf****|**-inf**|****-inf|";
-        1e23 => "99999999999999991611392|99999999999999991611392.0|99999999999999991611392.00|99999999999999991611392.00000|99999999999999991611392.00|99999999999999991611392.00|99999999999999991611392.00|";
-    ] {
-        put_decimals(&mut table, &number);
-        table.wants(wanted);
-    }
-    put_decimals(&mut table, &&0.1f32);
-    table.wants("0|0.1|0.10|0.10000|0.10****|**0.10**|****0.10|");
-    has_wanted_rows(&rt, &table);
 }
 
 #[test]

@@ -1,5 +1,5 @@
 //! Tests of `fmt_hex` and `with_stuff`. Their pieces are the prefix, each byte of padding, and the
-//! digits or the payload.
+//! digits or the payload. Numbers of each width are rows of tools/data/rows.
 use super::asserts::{has_wanted_rows, same};
 use std::num::{NonZeroI16, NonZeroU8, Saturating, Wrapping};
 use test_rows::printed::{Hexadecimal, Payload, print_to};
@@ -65,21 +65,6 @@ impl HexadecimalRows for Table {
         let ((outcome, ..), cursor) = print_to(false, &number, Cursor::new(&mut buffer));
         self.put_written(outcome, cursor.remaining(), cursor.written());
     }
-}
-
-#[test]
-fn fmt_hex_prints_numbers_of_each_width(rt: HostRuntime) {
-    let mut table = Table::new(rt.alloc());
-    put_rows!(table;
-        hexadecimal(i8::MIN) => "80|";
-        hexadecimal(i16::MIN) => "8000|";
-        hexadecimal(i32::MIN) => "80000000|";
-        hexadecimal(i64::MIN) => "8000000000000000|";
-        hexadecimal(isize::MIN) => "8000000000000000|";
-        hexadecimal(i128::MIN) => "80000000000000000000000000000000|";
-        hexadecimal(u128::MAX) => "ffffffffffffffffffffffffffffffff|";
-    );
-    has_wanted_rows(&rt, &table);
 }
 
 #[test]

@@ -1,7 +1,6 @@
 //! Tests of what `uwrite!` and `uwriteln!` pass to the writer. What they evaluate is tested in `test_print`.
 use super::asserts::{has_wanted_rows, same};
 use example_print::log_valve;
-use std::test::Fail;
 use test_rows::printed::{PREFIXED, Printed};
 use test_rows::rows::Table;
 use test_rows::{put_filled, put_rows, rows_of};
@@ -43,11 +42,11 @@ impl Printed for Written {
             Written::LineFeedLast => laws::line_feed_comes_last(f, "n=", &7i32, &(1i32,)),
             Written::HexadecimalFirst =>
                 uwrite!(f, hex 1u8 with PREFIXED, text "ab", hex (2u8) with PREFIXED, display 3u8, hex 4u8 with PREFIXED, debug 5u8, hex 6u8 with PREFIXED, pretty 7u8, hex 8u8 with PREFIXED, hex 9u8 with PREFIXED),
-            Written::HexadecimalInALine => uwriteln!(f, text "a", hex 1u8 with PREFIXED, text "b"),
+            Written::HexadecimalInALine => uwriteln!(f, text "a", hex 1u8 with PREFIXED, text "b",),
             Written::AllForms =>
                 uwriteln!(f, text "a b", display 7i32, debug [1i32], pretty [2i32]),
             Written::EmptyTexts => {
-                uwrite!(f, text "")?;
+                uwrite!(f, text "",)?;
                 uwrite!(f, text "", display 1u8, text "", display "")?;
                 uwriteln!(f, text "")
             }
@@ -72,36 +71,6 @@ n=|7||(|\n|    |1|,\n|)|Some|(|\n|    |2|,\n|)|0x|0|0|ff||(|\n|    |3|,\n|)|0x|0
         pieces(&Written::EmptyTexts) => "||1||||\n|";
     );
     has_wanted_rows(&rt, &table);
-}
-
-// The results of calls, and what is wanted of each.
-fn write_in_order<W: uWrite>(f: &mut Formatter<W>) -> [(Result<(), W::Error>, &'static str); 8] {
-    rows_of![
-        uwrite!(f, text "a",) => "a";
-        uwrite!(f, text "b", display 42i32, debug &[1u8, 2].as_slice(), pretty &[3u8].as_slice(), hex 255u8 with PREFIXED)
-            => "b42[1, 2][\n    3,\n]0x00ff";
-        uwriteln!(f, text "The answer is ", display 42i32) => "The answer is 42\n";
-        uwriteln!(f, hex (33u8 + 1) with PREFIXED,) => "0x0022\n";
-        uwrite!(f, text "Hello, world!") => "Hello, world!";
-        uwrite!(f, text "The answer is ", display 42i32) => "The answer is 42";
-        uwriteln!(f, text "Hello") => "Hello\n";
-        uwriteln!(f, text "World") => "World\n";
-    ]
-}
-
-#[test]
-fn pieces_are_written_in_order(rt: HostRuntime) -> Result<(), Fail> {
-    let mut f = Formatter::new(String::new(rt.alloc()));
-    let mut are_ok = true;
-    let mut wanted = String::new(rt.alloc());
-    for (outcome, text) in write_in_order(&mut f) {
-        are_ok &= outcome.is_ok();
-        wanted.push_str(text)?;
-    }
-    let left = (are_ok, f.is_pretty(), f.depth());
-    same(&rt, left, (true, false, 0), "what is left");
-    same(&rt, f.into_inner().as_str(), &wanted, "in order");
-    Ok(())
 }
 
 // Counts a call, and returns the count.

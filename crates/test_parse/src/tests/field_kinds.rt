@@ -118,30 +118,50 @@ impl uParse<Global> for Mark {
 }
 
 #[derive(Drop)]
-struct Holder<T>(T, Box<Set>, Vec<String>);
+struct Holder<T> {
+    value: T,
+    boxed: Box<Set>,
+    texts: Vec<String>,
+}
 
 impl<T: uDebug> uDebug for Holder<T> {
-    ghost document = { λ s. named_tuple "Holder" (T.document s.0
-        ∷ ⟦<Box<Set> as uDebug>⟧.document s.1
-        ∷ ⟦<Vec<String> as uDebug>⟧.document s.2 ∷ []) };
+    ghost document = { λ s. named_struct "Holder" (("value", T.document s.value)
+        ∷ ("boxed", ⟦<Box<Set> as uDebug>⟧.document s.boxed)
+        ∷ ("texts", ⟦<Vec<String> as uDebug>⟧.document s.texts) ∷ []) };
 
     fn fmt<W: uWrite>(&self, f: &mut Formatter<W>) -> Result<(), W::Error> {
-        fields!(f, self, Holder(value, boxed, texts))
+        fields!(
+            f,
+            self,
+            Holder {
+                value,
+                boxed,
+                texts
+            }
+        )
     }
 }
 
 impl<T: uParse<Global>> uParse<Global> for Holder<T> {
-    ghost is_value = { λ s. T.is_value s.0 × ⟦<Box<Set> as uParse<Global>>⟧.is_value s.1 };
+    ghost is_value = { λ s. T.is_value s.value × ⟦<Box<Set> as uParse<Global>>⟧.is_value s.boxed };
 
     fn prove_value(&self) {
-        prove_fields!(Global, self, Holder(value, boxed, texts))
+        prove_fields!(Global, self, Holder { value, boxed, .. })
     }
 
     fn parse_from<M: ParseMode>(
         alloc: Global,
         parser: &mut Parser<'_, M>,
     ) -> Result<Holder<T>, Fault> {
-        parse_fields!(alloc, parser, Holder(value, boxed, texts))
+        parse_fields!(
+            alloc,
+            parser,
+            Holder {
+                value,
+                boxed,
+                texts
+            }
+        )
     }
 }
 
@@ -233,7 +253,15 @@ fn structs_with_each_kind_of_field_come_back(rt: HostRuntime) {
         "Table { rows: [Set { channel: 300, level: -4 }], columns: {} }");
     all_read!(rt, Person; "Person(\"a\", Some(\"b\"), Some(7))", "Person(\"\", None, None)"; "Person(\"a\", \"b\", None)");
     all_read!(rt, Mark; "Mark(-1.5, 'a', Some('\\''))"; "Mark(-1.5, a, None)");
-    all_read!(rt, Holder<bool>; "Holder(true, Set { channel: 3, level: -4 }, [\"a\"])"; "Holder(1, Set { channel: 3, level: -4 }, [])");
+    all_read!(rt, Holder<bool>; "Holder { value: true, boxed: Set { channel: 3, level: -4 }, texts: [\"a\"] }";
+        "Holder { value: 1, boxed: Set { channel: 3, level: -4 }, texts: [] }", "Holder", "Holder {}", "holder",
+        "Holder { value: true, boxed: Set { channel: 3, level: -4 } }",
+        "Holder { value: true, texts: [], boxed: Set { channel: 3, level: -4 } }",
+        "Holder { value: true, boxed: Set { channel: 3, level: -4 }, text: [] }",
+        "Holder { value: true, boxed: Set { channel: 3, level: -4 }, texts: [], value: true }",
+        "Other { value: true, boxed: Set { channel: 3, level: -4 }, texts: [] }",
+        "Holder(true, Set { channel: 3, level: -4 }, [])"
+    );
     all_read!(rt, Switches; "Switches(true, [true, false], Some(false))"; "Switches(true, [1], None)");
     all_read!(rt, Curve; "Curve([1.0, 1e-7], Some(NaN), AB(7, None))"; "Curve([1], None, A)");
     all_read!(rt, Order; "Order(Some(Set { channel: 3, level: -4 }), ['a'], [1, 2], \"\")", "Order(None, [], [], \"a\")";

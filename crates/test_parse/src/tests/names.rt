@@ -13,7 +13,7 @@ use test_rows::rows::Table;
 use ufmt::{Formatter, uDebug, uWrite};
 use ufmt_parse::{
     ByType, Fault, ParseMode, Parser, parse_struct_1, parse_struct_2, parse_tuple_2, parse_unit,
-    uParse,
+    prove_variants, uParse,
 };
 
 const SIZE: &str = "Größe";
@@ -93,15 +93,7 @@ impl<A: Copy> uParse<A> for Shape {
     ] };
 
     fn prove_value(&self) {
-        match self {
-            Shape::Sized | Shape::Empty => {}
-            Shape::Paired(a, _) => {
-                let _a = *a;
-            }
-            Shape::Raised { height } => {
-                let _height = *height;
-            }
-        }
+        prove_variants!(A, self, Shape { Sized, Empty, Paired(a, b), Raised { height } })
     }
 
     // As `parse_variants!` writes it.

@@ -1,12 +1,10 @@
 //! Tests of structs by `parse_fields!`, and of options, with and without an allocator, and of where a text that isn't parsed
 //! stops fitting.
-ghost use Rattle.std.specs.Prelude.{[], ◌∷◌, IfSome, ⊤};
-ghost use Rattle.ufmt.specs.ValueDocuments.{named_struct, named_tuple, number, string};
-ghost use Rattle.ufmt_parse.specs.Values.{is_u8, is_u64};
+ghost use Rattle.std.specs.Prelude.{[], ◌∷◌, ⊤};
+ghost use Rattle.ufmt.specs.ValueDocuments.{named_struct, named_tuple};
 
 use super::{first_other, first_wrong, same};
 use example_parse::{Measurement, Set, Switch, parse_command, parse_measurement};
-use std::alloc::Global;
 use ufmt::{Formatter, fields, uDebug, uWrite};
 use ufmt_parse::ParseError::NotText;
 use ufmt_parse::{
@@ -66,69 +64,8 @@ impl<A: Copy> uParse<A> for Both {
     }
 }
 
-/// A struct of four fields.
-#[derive(Drop)]
-struct Entry<T> {
-    id: u8,
-    time: u64,
-    value: T,
-    text: String,
-}
-
-impl<T: uDebug> uDebug for Entry<T> {
-    ghost document = { λ e. named_struct "Entry"
-        (("id", number e.id) ∷ ("time", number e.time) ∷ ("value", T.document e.value) ∷ ("text", string e.text) ∷ []) };
-
-    fn fmt<W: uWrite>(&self, f: &mut Formatter<W>) -> Result<(), W::Error> {
-        fields!(
-            f,
-            self,
-            Entry {
-                id,
-                time,
-                value,
-                text
-            }
-        )
-    }
-}
-
-impl<T: uParse<Global>> uParse<Global> for Entry<T> {
-    ghost is_value = { λ e. is_u8 e.id × is_u64 e.time × T.is_value e.value };
-
-    fn prove_value(&self) {
-        let _id = self.id;
-        let _time = self.time;
-        self.value.prove_value();
-    }
-
-    fn parse_from<M: ParseMode>(
-        alloc: Global,
-        parser: &mut Parser<'_, M>,
-    ) -> Result<Entry<T>, Fault> {
-        parse_fields!(
-            alloc,
-            parser,
-            Entry {
-                id,
-                time,
-                value,
-                text
-            }
-        )
-    }
-}
-
 #[test]
 fn structs_are_parsed(rt: HostRuntime) {
-    all_read!(rt, Entry<bool>;
-        "Entry { id: 3, time: 0, value: true, text: \"a\" }";
-        "Entry", "Entry {}", "Entry { id: 3, time: 0, value: true }",
-        "Entry { id: 3, time: 0, text: \"a\", value: true }", "Entry { id: 3, time: 0, value: true, texts: \"a\" }",
-        "Entry { id: 3, time: 0, value: true, text: \"a\", id: 3 }",
-        "Entry { id: 256, time: 0, value: true, text: \"a\" }", "Entry { id: 3, time: 0, value: 1, text: \"a\" }",
-        "Other { id: 3, time: 0, value: true, text: \"a\" }", "Entry(3, 0, true, \"a\")", "entry"
-    );
     all_stop!(rt, Both;
         "Both(Flags { on: true, off: false }, Some(true))" => "";
         "Both" => "4 Punctuation";

@@ -3,43 +3,14 @@ ghost use Rattle.std.specs.Prelude.{[], ◌∷◌, IfSome, ⊤};
 ghost use Rattle.ufmt.specs.ValueDocuments.{named, named_struct, named_tuple, number, string};
 ghost use Rattle.test_parse.specs.declared.tests.enums.shapes.Signal.TheVariants.{A, AB, ABC};
 ghost use Rattle.ufmt_parse.specs.Values.{is_u8};
-ghost use Rattle.test_parse.specs.declared.tests.enums.shapes.Event.TheVariants.{Started, Said, Lost};
 ghost use Rattle.test_parse.specs.declared.tests.enums.shapes.Eight.TheVariants.{First, Second, Third, Fourth, Fifth, Sixth, Seventh, Eighth};
 
 use crate::tests::{first_other, same};
 use std::alloc::Global;
 use ufmt::{Formatter, fields, uDebug, uWrite, variants};
-use ufmt_parse::{Fault, ParseMode, Parser, parse, parse_fields, parse_variants, uParse};
-
-/// Variants of each shape.
-#[derive(Clone, Copy, PartialEq, Eq, Debug, Drop)]
-pub enum Event {
-    Started,
-    Said(bool, bool),
-    Lost { since: bool, peers: bool },
-}
-
-impl uDebug for Event {
-    ghost document = { elim [
-      | Started ↦ named "Started"
-      | Said node text ↦ named_tuple "Said" (⟦<bool as uDebug>⟧.document node ∷ ⟦<bool as uDebug>⟧.document text ∷ [])
-      | Lost since peers ↦ named_struct "Lost" (("since", ⟦<bool as uDebug>⟧.document since) ∷ ("peers", ⟦<bool as uDebug>⟧.document peers) ∷ [])
-    ] };
-
-    fn fmt<W: uWrite>(&self, f: &mut Formatter<W>) -> Result<(), W::Error> {
-        variants!(f, self, Event { Started, Said(node, text), Lost { since, peers } })
-    }
-}
-
-impl<A: Copy> uParse<A> for Event {
-    ghost is_value = { λ _. ⊤ };
-
-    fn prove_value(&self) {}
-
-    fn parse_from<M: ParseMode>(alloc: A, parser: &mut Parser<'_, M>) -> Result<Event, Fault> {
-        parse_variants!(alloc, parser, Event { Started, Said(node, text), Lost { since, peers } })
-    }
-}
+use ufmt_parse::{
+    Fault, ParseMode, Parser, parse, parse_fields, parse_variants, prove_variants, uParse,
+};
 
 /// Each name begins the next.
 #[derive(PartialEq, Eq, Debug, Drop)]
@@ -73,16 +44,7 @@ impl uParse<Global> for Signal {
     ] };
 
     fn prove_value(&self) {
-        match self {
-            Signal::A => {}
-            Signal::AB(level, on) => {
-                let _level = *level;
-                <Option<bool> as uParse<Global>>::prove_value(on);
-            }
-            Signal::ABC { level, .. } => {
-                let _level = *level;
-            }
-        }
+        prove_variants!(Global, self, Signal { A, AB(level, on), ABC { on, level, text } })
     }
 
     fn parse_from<M: ParseMode>(
@@ -140,20 +102,11 @@ impl<A: Copy, T: uParse<A>> uParse<A> for Eight<T> {
     ] };
 
     fn prove_value(&self) {
-        match self {
-            Eight::First | Eight::Fourth() | Eight::Eighth {} => {}
-            Eight::Second(a) => {
-                let _a = *a;
-            }
-            Eight::Third(a, _) => {
-                let _a = *a;
-            }
-            Eight::Fifth { channel, .. } => {
-                let _channel = *channel;
-            }
-            Eight::Sixth(value) => <T as uParse<A>>::prove_value(value),
-            Eight::Seventh { value } => <T as uParse<A>>::prove_value(value),
-        }
+        prove_variants!(
+            A,
+            self,
+            Eight { First, Second(a), Third(a, b), Fourth(), Fifth { channel, level }, Sixth(a), Seventh { value }, Eighth {} }
+        )
     }
 
     fn parse_from<M: ParseMode>(alloc: A, parser: &mut Parser<'_, M>) -> Result<Eight<T>, Fault> {
@@ -162,34 +115,6 @@ impl<A: Copy, T: uParse<A>> uParse<A> for Eight<T> {
             parser,
             Eight { First, Second(a), Third(a, b), Fourth(), Fifth { channel, level }, Sixth(a), Seventh { value }, Eighth {} }
         )
-    }
-}
-
-/// A struct of an enum.
-#[derive(Clone, Copy, PartialEq, Eq, Debug, Drop)]
-pub struct Report {
-    node: u8,
-    last: Event,
-}
-
-impl uDebug for Report {
-    ghost document = { λ r. named_struct "Report"
-        (("node", number r.node) ∷ ("last", ⟦<Event as uDebug>⟧.document r.last) ∷ []) };
-
-    fn fmt<W: uWrite>(&self, f: &mut Formatter<W>) -> Result<(), W::Error> {
-        fields!(f, self, Report { node, last })
-    }
-}
-
-impl<A: Copy> uParse<A> for Report {
-    ghost is_value = { λ r. is_u8 r.node };
-
-    fn prove_value(&self) {
-        let _node = self.node;
-    }
-
-    fn parse_from<M: ParseMode>(alloc: A, parser: &mut Parser<'_, M>) -> Result<Report, Fault> {
-        parse_fields!(alloc, parser, Report { node, last })
     }
 }
 
@@ -265,12 +190,12 @@ fn names_are_compared_whole(rt: HostRuntime) {
 
 #[test]
 fn enums_are_parsed_in_other_values(rt: HostRuntime) {
-    all_stop!(rt, Report;
-        "Report { node: 9, last: Lost { since: true, peers: false } }" => "";
-        "Report { node: 9, last: Los }" => "24 Name";
+    all_stop!(rt, Eight<Signal>;
+        "Seventh { value: ABC { on: true, level: 7, text: \"\" } }" => "";
+        "Seventh { value: AC }" => "17 Name";
     );
-    all_stop!(rt, Vec<Event>; "[Started, Said(true, false)]" => ""; "[]" => "";);
-    all_stop!(rt, Option<Event>; "Some(Started)" => ""; "None" => "";);
+    all_stop!(rt, Vec<Signal>; "[A, AB(7, None)]" => ""; "[]" => "";);
+    all_stop!(rt, Option<Signal>; "Some(A)" => ""; "None" => "";);
     all_stop!(rt, Marker; "Marker" => ""; "Marker {}" => "6 End";);
-    all_stop!(rt, Result<u8, Event>; "Err(Started)" => ""; "Ok(1)" => ""; "Okay(1)" => "0 Name";);
+    all_stop!(rt, Result<u8, Signal>; "Err(A)" => ""; "Ok(1)" => ""; "Okay(1)" => "0 Name";);
 }

@@ -8,7 +8,9 @@ use crate::tests::{first_other, same};
 use example_parse::Set;
 use ufmt::{Formatter, uDebug, uWrite, variants};
 use ufmt_parse::ParseError::NotText;
-use ufmt_parse::{Expected, Fault, ParseMode, Parser, parse, parse_pretty, parse_variants, uParse};
+use ufmt_parse::{
+    Expected, Fault, ParseMode, Parser, parse, parse_pretty, parse_variants, prove_variants, uParse,
+};
 
 /// An order to a device.
 #[derive(Clone, Copy, PartialEq, Eq, Debug, Drop)]
@@ -62,32 +64,11 @@ impl<A: Copy> uParse<A> for Order {
     ] };
 
     fn prove_value(&self) {
-        match self {
-            Order::Up => {}
-            Order::Interrupted(line) => {
-                let _line = *line;
-            }
-            Order::Apply { set } => <Set as uParse<A>>::prove_value(set),
-            Order::HoldPosition(set, _) => <Set as uParse<A>>::prove_value(set),
-            Order::CrossFadeBetween {
-                starting_point,
-                end_point,
-                ..
-            } => {
-                <Set as uParse<A>>::prove_value(starting_point);
-                <Set as uParse<A>>::prove_value(end_point);
-            }
-            Order::AwaitingCalibrationOfSensor {
-                seconds_since_the_last_value,
-            } => {
-                let _seconds = *seconds_since_the_last_value;
-            }
-            Order::Pulse(count, pause, level) => {
-                let _count = *count;
-                <Option<u8> as uParse<A>>::prove_value(pause);
-                let _level = *level;
-            }
-        }
+        prove_variants!(
+            A,
+            self,
+            Order { Up, Interrupted(line), Apply { set }, HoldPosition(set, locked), CrossFadeBetween { starting_point, end_point, repeated }, AwaitingCalibrationOfSensor { seconds_since_the_last_value }, Pulse(count, pause, level) }
+        )
     }
 
     fn parse_from<M: ParseMode>(alloc: A, parser: &mut Parser<'_, M>) -> Result<Order, Fault> {
