@@ -1,12 +1,13 @@
 -- The arguments after the program's name.
-use Rattle.std.specs.Prelude.{ℕ, ◌+◌, ◌-◌, ◌*◌, ◌^◌, ◌==◌, ◌&&◌, nat_le, nat_lt, if◌then◌else◌, Bool, true, false, List, [], ◌∷◌, ◌++◌, codes, length, slice_index_or, Option, Some, None, Result, Ok, Err}
+use Rattle.std.specs.Prelude.{ℕ, ◌+◌, ◌-◌, ◌*◌, ◌^◌, ◌==◌, ◌&&◌, ◌||◌, is_some, nat_le, nat_lt, if◌then◌else◌, Bool, true, false, List, [], ◌∷◌, ◌++◌, codes, length, slice_index_or, Option, Some, None, Result, Ok, Err}
 use Rattle.std.specs.Str.{bytes_eq}
+use Rattle.ufmt_grammar.specs.Parse.{strip}
 use Rattle.ufmt_core.specs.declared.layout.Mode.TheVariants.{Plain as ToPlain, Pretty as ToPretty}
 use Rattle.ufmt_lines.specs.declared.run.arguments.Mistake.{Mistake}
 use Rattle.ufmt_lines.specs.declared.run.arguments.Request.{Request}
 use Rattle.ufmt_lines.specs.declared.run.arguments.Request.TheVariants.{Convert, Help, Version}
 use Rattle.ufmt_lines.specs.declared.run.arguments.Word.{Word}
-use Rattle.ufmt_lines.specs.declared.run.arguments.Word.TheVariants.{File, Last, LongerThan, OfHelp, OfVersion, Plain, Unknown}
+use Rattle.ufmt_lines.specs.declared.run.arguments.Word.TheVariants.{File, Last, LongerThan, LongerThanIs, OfHelp, OfVersion, Plain, Unknown}
 
 -- an ASCII digit
 abbrev pub is_digit : ℕ → Bool
@@ -26,14 +27,24 @@ decimal_value (c ∷ t) = digits_value 0 (c ∷ t)
 abbrev pub is_option : List ℕ → Bool
 is_option word = nat_lt 1 (length word) && (slice_index_or word 0 0 == 45)
 
+-- the number in the same word as its option, after an equals sign
+abbrev pub limit_in : List ℕ → Option (List ℕ)
+limit_in word = strip (codes "--longer-than=") word
+
+-- this, or nothing
+abbrev pub or_nothing : Option (List ℕ) → List ℕ
+or_nothing None = []
+or_nothing (Some number) = number
+
 -- what a word is, if no word before it is `--`
 unfoldable pub word_of : List ℕ → Word
 word_of word =
     if bytes_eq word (codes "--plain") then Plain else
     if bytes_eq word (codes "--longer-than") then LongerThan else
-    if bytes_eq word (codes "--help") then OfHelp else
-    if bytes_eq word (codes "--version") then OfVersion else
+    if bytes_eq word (codes "--help") || bytes_eq word (codes "-h") then OfHelp else
+    if bytes_eq word (codes "--version") || bytes_eq word (codes "-V") then OfVersion else
     if bytes_eq word (codes "--") then Last else
+    if is_some (limit_in word) then LongerThanIs else
     if is_option word then Unknown else File
 
 -- texts of more bytes become pretty, if nothing else is said
@@ -47,10 +58,10 @@ conversion_of false (Some n) = Ok (Convert (record { to = ToPretty; longer_than 
 conversion_of true None = Ok (Convert (record { to = ToPlain; longer_than = usual_limit }))
 conversion_of true (Some n) = Err (codes "ufmt_lines: --longer-than doesn't go with --plain")
 
--- what is asked for after this number; the line of a mistake if it is none
+-- what is asked for after this number; the line of a mistake if the word has none
 abbrev pub within : Option ℕ → List ℕ → (ℕ → Result Request (List ℕ)) → Result Request (List ℕ)
-within None number asked = Err (codes "ufmt_lines: --longer-than needs a number below 2^64 in decimal digits, not: " ++ number)
-within (Some n) number asked = asked n
+within None word asked = Err (codes "ufmt_lines: --longer-than needs a number below 2^64 in decimal digits, not: " ++ word)
+within (Some n) word asked = asked n
 
 -- what the words ask for, if a number must come first or not, and after `--plain` or not, and a limit or none; the line of the first mistake
 abbrev pub asked_after : Bool → Bool → Option ℕ → List (List ℕ) → Result Request (List ℕ)
@@ -61,6 +72,7 @@ asked_after false plain limit (word ∷ words) = elim (word_of word) [
   | File ↦ asked_after false plain limit words
   | Plain ↦ asked_after false true limit words
   | LongerThan ↦ asked_after true plain limit words
+  | LongerThanIs ↦ within (decimal_value (or_nothing (limit_in word))) word (λ n. asked_after false plain (Some n) words)
   | OfHelp ↦ Ok Help
   | OfVersion ↦ Ok Version
   | Last ↦ conversion_of plain limit
@@ -78,6 +90,7 @@ files_after true (number ∷ words) = files_after false words
 files_after false (word ∷ words) = elim (word_of word) [
   | File ↦ word ∷ files_after false words
   | LongerThan ↦ files_after true words
+  | LongerThanIs ↦ files_after false words
   | Last ↦ words
   | Plain ↦ files_after false words
   | OfHelp ↦ files_after false words

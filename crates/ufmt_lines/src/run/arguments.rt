@@ -1,6 +1,7 @@
 //! The arguments after the program's name.
 ghost use Rattle.std.specs.Prelude.{◌≡◌, ◌++◌, drop, false, map, string_bytes, Err, IfErr, IfOk, Ok, OnOk};
-ghost use Rattle.ufmt_lines.specs.Arguments.{asked_of, conversion_of, decimal_value, files_after, inputs_of, is_digit, is_option, line_of_mistake, word_of};
+ghost use Rattle.ufmt_lines.specs.Arguments.{asked_of, conversion_of, decimal_value, files_after, inputs_of, is_digit, is_option, limit_in, line_of_mistake, or_nothing, word_of};
+ghost use Rattle.ufmt_scan.specs.Rest.{now_of};
 
 use super::conversion::Conversion;
 use std::alloc::{AllocError, Global};
@@ -32,6 +33,8 @@ enum Word {
     File,
     Plain,
     LongerThan,
+    /// The same with its number, after an equals sign.
+    LongerThanIs,
     OfHelp,
     OfVersion,
     Last,
@@ -80,6 +83,10 @@ pub fn asked(words: &[String]) -> Result<Request, Mistake<'_>>
                         rest = after;
                     }
                 },
+            },
+            Word::LongerThanIs => match decimal_value(number_in(word.as_bytes())) {
+                None => return Err(wrong(NOT_A_NUMBER, word.as_str())),
+                Some(bytes) => limit = Some(bytes),
             },
             Word::OfHelp => return Ok(Request::Help),
             Word::OfVersion => return Ok(Request::Version),
@@ -139,7 +146,7 @@ fn files<'a>(alloc: Global, words: &'a [String]) -> Result<Vec<&'a str>, AllocEr
                 push_all(&mut names, rest)?;
                 rest = &[];
             }
-            Word::Plain | Word::OfHelp | Word::OfVersion | Word::Unknown => {}
+            Word::Plain | Word::LongerThanIs | Word::OfHelp | Word::OfVersion | Word::Unknown => {}
         }
     }
     Ok(names)
@@ -174,10 +181,30 @@ fn word_of(word: &str) -> Word
         "--plain" => Word::Plain,
         "--longer-than" => Word::LongerThan,
         "--help" => Word::OfHelp,
+        "-h" => Word::OfHelp,
         "--version" => Word::OfVersion,
+        "-V" => Word::OfVersion,
         "--" => Word::Last,
+        _ if limit_in(word.as_bytes()).is_some() => Word::LongerThanIs,
         _ if is_option(word.as_bytes()) => Word::Unknown,
         _ => Word::File,
+    }
+}
+
+// The number in the same word as its option, after an equals sign.
+fn limit_in(word: &[u8]) -> Option<&[u8]>
+    ensures { now_of result ≡ limit_in word.now }
+{
+    word.strip_prefix(b"--longer-than=")
+}
+
+// The same, or nothing.
+fn number_in(word: &[u8]) -> &[u8]
+    ensures { result.now ≡ or_nothing (limit_in word.now) }
+{
+    match limit_in(word) {
+        Some(number) => number,
+        None => &[],
     }
 }
 

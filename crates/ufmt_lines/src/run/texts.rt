@@ -20,8 +20,8 @@ pub fn help() -> &'static str
      \n\
      \x20 --longer-than N  makes texts of more than N bytes pretty, not of more than 40\n\
      \x20 --plain          writes pretty texts of several lines as plain ones\n\
-     \x20 --help           prints this text\n\
-     \x20 --version        prints the version\n\
+     \x20 -h, --help       prints this text\n\
+     \x20 -V, --version    prints the version\n\
      \x20 --               ends the options: what follows are files\n\
      \x20 -                is standard input\n"
 }

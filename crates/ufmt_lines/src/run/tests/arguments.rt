@@ -52,10 +52,15 @@ fn files_are_inputs(rt: HostRuntime) -> Result<(), Fail> {
         let given = inputs(rt.alloc(), &words)?;
         same(&rt, given.as_slice() == names, true, "the names");
     }
-    let rows: [(&[&str], Request); 5] = [
+    let rows: [(&[&str], Request); 7] = [
         (&["--plain", "a", "b"], PLAIN),
         (&["a", "--plain", "b", "--plain"], PLAIN),
         (&["a", "b", "--longer-than", "7"], longer_than(7)),
+        (&["a", "--longer-than=7", "b"], longer_than(7)),
+        (
+            &["--longer-than", "8", "a", "b", "--longer-than=7"],
+            longer_than(7),
+        ),
         (&["--longer-than", "7", "a", "--", "b"], longer_than(7)),
         (
             &["a", "--longer-than", "8", "b", "--longer-than", "7"],
@@ -78,17 +83,22 @@ fn files_are_inputs(rt: HostRuntime) -> Result<(), Fail> {
 
 #[test]
 fn options_are_requests(rt: HostRuntime) -> Result<(), Fail> {
-    let rows: [(&[&str], Request); 9] = [
+    let rows: [(&[&str], Request); 14] = [
         (&["--plain"], PLAIN),
         (&["--longer-than", "40"], PRETTY),
         (&["--longer-than", "0"], longer_than(0)),
         (&["--longer-than", "007"], longer_than(7)),
+        (&["--longer-than=007"], longer_than(7)),
+        (&["--longer-than=0"], longer_than(0)),
         (
             &["--longer-than", "18446744073709551615"],
             longer_than(usize::MAX),
         ),
         (&["--help"], Request::Help),
         (&["--version"], Request::Version),
+        (&["-h"], Request::Help),
+        (&["-V"], Request::Version),
+        (&["--longer-than=1", "-h"], Request::Help),
         (&["a", "--plain", "--version", "--what"], Request::Version),
         (
             &["--plain", "--longer-than", "1", "--help", "--what"],
@@ -108,7 +118,7 @@ const NOT_A_NUMBER: &str =
 const UNKNOWN: &str = "ufmt_lines: unknown option: ";
 
 // Wrong arguments, and what is said of the first that is wrong.
-const WRONG: [(&[&str], &str, &str); 16] = [
+const WRONG: [(&[&str], &str, &str); 23] = [
     (
         &["--longer-than"],
         "ufmt_lines: --longer-than needs a number",
@@ -123,6 +133,9 @@ const WRONG: [(&[&str], &str, &str); 16] = [
     (&["--longer-than", "--plain"], NOT_A_NUMBER, "--plain"),
     (&["--longer-than", "--", "7"], NOT_A_NUMBER, "--"),
     (&["--longer-than", "4 "], NOT_A_NUMBER, "4 "),
+    (&["--longer-than=", "7"], NOT_A_NUMBER, "--longer-than="),
+    (&["--longer-than==7"], NOT_A_NUMBER, "--longer-than==7"),
+    (&["--longer-than=4 "], NOT_A_NUMBER, "--longer-than=4 "),
     (&["--longer-than", "-1"], NOT_A_NUMBER, "-1"),
     (&["--longer-than", "+1"], NOT_A_NUMBER, "+1"),
     (
@@ -148,6 +161,14 @@ const WRONG: [(&[&str], &str, &str); 16] = [
     (&["--longer", "40"], UNKNOWN, "--longer"),
     (&["a", "--plain=1", "--help"], UNKNOWN, "--plain=1"),
     (&["-p"], UNKNOWN, "-p"),
+    (&["-hV"], UNKNOWN, "-hV"),
+    (&["-H"], UNKNOWN, "-H"),
+    (&["--longer-than:7"], UNKNOWN, "--longer-than:7"),
+    (
+        &["--longer-than=40", "--plain"],
+        "ufmt_lines: --longer-than doesn't go with --plain",
+        "",
+    ),
     (&["---", "--"], UNKNOWN, "---"),
 ];
 
@@ -176,8 +197,8 @@ read as one, in their order. Without a file, standard input is read.
 
   --longer-than N  makes texts of more than N bytes pretty, not of more than 40
   --plain          writes pretty texts of several lines as plain ones
-  --help           prints this text
-  --version        prints the version
+  -h, --help       prints this text
+  -V, --version    prints the version
   --               ends the options: what follows are files
   -                is standard input
 ";
