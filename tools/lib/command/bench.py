@@ -4,16 +4,16 @@ All is measured over copies of the libraries with nothing proved, so an edit can
 tests no bounds, so it has some bytes and instructions more or less. Instructions are counted by valgrind: a run prints the same
 numbers each time. Without a NAME it measures all, one after another. The programs that it builds are in tools/data/bench.
 
-- `calls`, 2 minutes: bytes of code and constants of a call that prints into a buffer, linked alone into a program without a C
+- `calls`: bytes of code and constants of a call that prints into a buffer, linked alone into a program without a C
   library, and its instructions. `two` prints a second type as well, and `eight` eight types. Beside it are ufmt 0.2.0, a checkout in
   FOLDER or the one that cargo has, and core::fmt. `z` is the level for size, and `lto` is linked as a whole.
-- `texts`, 6 minutes: instructions for each byte of a text that is converted, read, or printed in quotes.
-- `parse`, 6 minutes: instructions for each byte of a text, and for each value, of `ufmt_parse`, serde_json and ron; `one` is one call
+- `texts`: instructions for each byte of a text that is converted, read, or printed in quotes.
+- `parse`: instructions for each byte of a text, and for each value, of `ufmt_parse`, serde_json and ron; `one` is one call
   on a struct of two numbers. Then bytes of a program that parses one type, and how many more a second type takes. Columns of crates
   that cargo can't build have `-`.
-- `floats`, 3 minutes: instructions of one `{:?}` of an `f64`, beside core::fmt and the kit's ryu, and of one `{:.N}`, as `21.5:2`.
-- `stack`, 4 minutes: bytes of stack that a call takes at most, and what a level more takes. The status is 1 if one is past its bound.
-- `lines`, a minute: instructions that ufmt_lines takes for each byte of a log of each shape. PROGRAM is another build of it.
+- `floats`: instructions of one `{:?}` of an `f64`, beside core::fmt and the kit's ryu, and of one `{:.N}`, as `21.5:2`.
+- `stack`: bytes of stack that a call takes at most, and what a level more takes. The status is 1 if one is past its bound.
+- `lines`: instructions that ufmt_lines takes for each byte of a log of each shape. PROGRAM is another build of it.
 """
 import importlib
 import pathlib

@@ -1,15 +1,15 @@
-"""Checks a crate of yours in minutes, with nothing proved before.
+"""Proves a crate of yours, or parts of it, and trusts the libraries.
 
-It reads the libraries below the crate from their sources, and trusts them: of a library it checks what your functions call, and
-nothing else. So it names each wrong contract, `ghost` line and body of your crate, and its verdict is worth as much as the
-libraries' own proofs, which `rt check` makes first. With ITEMs, each a module or a function of the crate, it checks these
-alone. An ITEM is a path below the crate: `types` is a module, `types::write_to` a function, `types::Pair::swap` a method, and
-`types::PairuDebug::fmt` is `fmt` of `uDebug` for `Pair`. What it found is kept in `out/` at the top of the repository, so the next run,
-also for another crate, checks what is new.
+It names each wrong contract, `ghost` line and body of your crate. It also checks the library functions that your functions call, and
+trusts the rest of the libraries, which `rt check` would prove first. What it found is kept in `out/` at the top of the repository, so
+the next run, also for another crate, checks only what is new.
 
-It runs at the top of a repository with a `crates.txt`, or below it; CRATE is a name in there. It needs the Rattle kit on the path.
-It prints each error, and of a function that isn't proved its place, what isn't proved of it, and a line to try. Its last line begins
-with `checked:` or with `not checked:`, and says that the libraries are trusted. The status is 0 if all is proved.
+An ITEM is a path below the crate: `types` is a module, `types::write_to` a function, `types::Pair::swap` a method, and
+`types::PairuDebug::fmt` is `fmt` of `uDebug` for `Pair`.
+
+It runs in a repository with a `crates.txt`, which names CRATE. It needs the Rattle kit on the path. It prints each error, and for a
+function that isn't proved its place, what isn't proved, and a line to try. Its last line begins with `checked:` or with `not checked:`,
+and says that the libraries are trusted. The status is 0 if all is proved.
 """
 import os
 import pathlib

@@ -1,8 +1,7 @@
 """Shows that the check still refuses each form of docs/forms, in the words that its file quotes.
 
 Run it with a new kit: a form that is no longer refused can be had. With no argument it tries the forms that use no crate of this
-repository. The crates that forms use are copied, with what `rt check` and `rt lib` left in out/: what isn't there is proved first,
-which may take an hour.
+repository. The crates that forms use are copied, with what `rt check` and `rt lib` left in out/: what isn't there is proved first.
 
 NAME.rt.txt is src/lib.rt of a crate NAME, and NAME.antt.txt, where there is one, its specs/Lib.antt. The head comment has:
 

@@ -1,4 +1,4 @@
-"""Measures again what calls take, and names each bound that isn't between 1.3 and 2 times that.
+"""Measures again what calls cost, and names each bound that isn't between 1.3 and 2 times that cost.
 
 - `costs`: steps and memory of each call that prints, at two sizes, and of parsing each type
 - `c`: steps of each call of the library for C, at two sizes and with options up to the largest number
@@ -7,7 +7,7 @@
 - `logs`: steps and memory of ufmt_lines on a log of each shape
 
 With `--write` it writes the tables in tools/data/measured again. What `costs`, `c` and `floats` count is
-built with nothing proved; `texts` and `logs` count the proved programs that `rt ci` leaves. It takes minutes.
+built with nothing proved; `texts` and `logs` count the proved programs that `rt ci` leaves.
 The status is 0 if each bound is in the band.
 """
 import importlib

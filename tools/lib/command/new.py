@@ -1,9 +1,8 @@
-"""Makes a crate of yours, over copies of the library crates that it needs.
+"""Makes a crate of yours, with copies of the library crates that it needs.
 
-It runs at the top of a repository of yours, which may be an empty folder, or below. It copies the crates, with their licences, adds their
-lines to crates.txt, and writes a first file: a struct that is printed, with a test; with `parse` it is parsed too. A second run with
-another `--with` adds what is missing. A file that you changed is never replaced, and what was copied is kept in `ufmt/COPIED` of the
-crates.
+It runs in a repository of yours, which may be an empty folder. It copies the crates, with their licences, adds their lines to crates.txt,
+and writes a first file: a struct that is printed, with a test; with `parse` it is parsed too. A second run with another `--with` adds
+what is missing. A file that you changed is never replaced. `crates/ufmt/COPIED` lists what was copied.
 
     parse      a value from its text
     values     a field in a line of a log, without memory
@@ -34,7 +33,7 @@ def features(text):
 
 
 def add_arguments(parser):
-    parser.add_argument("name", metavar="NAME", help="the crate's name, as my_types")
+    parser.add_argument("name", metavar="NAME", help="the crate's name, such as my_types")
     parser.add_argument("--with", dest="features", metavar="WHAT", type=features, default=[], help="one or several of parse,values,snapshot,doc")
     parser.add_argument("--program", action="store_true", help="a program, in place of a library")
 

@@ -1,6 +1,6 @@
-"""Runs the tests of every crate, or of these, with nothing proved.
+"""Runs the tests of every crate, or of those named, and proves nothing.
 
-It runs `rt try --test` in each crate that has a test, some side by side. So a test may pass here while a proof fails: `rt ci` is
+It runs `rt try --test` in each crate that has a test, some at the same time. A test may pass here while a proof fails: `rt ci` is
 the judge. It needs `rt` on the path, and writes nothing into the tree. In a repository of yours, with a `crates.txt`, it runs your tests.
 
 It prints a line when the tests of a crate have ended, and once a minute which are running. For each test that fails it prints the test's

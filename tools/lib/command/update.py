@@ -1,7 +1,7 @@
-"""Takes the version of the library crates that is here into a repository in which `x new` copied them.
+"""Updates the library crates that `x new` copied into a repository of yours to the version that is here.
 
-It runs there. A file that is as it was copied is replaced, or removed if the library has it no more, and so is a line of crates.txt. What
-was changed there stays as it is, and is said.
+It runs in your repository. It replaces each file that you didn't change, or removes it if the library no longer has it, and does the
+same with the lines of crates.txt. What you changed stays as it is, and is named.
 """
 import sys
 
