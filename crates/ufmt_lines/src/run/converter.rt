@@ -80,6 +80,7 @@ impl Converter {
 
     // Appends the output for a text, in which no value begins from `last` on, or for its front. Values are looked
     // for from the left on. Returns how long the front is.
+    #[inline(always)]
     fn push_values(&mut self, text: &[u8], last: usize, extent: Extent) -> Result<usize, AllocError>
         requires { (place : ℕ) → last ≤ place → HasNoMore text.now place }
         ensures conversion { self.new.conversion ≡ self.old.conversion }

@@ -87,6 +87,7 @@ impl Tries {
 
     // The same for a plain value, after some tries failed. If there is none, the blocks that are open where the
     // try stops are kept.
+    #[inline(never)]
     fn plain_value_at(
         &mut self,
         text: &[u8],
