@@ -2,7 +2,7 @@ use Rattle.std.proofs.Common.{◌≡◌, ◌≤◌, ◌+◌, ◌∙◌, ap, arit
 use Rattle.std.proofs.lemmas.Result.{on_ok_weaker}
 use Rattle.std.specs.Prelude.{⊤}
 use Rattle.ufmt_lines.specs.Groups.{IsInGroup}
-use Rattle.ufmt_lines.specs.Private.Group.{group_bytes}
+use Rattle.ufmt_lines.specs.Private.Group.{IsReading, group_bytes}
 use Rattle.ufmt_io.specs.Watched.{device_of}
 use Rattle.ufmt_lines.proofs.Consumed.{WritesUpTo, consumed_within, last_written, last_in_part, nothing_read, one_each, read_as, read_in_part, read_kept, read_more, read_more_text, read_nothing}
 use Rattle.ufmt_lines.proofs.Readings.{reading_nothing, reading_one, reading_within}
@@ -50,7 +50,7 @@ reads-preserved g c =
     }
 
 pub write_ended-requires-clause-reading : goal.write_ended-requires-clause-reading
-write_ended-requires-clause-reading g c = rw c.reads.invariant.conversion c.reads.invariant.reading
+write_ended-requires-clause-reading g c = subst (λ conversion. IsReading conversion.to c.reads.group) (sym c.reads.invariant.conversion) c.reads.invariant.reading
 
 pub returns-in_err-count-clause-cannot_read : goal.returns-in_err-count-clause-cannot_read
 returns-in_err-count-clause-cannot_read g c = λ failed. read_kept c.args.conversion _ _ _ _ _ c.reads.invariant.so_far _ (IsInGroup c.args.conversion.to) (reading_within c.args.conversion.to c.reads.group c.reads.invariant.reading) c.in_err-count.ensures.kept

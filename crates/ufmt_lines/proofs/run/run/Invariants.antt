@@ -12,11 +12,11 @@ invariant-reads g l = record {
   turns : l.turns ≤ 2 ^ 64 - 1;
   reads_on : has_given_up l.input ≡ has_given_up l.initial.input;
   writes_on : has_given_up l.output ≡ has_given_up l.initial.output;
-  conversion : conversion_of l.group ≡ l.conversion;
-  reading : IsReading l.conversion.to l.group;
+  conversion : conversion_of l.group ≡ l.fn.conversion;
+  reading : IsReading l.fn.conversion.to l.group;
   none : gathered l.group ≡ [];
   room : 0 < vec_len l.chunk;
-  so_far : ReadsAndWrites l.conversion (λ rest. rest ≡ group_bytes l.group) (g.R.Read.remaining (device_of l.initial.input)) (g.R.Read.remaining (device_of l.input))
+  so_far : ReadsAndWrites l.fn.conversion (λ rest. rest ≡ group_bytes l.group) (g.R.Read.remaining (device_of l.initial.input)) (g.R.Read.remaining (device_of l.input))
       (g.W.Write.contents (device_of l.initial.output)) (g.W.Write.contents (device_of l.output));
   each : l.turns ≤ length so_far.text;
 }

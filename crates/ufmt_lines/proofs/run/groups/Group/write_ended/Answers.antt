@@ -1,6 +1,6 @@
 use Rattle.std.proofs.Common.{◌≡◌, refl, ◌∙◌, ◌++◌, rules, subst, sym, []}
 use Rattle.std.proofs.lemmas.Result.{on_ok_weaker}
-use Rattle.ufmt_lines.specs.Private.Group.{Gathers, conversion_of, gathered, group_bytes, mode_of}
+use Rattle.ufmt_lines.specs.Private.Group.{Gathers, IsReading, conversion_of, gathered, group_bytes, mode_of}
 use Rattle.ufmt_lines.proofs.Fronts.{all_written, lines_more, nothing_gathered, nothing_written, written_if_full, written_in_part}
 use Rattle.ufmt_lines.proofs.LinesTogether.{no_length}
 use Rattle.ufmt_lines.proofs.Outcomes.{holds_of_error}
@@ -37,7 +37,7 @@ ended-preserved g c =
     }
 
 pub end_lines-requires-clause-reading : goal.end_lines-requires-clause-reading
-end_lines-requires-clause-reading g c = rw c.ended.invariant.conversion c.ended.invariant.reading
+end_lines-requires-clause-reading g c = subst (λ conversion. IsReading conversion.to c.ended.self) (sym c.ended.invariant.conversion) c.ended.invariant.reading
 
 pub returns-in_err-write_if_full-clause-cannot_write : goal.returns-in_err-write_if_full-clause-cannot_write
 returns-in_err-write_if_full-clause-cannot_write g c = λ failed.
