@@ -199,7 +199,17 @@ front_converted conversion text at n whole new within room is =
 pub stays_whole : (conversion : Conversion) (text : List ℕ) → HasNoMore text 0 → output_of conversion text ≡ text
 stays_whole conversion text none = sym (unclosed_stays conversion text (length text) 0 none (output_of conversion text) [] text refl refl)
 
--- nothing follows a text that was converted whole
-pub whole_converted : (conversion : Conversion) (text whole new : List ℕ) → new ≡ whole → whole ≡ new ++ output_of conversion (drop (length text) text)
-whole_converted conversion text whole new is =
-    sym is ∙ sym (append-nil new) ∙ ap (λ t. new ++ t) (sym (no_bracket conversion 0 [] tt)) ∙ ap (λ t. new ++ output_of conversion t) (sym (drop_all (length text) text (omega arith)))
+module _ (conversion : Conversion) (text : List ℕ) where
+  -- nothing is left of a text at its end
+  no_output : (front : ℕ) → front ≡ length text → (new : List ℕ) → new ++ output_of conversion (drop front text) ≡ new
+  no_output front end new =
+      ap (λ k. new ++ output_of conversion (drop k text)) end ∙ ap (λ t. new ++ output_of conversion t) (drop_all (length text) text (omega arith))
+      ∙ ap (λ t. new ++ t) (no_bracket conversion 0 [] tt) ∙ append-nil new
+
+  -- so nothing follows a text that was converted whole
+  pub whole_converted : (whole new : List ℕ) → new ≡ whole → whole ≡ new ++ output_of conversion (drop (length text) text)
+  whole_converted whole new is = sym is ∙ sym (no_output (length text) refl new)
+
+  -- and a text was converted whole if its front is all of it
+  pub nothing_follows : (front : ℕ) → front ≡ length text → (whole new : List ℕ) → whole ≡ new ++ output_of conversion (drop front text) → new ≡ whole
+  nothing_follows front end whole new is = sym (is ∙ no_output front end new)

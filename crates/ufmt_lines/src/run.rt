@@ -8,6 +8,7 @@ ghost use Rattle.ufmt_io.specs.Watched.{device_of, has_failed, has_given_up};
 
 mod arguments;
 mod conversion;
+mod converter;
 mod fault;
 mod groups;
 pub mod laws;
@@ -75,15 +76,15 @@ pub fn run<R: Read, W: Write>(
         → length bytes < 2 ^ 64 - 1 → has_given_up input.new ≡ has_given_up input.old }
     ensures writes_on { has_given_up output.new ≡ has_given_up output.old }
 {
-    let mut group = Group::new(alloc);
+    let mut group = Group::new(alloc, conversion);
     let mut chunk = new_chunk(alloc)?;
     let mut turns: u64 = 0;
     'reads: while turns < u64::MAX {
         let count = read_chunk(input, &mut chunk)?;
         if count == 0 {
-            return group.write_last(conversion, output);
+            return group.write_last(output);
         }
-        group.write_ended(conversion, front(&chunk, count), output)?;
+        group.write_ended(front(&chunk, count), output)?;
         turns += 1;
     }
     // An input with no end, after 2^64 - 1 reads.

@@ -40,9 +40,17 @@ abbrev pub IsEndOf : Mode → Bool → List ℕ → Option ℕ → Type 0
 IsEndOf mode inside line outcome =
     (lines : List ℕ) → inside ≡ nat_lt 0 (length lines) → IsOpen mode lines → MatchOption outcome (IsOpen mode (lines ++ line)) (EndsGroup mode lines line)
 
+-- what is made of its values
+abbrev pub conversion_of : Group → Conversion
+conversion_of group = group.converter.conversion
+
+-- the mode of their texts then
+abbrev pub mode_of : Group → Mode
+mode_of group = (conversion_of group).to
+
 -- the outputs that aren't written yet
 abbrev pub gathered : Group → List ℕ
-gathered group = output_bytes group.outputs
+gathered group = output_bytes group.converter.output
 
 -- the outputs for the first groups of a text are appended, and nothing for the rest
 pub record Gathers (conversion : Conversion) (text rest old new : List ℕ) : Type 0 where

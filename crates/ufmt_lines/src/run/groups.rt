@@ -12,16 +12,13 @@ ghost use Rattle.ufmt_lines.specs.Private.WholeLines.{EndsLine};
 ghost use Rattle.ufmt_lines.specs.Values.{output_of};
 
 use super::conversion::Conversion;
-use super::output::GroupOutput;
+use super::converter::Converter;
 use std::alloc::{AllocError, Global};
 use std::io::Write;
 use ufmt::layout::Mode;
 use ufmt_io::{IoFault, Watched, write_whole};
 use ufmt_values::search::{LineFeed, len_before_first, len_through_last};
 use ufmt_values::{is_opening, next_bracket, run_start};
-
-// How many bytes of outputs are written at once, at least, if more groups have ended.
-pub(super) const LEAST: usize = 1024 * 1024;
 
 /// The group of lines that is being read, and outputs that aren't written yet.
 #[derive(Drop)]
@@ -31,13 +28,14 @@ pub(super) struct Group {
     line: usize,
     // Room for what is left of a line in which a group ends.
     left: Vec<u8>,
-    outputs: GroupOutput,
+    converter: Converter,
 }
 
 impl Group {
-    ghost use Rattle.ufmt_lines.specs.Private.Group.{IsReading, Gathers, gathered, group_bytes};
+    ghost use Rattle.ufmt_lines.specs.Private.Group.{IsReading, Gathers, conversion_of, gathered, group_bytes, mode_of};
 
-    pub(super) fn new(alloc: Global) -> Group
+    pub(super) fn new(alloc: Global, conversion: Conversion) -> Group
+        ensures conversion { conversion_of result ≡ conversion }
         ensures bytes { group_bytes result ≡ [] }
         ensures line { result.line ≡ 0 }
         ensures outputs { gathered result ≡ [] }
@@ -46,7 +44,7 @@ impl Group {
             bytes: Vec::new(alloc),
             line: 0,
             left: Vec::new(alloc),
-            outputs: GroupOutput::new(alloc),
+            converter: Converter::new(alloc, conversion),
         }
     }
 
@@ -54,24 +52,24 @@ impl Group {
     /// What follows the last group is the group that is being read then.
     pub(super) fn write_ended<W: Write>(
         &mut self,
-        conversion: Conversion,
         bytes: &[u8],
         output: &mut Watched<W>,
     ) -> Result<(), IoFault>
         requires works { has_failed output.old ≡ false }
-        requires reading { IsReading conversion.to self.old }
+        requires reading { IsReading (mode_of self.old) self.old }
         requires none { gathered self.old ≡ [] }
-        ensures ok { OnOk result (WritesFront conversion (group_bytes self.old ++ bytes.now)
+        ensures conversion { conversion_of self.new ≡ conversion_of self.old }
+        ensures ok { OnOk result (WritesFront (conversion_of self.old) (group_bytes self.old ++ bytes.now)
             (group_bytes self.new) (W.contents (device_of output.old))
             (W.contents (device_of output.new))) }
-        ensures reading { OnOk result (IsReading conversion.to self.new) }
+        ensures reading { OnOk result (IsReading (mode_of self.old) self.new) }
         ensures none { OnOk result (gathered self.new ≡ []) }
         ensures cannot_write { IsErrOf result IoFault.CannotWrite → (more : List ℕ)
             → AppendsPrefix (W.contents (device_of output.old))
             (W.contents (device_of output.new))
-            (outputs_of conversion ((group_bytes self.old ++ bytes.now) ++ more)) }
+            (outputs_of (conversion_of self.old) ((group_bytes self.old ++ bytes.now) ++ more)) }
         ensures out_of_memory { IsErrOf result IoFault.OutOfMemory → (rest : List ℕ)
-            × WritesFront conversion (group_bytes self.old ++ bytes.now) rest
+            × WritesFront (conversion_of self.old) (group_bytes self.old ++ bytes.now) rest
             (W.contents (device_of output.old)) (W.contents (device_of output.new)) }
         ensures failed { IsErrOf result IoFault.CannotWrite ↔ IsTrue (has_failed output.new) }
         ensures no_reader { IfErr result (λ fault. fault ≢ IoFault.CannotRead) }
@@ -80,7 +78,7 @@ impl Group {
         let (whole, last) = split_last_line(bytes);
         let mut lines = whole;
         'ended: while !lines.is_empty() {
-            lines = self.end_lines(conversion, lines)?;
+            lines = self.end_lines(lines)?;
             self.write_if_full(output)?;
         }
         self.bytes.extend_from_slice(last)?;
@@ -88,18 +86,14 @@ impl Group {
     }
 
     /// Writes the output for what is left, which is the last group.
-    pub(super) fn write_last<W: Write>(
-        &mut self,
-        conversion: Conversion,
-        output: &mut Watched<W>,
-    ) -> Result<(), IoFault>
+    pub(super) fn write_last<W: Write>(&mut self, output: &mut Watched<W>) -> Result<(), IoFault>
         requires works { has_failed output.old ≡ false }
         requires none { gathered self.old ≡ [] }
         ensures ok { OnOk result (Appends (W.contents (device_of output.old))
-            (W.contents (device_of output.new)) (output_of conversion (group_bytes self.old))) }
+            (W.contents (device_of output.new)) (output_of (conversion_of self.old) (group_bytes self.old))) }
         ensures cannot_write { IsErrOf result IoFault.CannotWrite
             → AppendsPrefix (W.contents (device_of output.old))
-            (W.contents (device_of output.new)) (output_of conversion (group_bytes self.old)) }
+            (W.contents (device_of output.new)) (output_of (conversion_of self.old) (group_bytes self.old)) }
         ensures out_of_memory { IsErrOf result IoFault.OutOfMemory → output.new ≡ output.old }
         ensures failed { IsErrOf result IoFault.CannotWrite ↔ IsTrue (has_failed output.new) }
         ensures no_reader { IfErr result (λ fault. fault ≢ IoFault.CannotRead) }
@@ -109,81 +103,77 @@ impl Group {
         let Some(_) = next_bracket(&self.bytes, self.bytes.len(), 0) else {
             return write_some(output, &self.bytes);
         };
-        self.outputs.push_group(conversion, &self.bytes)?;
+        self.converter.push_group(&self.bytes)?;
         self.write_gathered(output)
     }
 
     // Ends lines at the front of whole lines, and returns those that are left. Where each line is a group,
     // all are converted together, up to the line with a bracket of no value.
-    fn end_lines<'a>(
-        &mut self,
-        conversion: Conversion,
-        lines: &'a [u8],
-    ) -> Result<&'a [u8], AllocError>
-        requires reading { IsReading conversion.to self.old }
+    fn end_lines<'a>(&mut self, lines: &'a [u8]) -> Result<&'a [u8], AllocError>
+        requires reading { IsReading (mode_of self.old) self.old }
         requires whole { EndsLine lines.now }
         requires some { 0 < length lines.now }
-        ensures reading { OnOk result (IsReading conversion.to self.new) }
+        ensures conversion { conversion_of self.new ≡ conversion_of self.old }
+        ensures reading { OnOk result (IsReading (mode_of self.old) self.new) }
         ensures whole { IfOk result (λ left. EndsLine left.now) }
         ensures fewer { IfOk result (λ left. length left.now < length lines.now) }
-        ensures ok { IfOk result (λ left. Gathers conversion (group_bytes self.old ++ lines.now)
+        ensures ok { IfOk result (λ left. Gathers (conversion_of self.old) (group_bytes self.old ++ lines.now)
             (group_bytes self.new ++ left.now) (gathered self.old) (gathered self.new)) }
     {
-        match conversion.to {
-            Mode::Pretty if self.bytes.is_empty() => self.outputs.push_lines(conversion, lines),
-            _ => self.end_first(conversion, lines),
+        match self.converter.conversion.to {
+            Mode::Pretty if self.bytes.is_empty() => self.converter.push_lines(lines),
+            _ => self.end_first(lines),
         }
     }
 
     // Ends the first of whole lines, and returns the others.
-    fn end_first<'a>(
-        &mut self,
-        conversion: Conversion,
-        lines: &'a [u8],
-    ) -> Result<&'a [u8], AllocError>
-        requires reading { IsReading conversion.to self.old }
+    fn end_first<'a>(&mut self, lines: &'a [u8]) -> Result<&'a [u8], AllocError>
+        requires reading { IsReading (mode_of self.old) self.old }
         requires whole { EndsLine lines.now }
         requires some { 0 < length lines.now }
-        ensures reading { OnOk result (IsReading conversion.to self.new) }
+        ensures conversion { conversion_of self.new ≡ conversion_of self.old }
+        ensures reading { OnOk result (IsReading (mode_of self.old) self.new) }
         ensures whole { IfOk result (λ left. EndsLine left.now) }
         ensures fewer { IfOk result (λ left. length left.now < length lines.now) }
-        ensures ok { IfOk result (λ left. Gathers conversion (group_bytes self.old ++ lines.now)
+        ensures ok { IfOk result (λ left. Gathers (conversion_of self.old) (group_bytes self.old ++ lines.now)
             (group_bytes self.new ++ left.now) (gathered self.old) (gathered self.new)) }
     {
         let Some((line, others)) = split_line(lines) else {
             unreachable!()
         };
-        self.end_line(conversion, line)?;
+        self.end_line(line)?;
         Ok(others)
     }
 
     // Ends the line with these bytes, the last of which is its line feed. Appends the output for the
     // group if it ends in the line.
-    fn end_line(&mut self, conversion: Conversion, bytes: &[u8]) -> Result<(), AllocError>
-        requires reading { IsReading conversion.to self.old }
+    fn end_line(&mut self, bytes: &[u8]) -> Result<(), AllocError>
+        requires reading { IsReading (mode_of self.old) self.old }
         requires line { IsEndedLine bytes.now }
-        ensures reading { OnOk result (IsReading conversion.to self.new) }
-        ensures ok { OnOk result (Gathers conversion (group_bytes self.old ++ bytes.now)
+        ensures conversion { conversion_of self.new ≡ conversion_of self.old }
+        ensures reading { OnOk result (IsReading (mode_of self.old) self.new) }
+        ensures ok { OnOk result (Gathers (conversion_of self.old) (group_bytes self.old ++ bytes.now)
             (group_bytes self.new) (gathered self.old) (gathered self.new)) }
     {
         self.bytes.extend_from_slice(bytes)?;
         let line = &self.bytes[self.line..];
-        let Some(size) = end_of_group(conversion.to, self.line > 0, line) else {
+        let Some(size) = end_of_group(self.converter.conversion.to, self.line > 0, line) else {
             self.begin_line();
             return Ok(());
         };
-        self.end_group(conversion, self.line + size)
+        self.end_group(self.line + size)
     }
 
     // Appends the output for the group, which has so many bytes. Those after them begin the next group.
-    fn end_group(&mut self, conversion: Conversion, size: usize) -> Result<(), AllocError>
+    fn end_group(&mut self, size: usize) -> Result<(), AllocError>
         requires { size ≤ length (group_bytes self.old) }
+        ensures conversion { conversion_of self.new ≡ conversion_of self.old }
         ensures bytes { OnOk result (group_bytes self.new ≡ drop size (group_bytes self.old)) }
         ensures line { OnOk result (self.new.line ≡ length (group_bytes self.new)) }
         ensures ok { OnOk result (gathered self.new
-            ≡ gathered self.old ++ output_of conversion (take size (group_bytes self.old))) }
+            ≡ gathered self.old ++ output_of (conversion_of self.old) (take size (group_bytes self.old))) }
     {
-        self.outputs.push_group(conversion, &self.bytes[..size])?;
+        self.converter.push_group(&self.bytes[..size])?;
         // `drain` takes some thousand steps for a few bytes.
         self.left.clear();
         self.left.extend_from_slice(&self.bytes[size..])?;
@@ -195,6 +185,7 @@ impl Group {
 
     // All bytes so far are lines that have ended.
     fn begin_line(&mut self)
+        ensures conversion { conversion_of self.new ≡ conversion_of self.old }
         ensures bytes { group_bytes self.new ≡ group_bytes self.old }
         ensures line { self.new.line ≡ length (group_bytes self.old) }
         ensures same { gathered self.new ≡ gathered self.old }
@@ -205,6 +196,7 @@ impl Group {
     // Writes the outputs if there are many.
     fn write_if_full<W: Write>(&mut self, output: &mut Watched<W>) -> Result<(), IoFault>
         requires works { has_failed output.old ≡ false }
+        ensures conversion { conversion_of self.new ≡ conversion_of self.old }
         ensures same { group_bytes self.new ≡ group_bytes self.old }
         ensures line { self.new.line ≡ self.old.line }
         ensures ok { OnOk result (((gathered self.new ≡ gathered self.old)
@@ -217,7 +209,7 @@ impl Group {
         ensures no_other { IfErr result (λ fault. fault ≡ IoFault.CannotWrite) }
         ensures writes_on { has_given_up output.new ≡ has_given_up output.old }
     {
-        if self.outputs.as_bytes().len() < LEAST {
+        if !self.converter.output.is_long() {
             return Ok(());
         }
         self.write_gathered(output)
@@ -226,6 +218,7 @@ impl Group {
     // Writes the outputs, if there are any.
     fn write_gathered<W: Write>(&mut self, output: &mut Watched<W>) -> Result<(), IoFault>
         requires works { has_failed output.old ≡ false }
+        ensures conversion { conversion_of self.new ≡ conversion_of self.old }
         ensures same { group_bytes self.new ≡ group_bytes self.old }
         ensures line { self.new.line ≡ self.old.line }
         ensures ok { OnOk result (Appends (W.contents (device_of output.old))
@@ -237,8 +230,8 @@ impl Group {
         ensures no_other { IfErr result (λ fault. fault ≡ IoFault.CannotWrite) }
         ensures writes_on { has_given_up output.new ≡ has_given_up output.old }
     {
-        write_some(output, self.outputs.as_bytes())?;
-        self.outputs.clear();
+        write_some(output, self.converter.output.as_bytes())?;
+        self.converter.output.clear();
         Ok(())
     }
 }

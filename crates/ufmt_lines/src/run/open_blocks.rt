@@ -18,14 +18,19 @@ use ufmt_values::{
 // So many blocks are open in a text at most, with one that is too deep.
 const MOST: usize = 256;
 
+// So many tries of a text fail before open blocks are looked for.
+const FEW: u8 = 3;
+
 // How many bytes come between two entries, or a key and its value: a comma or a colon, and a space.
 const SEPARATOR_LEN: usize = 2;
 
-/// What tries that failed in a group say of the brackets after them.
+/// What tries that failed in a text say of the brackets after them. In most texts few do, and nothing is kept of
+/// them.
 #[derive(Drop)]
 pub(super) struct Tries {
+    failed: u8,
     open: OpenStarts,
-    // Two reads of a group may differ in which bytes are in quotes, so the blocks of two reads are kept.
+    // Two reads of a text may differ in which bytes are in quotes, so the blocks of two reads are kept.
     first: Barren,
     second: Barren,
     // A value begins at this place. A try from before it stopped since blocks were too deep, so the blocks that
@@ -38,6 +43,7 @@ impl Tries {
         ensures { (text : List ℕ) → IsKnown text result }
     {
         Tries {
+            failed: 0,
             open: OpenStarts::new(),
             first: Barren::new(),
             second: Barren::new(),
@@ -45,9 +51,44 @@ impl Tries {
         }
     }
 
-    /// Where the plain value with this bracket begins, and the value, if there is one. If there is none, the
-    /// blocks that are open where the try stops are kept.
+    /// Forgets the tries of an earlier text.
+    pub(super) fn clear(&mut self)
+        ensures { (text : List ℕ) → IsKnown text self.new }
+    {
+        self.failed = 0;
+        self.first.clear();
+        self.second.clear();
+        self.deep = 0;
+    }
+
+    /// Where the value with this bracket begins, and the value, if there is one.
+    #[inline(always)]
     pub(super) fn value_at(
+        &mut self,
+        to: Mode,
+        text: &[u8],
+        low: usize,
+        bracket: usize,
+    ) -> Option<(usize, FrontText)>
+        requires low { low ≤ bracket }
+        requires within { bracket < length text.now }
+        requires opens { is_opening (slice_index_or text.now bracket 0) ≡ true }
+        requires known { IsKnown text.now self.old }
+        ensures value { IsValueAt to text.now low bracket result }
+        ensures known { IsKnown text.now self.new }
+    {
+        if let (Mode::Pretty, FEW) = (to, self.failed) {
+            return self.plain_value_at(text, low, bracket);
+        }
+        let found = value_at(to, text, low, bracket);
+        self.failed = self.failed.saturating_add(found.is_none() as u8);
+        found
+    }
+
+    // The same for a plain value, after some tries failed. If there is none, the blocks that are open where the
+    // try stops are kept.
+    #[inline(never)]
+    fn plain_value_at(
         &mut self,
         text: &[u8],
         low: usize,
@@ -128,13 +169,19 @@ impl Barren {
         self.first == MOST
     }
 
+    fn clear(&mut self)
+        ensures { (text : List ℕ) → IsBarren text self.new }
+    {
+        self.first = MOST;
+    }
+
     // Replaces the places by this one, at which no value begins, and by the starts of the blocks that have it
     // in them. Only starts after `start` are kept.
     fn fill(&mut self, text: &[u8], innermost: usize, start: usize, open: &mut OpenStarts)
         requires { value_from Mode.Pretty (drop innermost text.now) ≡ None }
         ensures { IsBarren text.now self.new }
     {
-        self.first = MOST;
+        self.clear();
         self.push(innermost);
         let mut inner = innermost;
         'around: while let Some(outer) = open.pop() {

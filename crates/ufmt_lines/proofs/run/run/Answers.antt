@@ -2,7 +2,7 @@ use Rattle.std.proofs.Common.{◌≡◌, ◌≤◌, ◌+◌, ◌∙◌, ap, arit
 use Rattle.std.proofs.lemmas.Result.{on_ok_weaker}
 use Rattle.std.specs.Prelude.{⊤}
 use Rattle.ufmt_lines.specs.Groups.{IsInGroup}
-use Rattle.ufmt_lines.specs.Private.Group.{group_bytes}
+use Rattle.ufmt_lines.specs.Private.Group.{IsReading, group_bytes}
 use Rattle.ufmt_io.specs.Watched.{device_of}
 use Rattle.ufmt_lines.proofs.Consumed.{WritesUpTo, consumed_within, last_written, last_in_part, nothing_read, one_each, read_as, read_in_part, read_kept, read_more, read_more_text, read_nothing}
 use Rattle.ufmt_lines.proofs.Readings.{reading_nothing, reading_one, reading_within}
@@ -18,6 +18,7 @@ reads-init g c = record {
   turns = search rules;
   reads_on = refl;
   writes_on = refl;
+  conversion = c.new-group.ensures.conversion;
   reading = reading_nothing c.args.conversion.to c.new-group.result c.new-group.ensures.bytes c.new-group.ensures.line;
   none = c.new-group.ensures.outputs;
   room = c.in_ok-chunk.ensures;
@@ -28,7 +29,8 @@ reads-init g c = record {
 
 pub reads-preserved : goal.reads-preserved
 reads-preserved g c =
-    let written = rw c.front.ensures.bytes at c.in_ok-write_ended.ensures.ok in
+    let so_far = c.reads.invariant in
+    let written = rw (so_far.conversion, c.front.ensures.bytes) at c.in_ok-write_ended.ensures.ok in
     let size = sym (ap length c.front.ensures.bytes) ∙ c.front.ensures.size in
     let text = read_more_text c.args.conversion _ _ _ _ _ c.reads.invariant.so_far _ _ _ c.in_ok-count.ensures.ok (λ rest. rest ≡ group_bytes c.write_ended.new.self) _ refl written in
     record {
@@ -37,7 +39,8 @@ reads-preserved g c =
       turns = search rules;
       reads_on = search rules;
       writes_on = search rules;
-      reading = c.in_ok-write_ended.ensures.reading;
+      conversion = c.write_ended.ensures.conversion ∙ so_far.conversion;
+      reading = rw so_far.conversion at c.in_ok-write_ended.ensures.reading;
       none = c.in_ok-write_ended.ensures.none;
       room = c.in_ok-count.ensures.room;
       so_far = read_more c.args.conversion _ _ _ _ _ c.reads.invariant.so_far _ _ _ c.in_ok-count.ensures.ok
@@ -46,13 +49,16 @@ reads-preserved g c =
           (one_each c.reads.invariant.so_far.text _ c.in_ok-count.count c.reads.turns c.reads.invariant.each size c.if-count-eq0.false);
     }
 
+pub write_ended-requires-clause-reading : goal.write_ended-requires-clause-reading
+write_ended-requires-clause-reading g c = subst (λ conversion. IsReading conversion.to c.reads.group) (sym c.reads.invariant.conversion) c.reads.invariant.reading
+
 pub returns-in_err-count-clause-cannot_read : goal.returns-in_err-count-clause-cannot_read
 returns-in_err-count-clause-cannot_read g c = λ failed. read_kept c.args.conversion _ _ _ _ _ c.reads.invariant.so_far _ (IsInGroup c.args.conversion.to) (reading_within c.args.conversion.to c.reads.group c.reads.invariant.reading) c.in_err-count.ensures.kept
 
 pub returns-then-count-eq0-clause-ok : goal.returns-then-count-eq0-clause-ok
 returns-then-count-eq0-clause-ok g c = on_ok_weaker c.write_last.result (λ written.
     last_written c.args.conversion _ _ _ _ _ c.reads.invariant.so_far _ _ (rw c.if-count-eq0.true at c.in_ok-count.ensures.ok)
-    (c.in_ok-count.ensures.end c.if-count-eq0.true) (reading_one c.args.conversion.to c.reads.group c.reads.invariant.reading) written) c.write_last.ensures.ok
+    (c.in_ok-count.ensures.end c.if-count-eq0.true) (reading_one c.args.conversion.to c.reads.group c.reads.invariant.reading) written) (rw c.reads.invariant.conversion at c.write_last.ensures.ok)
 
 pub returns-then-count-eq0-clause-read_whole : goal.returns-then-count-eq0-clause-read_whole
 returns-then-count-eq0-clause-read_whole g c = on_ok_weaker c.write_last.result (λ written. c.in_ok-count.ensures.end c.if-count-eq0.true) c.write_last.ensures.ok
@@ -60,7 +66,7 @@ returns-then-count-eq0-clause-read_whole g c = on_ok_weaker c.write_last.result 
 pub returns-then-count-eq0-clause-cannot_write : goal.returns-then-count-eq0-clause-cannot_write
 returns-then-count-eq0-clause-cannot_write g c = λ failed.
     last_in_part c.args.conversion _ _ _ _ _ c.reads.invariant.so_far _ _ (rw c.if-count-eq0.true at c.in_ok-count.ensures.ok)
-    (c.in_ok-count.ensures.end c.if-count-eq0.true) (reading_one c.args.conversion.to c.reads.group c.reads.invariant.reading) (c.write_last.ensures.cannot_write failed)
+    (c.in_ok-count.ensures.end c.if-count-eq0.true) (reading_one c.args.conversion.to c.reads.group c.reads.invariant.reading) (rw c.reads.invariant.conversion at (c.write_last.ensures.cannot_write failed))
 
 pub returns-then-count-eq0-clause-out_of_memory : goal.returns-then-count-eq0-clause-out_of_memory
 returns-then-count-eq0-clause-out_of_memory g c = λ failed.
@@ -70,12 +76,12 @@ returns-then-count-eq0-clause-out_of_memory g c = λ failed.
 pub returns-in_err-write_ended-clause-cannot_write : goal.returns-in_err-write_ended-clause-cannot_write
 returns-in_err-write_ended-clause-cannot_write g c = λ failed.
     read_in_part c.args.conversion _ _ _ _ _ c.reads.invariant.so_far _ _ _ c.in_ok-count.ensures.ok
-    (rw c.front.ensures.bytes at (c.in_err-write_ended.ensures.cannot_write (search rules)))
+    (rw (c.reads.invariant.conversion, c.front.ensures.bytes) at (c.in_err-write_ended.ensures.cannot_write (search rules)))
 
 pub returns-in_err-write_ended-clause-out_of_memory : goal.returns-in_err-write_ended-clause-out_of_memory
 returns-in_err-write_ended-clause-out_of_memory g c = λ failed.
     let part = c.in_err-write_ended.ensures.out_of_memory (search rules) in
-    read_more c.args.conversion _ _ _ _ _ c.reads.invariant.so_far _ _ _ c.in_ok-count.ensures.ok (λ rest. ⊤) part.0 tt (rw c.front.ensures.bytes at part.1)
+    read_more c.args.conversion _ _ _ _ _ c.reads.invariant.so_far _ _ _ c.in_ok-count.ensures.ok (λ rest. ⊤) part.0 tt (rw (c.reads.invariant.conversion, c.front.ensures.bytes) at part.1)
 
 pub returns-clause-cannot_read : goal.returns-clause-cannot_read
 returns-clause-cannot_read g c = λ failed. rw c.give_up.ensures.device (read_as c.args.conversion _ _ _ _ _ c.reads.invariant.so_far (IsInGroup c.args.conversion.to) (reading_within c.args.conversion.to c.reads.group c.reads.invariant.reading))

@@ -1,4 +1,4 @@
-use Rattle.ufmt_lines.proofs.run.open_blocks.Tries.value_at.Goals as goal
+use Rattle.ufmt_lines.proofs.run.open_blocks.Tries.plain_value_at.Goals as goal
 
 pub returns-then-is_barren-clause-known : goal.returns-then-is_barren-clause-known
 returns-then-is_barren-clause-known c = c.is_barren.ensures.known c.args.text.now c.requires.known
