@@ -10,6 +10,7 @@ call or a file in which the function isn't. `x list calls` prints each function 
 import fnmatch
 import re
 
+from lib import data
 from lib.contracts.functions import Exports, functions_of
 from lib.findings import ended
 from lib.top import TOP, libraries
@@ -51,16 +52,6 @@ def called(functions, names):
     return {one: name for one, name, whole in zip(functions, own, typed) if name in names and own.count(name) == 1 or whole in names}
 
 
-def reasons():
-    """Each reason with the functions that it is for, which can have stars, and the line where it stands."""
-    line = 1
-    for block in REASONS.read_text().split("\n\n"):
-        reason, *rows = block.strip("\n").split("\n")
-        if not reason.startswith("#"):
-            yield line, reason, [word for row in rows for word in row.split()]
-        line += block.count("\n") + 2
-
-
 def wrong(reason, function, names):
     for name, probe in NAMED.findall(reason):
         if name not in names[probe]:
@@ -75,8 +66,9 @@ def main(arguments):
     functions = [function for crate in libraries() for function in dict.fromkeys(public_of(crate))]
     names, given, faults = listed(), {}, []
     calls = called(functions, names["probe_memory"])
-    for line, reason, patterns in reasons():
-        for wanted in patterns:
+    for line, reason, rows in data.reasons(REASONS):
+        # The functions that it is for may have stars.
+        for wanted in " ".join(rows).split():
             found = fnmatch.filter(functions, wanted)
             said = ["there is no function %s" % wanted] * (not found)
             said += ["%s is a call of probe_memory" % one for one in found if one in calls]

@@ -7,50 +7,24 @@ seconds a struct.
 It prints a line for each function that isn't proved, with the kinds of its struct. The status is 1 if there was one.
 """
 import itertools
-import pathlib
 import random
 import re
-import subprocess
-import tempfile
 
+from lib import running
 from lib.bench import build
 from lib.command import check
 from lib.command.arguments import add_jobs, add_names
+from lib.data import DATA
 from lib.findings import ended
 from lib.top import TOP, closure, listed
 
-TABLE, HEAD = TOP / "tools" / "data" / "fields.txt", TOP / "tools" / "data" / "fields.rt.txt"
+# The source up to a line `====`, and a struct of it.
+HEAD, STRUCT = (DATA / "fields.rt.txt").read_text().split("====\n")
 BELOW = "ufmt ufmt_core ufmt_parse ufmt_parser".split()
-STRUCT = """
-// %(told)s
-#[derive(Drop)]
-pub struct %(name)s%(parameter)s {
-%(fields)s}
-
-impl%(printed)s uDebug for %(name)s%(parameter)s {
-    ghost document = { λ s. named_struct "%(name)s" (%(documents)s[]) };
-
-    fn fmt<W: uWrite>(&self, f: &mut Formatter<W>) -> Result<(), W::Error> {
-        fields!(f, self, %(name)s { %(names)s })
-    }
-}
-
-impl%(parsed)s uParse<Global> for %(name)s%(parameter)s {
-    ghost is_value = { λ %(value)s };
-
-    fn prove_value(&self) {
-        prove_fields!(Global, self, %(name)s { %(names)s })
-    }
-
-    fn parse_from<M: ParseMode>(alloc: Global, parser: &mut Parser<'_, M>) -> Result<%(name)s%(parameter)s, Fault> {
-        parse_fields!(alloc, parser, %(name)s { %(names)s })
-    }
-}
-"""
 
 
 def kinds():
-    rows = (re.split(r" \|(?: |$)", line, maxsplit=3) for line in TABLE.read_text().splitlines() if not line.startswith("#"))
+    rows = (re.split(r" \|(?: |$)", line, maxsplit=3) for line in (DATA / "fields.txt").read_text().splitlines() if not line.startswith("#"))
     return {kind: (type_of, document, value.strip()) for kind, type_of, document, value in rows}
 
 
@@ -86,14 +60,13 @@ def add_arguments(parser):
 def main(given):
     table, lines = kinds(), {**listed(), "fields": BELOW}
     structs = {"S%d" % i: drawn for i, drawn in enumerate(draws(given, table))}
-    with tempfile.TemporaryDirectory(prefix="x-fields-") as room:
-        room = pathlib.Path(room)
+    with running.room("fields") as room:
         build.copied(TOP, room, closure(BELOW, lines), ("src", "specs", "proofs"))
         folder = room / "crates" / "fields"
         (folder / "src").mkdir(parents=True)
-        (folder / "src" / "lib.rt").write_text(HEAD.read_text() + "".join(struct(name, drawn, table) for name, drawn in structs.items()))
+        (folder / "src" / "lib.rt").write_text(HEAD + "".join(struct(name, drawn, table) for name, drawn in structs.items()))
         call = check.command(folder, room / "kept", "fields", lines, ["fields"], given.jobs, False)
-        said = subprocess.run(call, cwd=folder, text=True, stdout=subprocess.PIPE, stderr=subprocess.STDOUT).stdout
+        _, said = running.said(call, cwd=folder)
     open_in = sorted({name for name in re.findall(r"fields::(S\d+)", said)}, key=lambda name: int(name[1:]))
     faults = ["%s: not proved" % ", ".join(structs[name]) for name in open_in]
     faults += [line for line in said.splitlines() if re.match(r"error", line)] if not faults else []

@@ -9,18 +9,57 @@ the texts of tools/data/texts/refused.txt.
 All these texts are passed to the built probe_model, which `rt ci` leaves in crates/probe_model/out, and what
 the calls of both classes say of them is compared with what the model says.
 """
-import sys
+import itertools
+import re
+from typing import NamedTuple
+from urllib.parse import unquote
 
-from lib import needs
-from lib.expected.rows import reasons, rows
+from lib import data, needs
 from lib.findings import case, ended
 from lib.model import debug_refused
 from lib.model.reading import MODES, READERS, converted
 from lib.model.step import shown, wrong_lines
+from lib.top import TOP
 
-sys.setrecursionlimit(20_000)
-
+DATA = TOP / "tools" / "expected"
 CLASSES = ("token", "debug")
+OF_REASON = {"token": ("token",), "debug": ("debug",), "both": CLASSES}
+REASON = re.compile(r"(token|debug|both): (same|another|refused), (same|another|refused)\. (\S.*)")
+
+
+class Row(NamedTuple):
+    """A value's texts by `{:?}` and by `{:#?}`."""
+
+    name: str
+    plain: str
+    pretty: str
+
+
+def rows():
+    """The first line of the file says which rustc printed it, and src/rows.rs has the form of the others."""
+    blocks = (DATA / "rows.txt").read_text(encoding="utf-8").rstrip("\n").split("\n\n")
+    return [row(*block.split("\n")) for block in blocks[1:]]
+
+
+def row(name, first, *others):
+    if not first.startswith("? ") or not others or not all(line[:2] in ("#", "# ") for line in others):
+        raise ValueError("a row of another form: " + name)
+    return Row(name, unquote(first[2:]), "\n".join(unquote(line[2:]) for line in others))
+
+
+def reasons():
+    """What comes out of a row's plain and of its pretty text, by its name and a class. A reason of another form ends the run."""
+    found = {}
+    for _, reason, names in data.reasons(DATA / "reasons"):
+        its = REASON.fullmatch(reason)
+        if not its:
+            raise ValueError("a reason of another form: " + reason)
+        for key in itertools.product(names, OF_REASON[its[1]]):
+            if found.setdefault(key, its.group(2, 3)) != its.group(2, 3):
+                raise ValueError("two reasons: %s" % key[0])
+    return found
+
+
 # There are at least so many rows. Of each 150 the debug class has at least so many in both directions.
 LEAST_ROWS, LEAST_OF_150 = 150, 137
 SAME = ("same", "same")

@@ -2,21 +2,97 @@
 compares each of its reads and writes with those of a model, which shares no code with the project. With a C compiler memory, reads
 and writes are counted on long logs of each shape, and with valgrind steps (log_costs.py).
 
-A log of 200 lines has its values marked, and 100 times as many logs of nasty pieces hold the model to its laws (law.py). Last the
-built ufmt_conv reads texts in chunks, and each of its reads and writes is compared too.
+100 times as many logs of nasty pieces hold the model to its laws: a log that `--plain` leaves as it is comes back after pretty and
+plain, for every limit, and cuts of groups change no output. A log of 200 lines in five formats has its values marked: those that a
+reader wants laid out, and those that stay on purpose. A name is as long as it may be, so a value that is marked from its bracket's
+word on may begin before it, as in `lock=Package { .. }`.
+
+Last the built ufmt_conv reads texts in chunks, and each of its reads and writes is compared too.
 """
 import concurrent.futures
 import itertools
-import pathlib
+import random
+import re
 import shutil
-import sys
 
+from lib import data, needs
 from lib.findings import ended
-from lib.log_model import devices, law, log_costs, log_model, logs
+from lib.log_model import devices, log_costs, log_model, logs
 from lib.model import verdicts
-from lib.top import TOP
 
-sys.setrecursionlimit(20_000)
+LIMITS = (0, 8, 40)
+NAMED, PIECES = ([data.data_of(row) for row in data.parts("logs/nasty.txt")[part]] for part in ("named", "pieces"))
+MARKED = data.DATA / "logs" / "five_formats.txt"
+WANTED = "\u00ab", "\u00bb"
+MARK = re.compile("[\u00ab\u00bb\u2039\u203a]")
+
+
+def nasty(chance):
+    pieces = chance.sample(PIECES, chance.randint(2, 12)) if chance.random() < 0.7 else PIECES
+    return b"".join(chance.choice(pieces) for _ in range(chance.randint(1, 14)))
+
+
+def cut_faults(log, plain):
+    """What is wrong with the groups: put together they are the log, and cuts change no output."""
+    if b"".join(group for _read, group in log_model.groups("plain", log)) != log:
+        yield "the groups of %r aren't it" % log
+    if log_model.whole_output("plain", log, end_in=log_model.uncut_end_in) != plain:
+        yield "%r is %r with cut groups" % (log, plain)
+
+
+def law_faults(count, seed):
+    chance = random.Random(seed)
+    found = []
+    for log in [*NAMED, *(nasty(chance) for _ in range(count))]:
+        plain = log_model.whole_output("plain", log, 0)
+        found += cut_faults(log, plain)
+        for given in {log, plain}:
+            if log_model.whole_output("plain", given, 0) != given:
+                continue
+            for longer_than in LIMITS:
+                pretty = log_model.whole_output("pretty", given, longer_than)
+                if log_model.whole_output("plain", pretty, 0) != given:
+                    found.append("%r doesn't come back from %r, at %d bytes" % (given, pretty, longer_than))
+    return found
+
+
+def marked_lines():
+    """Each line without its marks, and the places of the values that are wanted. What stays is marked for a reader."""
+    for line in MARKED.read_bytes().decode().split("\n")[:-1]:
+        found, starts, at = [], [], 0
+        for character in line:
+            if character == WANTED[0]:
+                starts.append(at)
+            elif character == WANTED[1]:
+                found.append((starts.pop(), at))
+            at += not MARK.match(character)
+        yield MARK.sub("", line), found
+
+
+def marked_log():
+    return b"".join(line.encode() + b"\n" for line, _wanted in marked_lines())
+
+
+def is_same(line, value, wanted):
+    """Whether a value is the one that is wanted. Bytes of a name may come before it."""
+    start, end = value
+    return end == wanted[1] and start <= wanted[0] and log_model.name_start(line, start, wanted[0]) == start
+
+
+def wrong_marks():
+    """What is wrong with the model: a value that is wanted and stays, another one that is laid out, or a log that doesn't come
+    back; and how many values are wanted."""
+    found, count = [], 0
+    for number, (line, wanted) in enumerate(marked_lines(), 1):
+        given = [(start, end) for start, end, other in log_model.values("pretty", line) if other is not None]
+        count += len(wanted)
+        if len(given) != len(wanted) or not all(map(is_same, [line] * len(given), given, wanted)):
+            found.append("line %d of %s: %s are laid out, and %s are marked" % (number, MARKED.name, given, wanted))
+    pretty = log_model.whole_output("pretty", marked_log())
+    if log_model.whole_output("plain", pretty) != marked_log():
+        found.append("%s doesn't come back" % MARKED.name)
+    return found, count
+
 
 # How many logs there are, how many a process runs, and how many texts ufmt_conv reads.
 COUNT, BATCH, TEXTS = 60, 25, 40
@@ -62,26 +138,18 @@ def both(path):
     return [path for path in (path, path.with_name(path.name + ".by-rattle")) if path.exists()]
 
 
-def built(program):
-    """What is tried: both builds of ufmt_lines, or the one that is named, and of ufmt_conv."""
-    program = pathlib.Path(program or TOP / "crates/ufmt_lines/out/ufmt_lines").resolve()
-    beside = program.with_name("ufmt_conv")
-    found = both(program), both(beside if beside.exists() else TOP / "crates/ufmt_conv/out/ufmt_conv")
-    if not all(found):
-        sys.exit("ufmt_lines or ufmt_conv isn't there: `rt ci` builds them, and so does `rt run` in their crates")
-    return found
-
-
 def main(given):
     count = COUNT if given.count is None else given.count
-    paths, converters = built(given.program)
-    tried, (faults, values) = 0, law.wrong_marks()
+    paths = both(needs.built("ufmt_lines", given.program))
+    beside = paths[0].with_name("ufmt_conv")
+    converters = both(beside if beside.exists() else needs.built("ufmt_conv"))
+    tried, (faults, values) = 0, wrong_marks()
     with concurrent.futures.ProcessPoolExecutor() as pool:
         jobs = [pool.submit(wrong_texts, path, str(given.seed)) for path in converters]
         if shutil.which("cc"):
             jobs.append(pool.submit(log_costs.faults, paths[0]))
-        jobs.append(pool.submit(law.faults, count * 100, str(given.seed)))
-        jobs.append(pool.submit(wrong_runs, paths, [(law.marked_log(), logs.whole(law.marked_log()))]))
+        jobs.append(pool.submit(law_faults, count * 100, str(given.seed)))
+        jobs.append(pool.submit(wrong_runs, paths, [(marked_log(), logs.whole(marked_log()))]))
         pairs = logs.logs(count, str(given.seed))
         while batch := list(itertools.islice(pairs, BATCH)):
             tried += len(batch)
@@ -89,5 +157,5 @@ def main(given):
         for job in jobs:
             faults += job.result()
     names = ", ".join(path.name for path in paths + converters)
-    print("%d values of %s are laid out" % (values, law.MARKED.name))
+    print("%d values of %s are laid out" % (values, MARKED.name))
     return ended(faults, "%d logs with seed %s, costs of %d shapes, by %s" % (tried, given.seed, len(log_costs.SHAPES), names))

@@ -46,11 +46,9 @@ class Ran(NamedTuple):
 
 class Cases:
     def __init__(self, program):
-        self.program = pathlib.Path(program).resolve()
+        self.program = needs.built(None, program)
         self.room = pathlib.Path(tempfile.mkdtemp(prefix="cases-"))
         self.count, self.faults, self.meter, self.texts = 0, [], Counter(self.room), {"room": os.fsencode(self.room)}
-        if not os.access(self.program, os.X_OK):
-            sys.exit("%s isn't there: %s" % (self.program, needs.BUILDS))
         if self.meter.library is None:
             sys.exit("a C compiler is needed, for devices that move one byte at a call and calls that are counted")
 
