@@ -109,26 +109,26 @@ def sent(mode, log, chunks):
 
 
 def wrong_runs(paths, batch):
-    faults, programs = [], [devices.Program(path) for path in paths]
+    faults = []
     for (log, chunks), mode in itertools.product(batch, log_model.MODES):
         pieces, rounds = sent(mode, log, chunks)
-        for program in programs:
-            fault = devices.fault(program, log_costs.ARGUMENTS[mode], pieces, rounds)
+        for path in paths:
+            fault = devices.fault(path, log_costs.ARGUMENTS[mode], pieces, rounds)
             if fault:
-                faults.append("%s, to %s, a log of %d bytes: %s" % (program.path.name, mode, len(log), fault))
+                faults.append("%s, to %s, a log of %d bytes: %s" % (path.name, mode, len(log), fault))
     return faults
 
 
 def wrong_texts(path, seed):
     """The faults of runs of ufmt_conv, which waits for the end of its input and writes its output at once. Its reads take a long
     text in chunks of 64 KiB: one that is in the middle of them takes only their rest."""
-    maker, program, faults = logs.Maker(seed), devices.Program(path), []
+    maker, faults = logs.Maker(seed), []
     given = [(text, maker.chunks(text)) for text in (maker.text() for _ in range(TEXTS)) if len(text) < logs.CHUNK]
     given += [(b"".join(chunks), chunks) for chunks in (logs.whole(b"a" * 150_000), logs.each_first_byte(), logs.each_last_byte())]
     for (text, chunks), command in itertools.product(given, COMMANDS):
         status, output, line = verdicts.outcome(command, text)
         last = [output.encode()] if output else []
-        fault = devices.fault(program, [command], chunks, [[] for _ in chunks] + [last], status, line.encode())
+        fault = devices.fault(path, [command], chunks, [[] for _ in chunks] + [last], status, line.encode())
         if fault:
             faults.append("%s %s of %s: %s" % (path.name, command, devices.shown(text), fault))
     return faults

@@ -62,35 +62,12 @@ def is_single(block):
     return block.kind == "tuple" and block.name == "" and len(block.entries) == 1
 
 
-def converted(document, is_pretty, depth=0, out=None):
-    """The pieces in which a conversion to this mode writes a document, each with a whole indentation."""
-    out = [] if out is None else out
-    if isinstance(document, str):
-        out.append(document)
-        return out
-    kind, name, entries = document
-    out += [name] * (name != "")
-    if not entries:
-        out.append(EMPTY[kind])
-        return out
-    opening, closing = (PRETTY_FRAMES if is_pretty else PLAIN_FRAMES)[kind]
-    indentation = INDENT * (depth + 1) if is_pretty else ""
-    separator = ",\n" + indentation if is_pretty else ", "
-    between = opening + indentation
-    for before, value in entries:
-        out.append(between)
-        between = separator
-        if before is not None:
-            converted(before, is_pretty, depth + 1, out)
-            out.append(": ")
-        converted(value, is_pretty, depth + 1, out)
-    if kind == "open struct":
-        out.append(separator)
-    if is_pretty:
-        out += [(".." if kind == "open struct" else ",") + "\n" + INDENT * depth, closing]
-    else:
-        out.append(".. }" if kind == "open struct" else "," * is_single(document) + closing)
-    return out
+def converted(document, is_pretty, depth=0):
+    """The pieces in which a conversion to this mode writes a document: a group each, which isn't empty."""
+    found = groups(document, is_pretty, depth, [])
+    if not is_pretty:
+        found = [part for group in found for part in (((", ",), (".. }",)) if group is PLAIN_DOTS else (group,))]
+    return [group if isinstance(group, str) else "".join(group) for group in found if group != ("",)]
 
 
 # ---- Quoted leaves. Each character has one spelling: the first rule in `spelled` that fits it.
@@ -153,12 +130,11 @@ def depth_of(document):
 # key; what separates two entries, with the whole indentation of the second; and what closes a block, in pretty mode a comma, a line feed
 # and the whole indentation, and then the bracket. Dots come after what separates two entries, with what closes the block in the same way.
 END = b"\xff"
+# Blocks that begin with a bracket, and what closes each kind.
 OPENING = {"list": "[", "set": "{", "map": "{"}
 CLOSING = {"list": "]", "set": "}", "map": "}", "struct": "}", "open struct": "}", "tuple": ")"}
-# What comes before the first entry of a block, in plain mode and in pretty mode.
-OF_STRUCT = ((" {", " "), (" {", "\n"))
-START = {"struct": OF_STRUCT, "open struct": OF_STRUCT, "tuple": (("(",), ("(", "\n"))}
-OTHER_START = ((), ("\n",))
+# The end of an open struct in plain mode. A conversion writes it in two pieces, of which the first separates entries.
+PLAIN_DOTS = (", ..", " ", "}")
 
 
 def digest(data):
@@ -178,11 +154,6 @@ def text_of(pieces):
     return b"".join(piece[1:] for piece in pieces.split(END)).decode()
 
 
-def indents(depth):
-    """A piece for each level."""
-    return by_text(INDENT) * depth
-
-
 # ---- Printing.
 
 ESCAPES = re.compile(r"(\\u\{[0-9a-f]+\}|\\.)")
@@ -200,37 +171,39 @@ def of_value(leaf):
     return by_text(quote, *stretches, quote)
 
 
+def groups(document, is_pretty, depth, out):
+    """A leaf as it is, and the pieces of blocks in the groups that a conversion writes at once."""
+    if isinstance(document, str):
+        out.append(document)
+        return out
+    kind, name, entries = document
+    has_name, is_struct = kind not in OPENING, kind in STRUCTS
+    if has_name:
+        out.append((name,))
+    if not entries:
+        # A struct or a tuple is its name alone.
+        out += [(EMPTY[kind],)] if kind == "open struct" else [] if has_name else [(OPENING[kind], CLOSING[kind])]
+        return out
+    inner, outer = (INDENT,) * (depth + 1), (INDENT,) * depth
+    between = (OPENING.get(kind, " {" if is_struct else "("), *(("\n", *inner) if is_pretty else (" ",) * is_struct))
+    for before, value in entries:
+        out.append(between)
+        between = (",\n", *inner) if is_pretty else (", ",)
+        if before is not None:
+            out += [(before,)] if is_struct else groups(before, is_pretty, depth + 1, [])
+            out.append((": ",))
+        groups(value, is_pretty, depth + 1, out)
+    if is_pretty:
+        out += [between, ("..\n", *outer)] if kind == "open struct" else [(",\n", *outer)]
+        out.append((CLOSING[kind],))
+    else:
+        out.append(PLAIN_DOTS if kind == "open struct" else ((" ",) * is_struct or (",",) * is_single(document)) + (CLOSING[kind],))
+    return out
+
+
 def printed(document, is_pretty, of_leaf=by_text, depth=0):
     """The pieces in which a document is printed. `of_leaf` has those of its leaves."""
-    if isinstance(document, str):
-        return of_leaf(document)
-    kind, name, entries = document
-    out = [by_text(OPENING.get(kind, name))]
-    inside = depth + 1 if is_pretty else 0
-    for number, (before, value) in enumerate(entries):
-        if number == 0:
-            out.append(by_text(*START.get(kind, OTHER_START)[is_pretty]))
-        elif not is_pretty:
-            out.append(by_text(", "))
-        out.append(indents(inside))
-        if before is not None:
-            out.append(by_text(before) if kind in STRUCTS else printed(before, is_pretty, of_leaf, inside))
-            out.append(by_text(": "))
-        out.append(printed(value, is_pretty, of_leaf, inside))
-        if is_pretty:
-            out.append(by_text(",\n"))
-    out.append(printed_ending(document, is_pretty, depth))
-    return b"".join(out)
-
-
-def printed_ending(document, is_pretty, depth):
-    kind, _name, entries = document
-    if not entries:
-        return by_text(EMPTY[kind] if kind == "open struct" else CLOSING[kind]) if kind in (*OPENING, "open struct") else b""
-    if is_pretty:
-        dots = indents(depth + 1) + by_text("..\n") if kind == "open struct" else b""
-        return dots + indents(depth) + by_text(CLOSING[kind])
-    return by_text(*{"struct": (" ",), "open struct": (", ..", " ")}.get(kind, (",",) * is_single(document)), CLOSING[kind])
+    return b"".join(of_leaf(group) if isinstance(group, str) else by_text(*group) for group in groups(document, is_pretty, depth, []))
 
 
 ZEROS = re.compile(r"(-?)(0*)([0-9]+)(?:(\.)(0*)([0-9]+))?")
