@@ -102,10 +102,6 @@ WORDS = TOP / "tools" / "data" / "words"
 CRATES = ("ufmt", "ufmt_parse", "ufmt_doc", "ufmt_values", "ufmt_snapshot")
 # What these modules have, but `Mode`, and this call of `cursor`, are for other crates of this repository.
 FOR_SIBLINGS = {"ascii", "layout", "quoted", "unsigned", "put"}
-HEAD = """# API
-
-What you can call, by the crate that you name. `./x generate` writes this page from the sources: a call has its signature, its clauses and the first sentence of its comment. A heading has the path below the crate: `pieces::Each` of `ufmt` is `use ufmt::pieces::Each;`. `Builder` has none: name its aliases, such as `DebugList`. Where there is a call for each number of fields, such as `struct_0` to `struct_12`, the one with two fields stands for all. [PROMISES.md](PROMISES.md) has the laws of each crate, and the CALLING page of a crate says how to use it. [GLOSSARY.md](GLOSSARY.md) explains the words that aren't of clauses.
-"""
 # Other macros are called by these.
 MACROS = {"fields", "variants", "uwrite", "uwriteln", "pieces", "parse_fields", "parse_variants", "prove_fields", "prove_variants", "assert_snapshot"}
 # A call for each number of fields: the page has the one with two.
@@ -180,7 +176,7 @@ def about(crate):
 
 
 def text():
-    return HEAD + "".join(part for crate in CRATES for part in section(crate))
+    return (TOP / "tools" / "data" / "api.md").read_text(encoding="utf-8") + "".join(part for crate in CRATES for part in section(crate))
 
 
 def files():

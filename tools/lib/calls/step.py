@@ -12,6 +12,7 @@ import re
 
 from lib import data
 from lib.contracts.functions import Exports, functions_of
+from lib.contracts.source import sources
 from lib.findings import ended
 from lib.top import TOP, libraries
 
@@ -22,15 +23,10 @@ COUNTED = re.compile(r'count!\(\s*\w+,\s*"([^"]+)"')
 NAMED = re.compile(r"`([^`]+)` of (probe_\w+)")
 
 
-def sources(crate):
-    paths = sorted((CRATES / crate / "src").rglob("*.rt"))
-    return [path for path in paths if not {"tests", "tests.rt"} & set(path.parts)]
-
-
 def public_of(crate):
     """The public functions, methods and macros of a library: `crate::name`, `crate::Type::name` or `crate::name!`."""
     exports = Exports(CRATES / crate / "src")
-    for path in sources(crate):
+    for path in sources(CRATES / crate / "src"):
         for function in functions_of(path):
             if exports.has(function):
                 yield "::".join(filter(None, (crate, function.owner and function.owner_name(), function.name)))
@@ -40,7 +36,7 @@ def public_of(crate):
 def listed():
     printed = {probe: (CRATES / probe / "stdout").read_text() for probe in ("probe_memory", "probe_model")}
     of_memory = set(re.findall(r"^([\w:]+)", printed["probe_memory"], re.M))
-    of_model = {name for path in sources("probe_model") for name in COUNTED.findall(path.read_text())}
+    of_model = {name for path in sources(CRATES / "probe_model" / "src") for name in COUNTED.findall(path.read_text())}
     compared = set(re.findall(r"[a-z]+(?: [a-z]+)*(?= (?:yes|no|\d|\[))", printed["probe_model"]))
     return {"probe_memory": of_memory, "probe_model": of_model | compared}
 
