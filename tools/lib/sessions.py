@@ -8,8 +8,8 @@ in each other one.
 import itertools
 import os
 import re
-import shutil
-import tempfile
+import signal
+import subprocess
 from concurrent.futures import ThreadPoolExecutor
 from typing import NamedTuple
 
@@ -42,13 +42,23 @@ def sessions_of(path):
     return found
 
 
+def said_by(script, room, environment):
+    """What a shell says on both outputs. If it takes too long, all that it started ends."""
+    shell = running.begun(["bash", "-c", script], cwd=room, env=environment, stdin=subprocess.DEVNULL, stdout=subprocess.PIPE,
+                          stderr=subprocess.STDOUT)
+    try:
+        said, _ = shell.communicate(timeout=SECONDS)
+    except subprocess.TimeoutExpired:
+        os.killpg(shell.pid, signal.SIGKILL)
+        said, _ = shell.communicate()
+    return said.decode(errors="replace")
+
+
 def faults_of(commands, variables):
-    room = os.path.realpath(tempfile.mkdtemp(prefix="x-session-"))
-    named = {"ROOM": room, "TOP": str(TOP), "X": str(X), **variables}
     script = "".join("%s\necho \"%s $?\"\n" % ("\n".join(command.text), MARK) for command in commands)
-    words, environment = ["timeout", "--kill-after=5", SECONDS, "bash", "-c", script], {**os.environ, **named, "COLUMNS": "200"}
-    _, said = running.said(words, cwd=room, env=environment)
-    shutil.rmtree(room)
+    with running.room("session") as room:
+        named = {"ROOM": str(room.resolve()), "TOP": str(TOP), "X": str(X), **variables}
+        said = said_by(script, named["ROOM"], {**os.environ, **named, "COLUMNS": "200"})
     for name, value in named.items():
         said = said.replace(value, name)
     parts = re.findall(r"(?s)(.*?)%s (\d+)\n" % MARK, said)
@@ -70,8 +80,12 @@ def faults(name, **variables):
         else:
             tried.append(first + commands)
     with ThreadPoolExecutor(needs.processors()) as pool:
-        found = pool.map(lambda commands: list(faults_of(commands, variables)), tried)
-        return [fault for its in found for fault in its], len(tried)
+        try:
+            found = list(pool.map(lambda commands: list(faults_of(commands, variables)), tried))
+        finally:
+            # An interrupt ends what runs.
+            running.end_all()
+    return [fault for its in found for fault in its], len(tried)
 
 
 def check(_given):
