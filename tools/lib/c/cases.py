@@ -1,5 +1,5 @@
-"""The cases that `x try c` tries. What they expect comes from outside: rustc's texts and xxd's dumps in tools/data/c/rows.tsv, the
-texts of values that rustc printed in tools/expected/rows.txt, a table of fields as a reader sees them in tools/data/c/fields.txt, a
+"""The cases that `x try c` tries. What they expect comes from outside: rustc's texts in tools/data/c/rows.tsv, xxd's dumps in
+tools/data/rows, the texts of values that rustc printed in tools/expected/rows.txt, a table of fields as a reader sees them in tools/data/c/fields.txt, a
 table of what is refused, and for all else the models of calls.py."""
 import itertools
 
@@ -9,6 +9,7 @@ from lib.expected.step import rows as printed_rows
 from lib.floats import patterns
 from lib.model import floats
 from lib.programs.cases import filled
+from lib.rows import formats
 
 TEXTS = {part: [tables.data_of(row) for row in rows] for part, rows in tables.parts("c/texts.txt").items()}
 # Texts that no value prints, and some that are refused by token texts only; and such that aren't UTF-8.
@@ -47,6 +48,14 @@ def stored():
             yield from (Case(unquote, (whole,), text=given[0]) for unquote in UNQUOTE)
         elif call in ("unsigned", "signed"):
             yield Case("parse_" + call, (whole,), result=0, number=given[0])
+
+
+def dumps():
+    """The dumps of tools/data/rows."""
+    for row in tables.rows_with_places():
+        for it, has_offsets, text in formats.dumps(row.words[1:], row.cells) if row.words[0] == "xxd" else ():
+            options = style("dump", it.per_row, it.group, it.offset, has_offsets, it.ascii)
+            yield Case("dump", (it.payload, options), text=text.encode())
 
 
 def refusals():
@@ -155,5 +164,5 @@ def huge_options():
 
 def all_cases():
     """Every case, but for those with huge options."""
-    tabled = [*stored(), *conversions(), *fields(), *refusals(), wanted("version")]
+    tabled = [*stored(), *dumps(), *conversions(), *fields(), *refusals(), wanted("version")]
     return [*tabled, *misquoted(), *misread(), *floats_both_ways()]

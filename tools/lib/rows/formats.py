@@ -1,4 +1,5 @@
 """Rows of values that a part's formats print: `{:#010b}|` and so on, as a format of Rust has them, and what the program is asked for each."""
+import itertools
 import re
 import struct
 
@@ -64,15 +65,19 @@ def number_around(_words, cells):
 OPTIONS = {"-c": "per_row", "-g": "group", "-o": "offset"}
 
 
-def dumped(words, cells):
-    """The dump of bytes, in hexadecimal digits, as `xxd` prints it with the words of the part; and without its offsets, and without its texts."""
+def dumps(words, cells):
+    """Requests for the dump of bytes, in hexadecimal digits, whether it has offsets, and the dump as `xxd` prints it with the words of
+    the part; and without its offsets, and without its texts."""
     options = dict({"per_row": 16, "group": 2}, **{OPTIONS[word[:2]]: int(word[2:], 0) for word in words})
     for request in alike(Request(payload=bytes.fromhex(cells[0]), **options)):
-        yield request.data(), cells[1], text_of(joined(dump(request)))
-        for offset in (request.offset, 2**32):
-            for has_texts in (1, 0):
-                other = request._replace(offset=offset, ascii=has_texts)
-                yield other.data(), columns(cells[1], offset < 2**32, has_texts), text_of(joined(dump(other)))
+        for has_offsets, has_texts in itertools.product((1, 0), repeat=2):
+            yield request._replace(ascii=has_texts), has_offsets, columns(cells[1], has_offsets, has_texts)
+
+
+def dumped(words, cells):
+    for request, has_offsets, wanted in dumps(words, cells):
+        request = request if has_offsets else request._replace(offset=2**32)
+        yield request.data(), wanted, text_of(joined(dump(request)))
 
 
 def alike(request):
