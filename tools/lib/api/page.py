@@ -6,7 +6,7 @@ docs/PROMISES.md, and so are left out here. An item is without its body.
 import re
 from typing import NamedTuple
 
-from lib import generated
+from lib.command.generate import compare
 from lib.contracts.functions import Exports, functions_of, re_exported
 from lib.contracts.source import sources
 from lib.top import TOP
@@ -184,4 +184,4 @@ def files():
 
 
 def main(_given):
-    return generated.compare(files(), "docs/API.md")
+    return compare(files(), "docs/API.md")

@@ -15,7 +15,7 @@ import re
 import shutil
 from unittest import mock
 
-from lib import needs, running, sessions
+from lib import data, needs, running, sessions
 from lib.bench import build
 from lib.command import dist, install
 from lib.findings import case, ended
@@ -28,11 +28,7 @@ PROGRAMS = {
     "ufmt_lines": ("OPTIONS", "--help", (["--plain"], b"a [\n    1,\n]\n", b"a [1]\n")),
 }
 # How the page's text of each word begins.
-BEGINNINGS = {
-    "ufmt_conv": {"lengths": "Writes how many bytes", "pretty": "Writes the pretty text", "plain": "Goes the other way."},
-    "ufmt_lines": {"--longer-than": "Makes texts of more than N bytes pretty", "--plain": "Goes the other way: ",
-                   "--help": "Prints the usage.", "--version": "Prints the version.", "--": "Ends the options: "},
-}
+BEGINNINGS = data.rows("packaging/pages.txt")
 
 
 def words_of_usage(text):
@@ -68,7 +64,7 @@ def compared_page(name, prefix):
     if shutil.which("man"):
         formatted = run(["man", "--warnings", "-E", "UTF-8", "-l", "-Tutf8", path])
         yield "what `man` says", (0, b"", True), (formatted.status, formatted.error, bool(formatted.output))
-    for word, begin in BEGINNINGS[name].items():
+    for word, begin in BEGINNINGS[name]:
         yield "the text of " + word, begin, texts.get(word, "")[: len(begin)]
     calling = (TOP / "crates" / name / "CALLING.md").read_text()
     meant, said = dict(re.findall(r"(?m)^\| (\d+) \| (.*) \|$", calling)), texts_of_page(page, "EXIT STATUS")
