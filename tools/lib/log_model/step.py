@@ -3,16 +3,13 @@ compares each of its reads and writes with those of a model, which shares no cod
 and writes are counted on long logs of each shape, and with valgrind steps (log_costs.py).
 
 100 times as many logs of nasty pieces hold the model to its laws: a log that `--plain` leaves as it is comes back after pretty and
-plain, for every limit, and cuts of groups change no output. A log of 200 lines in five formats has its values marked: those that a
-reader wants laid out, and those that stay on purpose. A name is as long as it may be, so a value that is marked from its bracket's
-word on may begin before it, as in `lock=Package { .. }`.
+plain, for every limit, and cuts of groups change no output.
 
 Last the built ufmt_conv reads texts in chunks, and each of its reads and writes is compared too.
 """
 import concurrent.futures
 import itertools
 import random
-import re
 import shutil
 
 from lib import data, needs
@@ -22,9 +19,7 @@ from lib.model import verdicts
 
 LIMITS = (0, 8, 40)
 NAMED, PIECES = ([data.data_of(row) for row in data.parts("logs/nasty.txt")[part]] for part in ("named", "pieces"))
-MARKED = data.DATA / "logs" / "five_formats.txt"
-WANTED = "\u00ab", "\u00bb"
-MARK = re.compile("[\u00ab\u00bb\u2039\u203a]")
+FIVE_FORMATS = (data.DATA / "logs" / "five_formats.log").read_bytes()
 
 
 def nasty(chance):
@@ -54,44 +49,6 @@ def law_faults(count, seed):
                 if log_model.whole_output("plain", pretty, 0) != given:
                     found.append("%r doesn't come back from %r, at %d bytes" % (given, pretty, longer_than))
     return found
-
-
-def marked_lines():
-    """Each line without its marks, and the places of the values that are wanted. What stays is marked for a reader."""
-    for line in MARKED.read_bytes().decode().split("\n")[:-1]:
-        found, starts, at = [], [], 0
-        for character in line:
-            if character == WANTED[0]:
-                starts.append(at)
-            elif character == WANTED[1]:
-                found.append((starts.pop(), at))
-            at += not MARK.match(character)
-        yield MARK.sub("", line), found
-
-
-def marked_log():
-    return b"".join(line.encode() + b"\n" for line, _wanted in marked_lines())
-
-
-def is_same(line, value, wanted):
-    """Whether a value is the one that is wanted. Bytes of a name may come before it."""
-    start, end = value
-    return end == wanted[1] and start <= wanted[0] and log_model.name_start(line, start, wanted[0]) == start
-
-
-def wrong_marks():
-    """What is wrong with the model: a value that is wanted and stays, another one that is laid out, or a log that doesn't come
-    back; and how many values are wanted."""
-    found, count = [], 0
-    for number, (line, wanted) in enumerate(marked_lines(), 1):
-        given = [(start, end) for start, end, other in log_model.values("pretty", line) if other is not None]
-        count += len(wanted)
-        if len(given) != len(wanted) or not all(map(is_same, [line] * len(given), given, wanted)):
-            found.append("line %d of %s: %s are laid out, and %s are marked" % (number, MARKED.name, given, wanted))
-    pretty = log_model.whole_output("pretty", marked_log())
-    if log_model.whole_output("plain", pretty) != marked_log():
-        found.append("%s doesn't come back" % MARKED.name)
-    return found, count
 
 
 # How many logs there are, how many a process runs, and how many texts ufmt_conv reads.
@@ -143,13 +100,13 @@ def main(given):
     paths = both(needs.built("ufmt_lines", given.program))
     beside = paths[0].with_name("ufmt_conv")
     converters = both(beside if beside.exists() else needs.built("ufmt_conv"))
-    tried, (faults, values) = 0, wrong_marks()
+    tried, faults = 0, []
     with concurrent.futures.ProcessPoolExecutor() as pool:
         jobs = [pool.submit(wrong_texts, path, str(given.seed)) for path in converters]
         if shutil.which("cc"):
             jobs.append(pool.submit(log_costs.faults, paths[0]))
         jobs.append(pool.submit(law_faults, count * 100, str(given.seed)))
-        jobs.append(pool.submit(wrong_runs, paths, [(marked_log(), logs.whole(marked_log()))]))
+        jobs.append(pool.submit(wrong_runs, paths, [(FIVE_FORMATS, logs.whole(FIVE_FORMATS))]))
         pairs = logs.logs(count, str(given.seed))
         while batch := list(itertools.islice(pairs, BATCH)):
             tried += len(batch)
@@ -157,5 +114,4 @@ def main(given):
         for job in jobs:
             faults += job.result()
     names = ", ".join(path.name for path in paths + converters)
-    print("%d values of %s are laid out" % (values, MARKED.name))
     return ended(faults, "%d logs with seed %s, costs of %d shapes, by %s" % (tried, given.seed, len(log_costs.SHAPES), names))
