@@ -10,48 +10,24 @@ import itertools
 import random
 import re
 import shutil
-import subprocess
 
+from lib import running
 from lib.bench import build
 from lib.command import check
 from lib.command.arguments import add_jobs, add_names
+from lib.data import DATA
 from lib.findings import ended
 from lib.top import TOP, closure, listed
 
-TABLE, HEAD = TOP / "tools" / "data" / "fields.txt", TOP / "tools" / "data" / "fields.rt.txt"
+# The source up to a line `====`, and a struct of it.
+HEAD, STRUCT = (DATA / "fields.rt.txt").read_text().split("====\n")
 BELOW = "ufmt ufmt_core ufmt_parse ufmt_parser".split()
 # Where crates are written, what is kept, and so many structs in a crate.
 ROOM, KEPT, BATCH = TOP / "out" / "fields", TOP / "out" / "trusting", 32
-STRUCT = """
-// %(told)s
-#[derive(Drop)]
-pub struct %(name)s%(parameter)s {
-%(fields)s}
-
-impl%(printed)s uDebug for %(name)s%(parameter)s {
-    ghost document = { λ s. named_struct "%(name)s" (%(documents)s[]) };
-
-    fn fmt<W: uWrite>(&self, f: &mut Formatter<W>) -> Result<(), W::Error> {
-        fields!(f, self, %(name)s { %(names)s })
-    }
-}
-
-impl%(parsed)s uParse<Global> for %(name)s%(parameter)s {
-    ghost is_value = { λ %(value)s };
-
-    fn prove_value(&self) {
-        prove_fields!(Global, self, %(name)s { %(names)s })
-    }
-
-    fn parse_from<M: ParseMode>(alloc: Global, parser: &mut Parser<'_, M>) -> Result<%(name)s%(parameter)s, Fault> {
-        parse_fields!(alloc, parser, %(name)s { %(names)s })
-    }
-}
-"""
 
 
 def kinds():
-    rows = (re.split(r" \|(?: |$)", line, maxsplit=3) for line in TABLE.read_text().splitlines() if not line.startswith("#"))
+    rows = (re.split(r" \|(?: |$)", line, maxsplit=3) for line in (DATA / "fields.txt").read_text().splitlines() if not line.startswith("#"))
     return {kind: (type_of, document, value.strip()) for kind, type_of, document, value in rows}
 
 
@@ -88,13 +64,13 @@ def faults_of(drawn, table, lines, jobs):
     """Checks a crate with a struct of each of these kinds."""
     structs = {"".join(kind.title().replace(" ", "") for kind in one): one for one in drawn}
     folder = ROOM / "crates" / "fields"
-    (folder / "src" / "lib.rt").write_text(HEAD.read_text() + "".join(struct(name, one, table) for name, one in structs.items()))
+    (folder / "src" / "lib.rt").write_text(HEAD + "".join(struct(name, one, table) for name, one in structs.items()))
     call = check.command(folder, KEPT, "fields", lines, ["fields"], jobs, False)
-    run = subprocess.run(call, cwd=folder, text=True, stdout=subprocess.PIPE, stderr=subprocess.STDOUT)
+    status, said = running.said(call, cwd=folder)
     # Of a method the name of its trait follows.
-    unproved = [one for name, one in structs.items() if re.search(r"^fn fields::%s(?:uDebug|uParse\w*)?::.*(?<!: proved)$" % name, run.stdout, re.M)]
+    unproved = [one for name, one in structs.items() if re.search(r"^fn fields::%s(?:uDebug|uParse\w*)?::.*(?<!: proved)$" % name, said, re.M)]
     faults = ["%s: not proved" % ", ".join(one) for one in unproved]
-    return faults or [line for line in run.stdout.splitlines() if line.startswith("error")] or ["status %d" % run.returncode] * bool(run.returncode)
+    return faults or [line for line in said.splitlines() if line.startswith("error")] or ["status %d" % status] * bool(status)
 
 
 def main(given):
