@@ -1,5 +1,6 @@
 """The programs that commands call, and the Debian package of each."""
 import os
+import pathlib
 import shutil
 import sys
 
@@ -27,10 +28,11 @@ def require(command, *names):
         sys.exit("x %s: %s" % (command, told(name)))
 
 
-def built(name):
-    path = TOP / "crates" / name / "out" / name
+def built(name, program=None):
+    """A built program, or the other build of it that is named."""
+    path = pathlib.Path(program).resolve() if program else TOP / "crates" / name / "out" / name
     if not os.access(path, os.X_OK):
-        sys.exit("%s isn't there: %s" % (path.relative_to(TOP), BUILDS))
+        sys.exit("%s isn't there: %s" % (path if program else path.relative_to(TOP), BUILDS))
     return path
 
 

@@ -4,11 +4,14 @@ Each command is a process group of its own, so whatever it starts ends with it. 
 interrupted, or ended by a signal, it ends them all.
 """
 import concurrent.futures
+import contextlib
 import os
+import pathlib
 import select
 import signal
 import subprocess
 import sys
+import tempfile
 import time
 
 # How often to look, how often to say what is running, and how long a process may take to end: `rt ci` puts back what it set
@@ -68,20 +71,32 @@ def lines_of(process):
             return
 
 
+@contextlib.contextmanager
+def room(name):
+    """A temporary folder of a step or a command."""
+    with tempfile.TemporaryDirectory(prefix="x-%s-" % name) as folder:
+        yield pathlib.Path(folder)
+
+
+def said(words, **how):
+    """The status of a command, and what it says on both outputs."""
+    how = how if "input" in how else {"stdin": subprocess.DEVNULL, **how}
+    ran = subprocess.run(list(map(str, words)), stdout=subprocess.PIPE, stderr=subprocess.STDOUT, **how)
+    return ran.returncode, ran.stdout.decode(errors="replace")
+
+
 def output_of(words, seconds=None, **how):
     """What a command prints. If it fails, or takes longer, this one ends with what it said; what valgrind
     said comes first."""
-    words = [str(word) for word in words]
-    how = how if "input" in how else {"stdin": subprocess.DEVNULL, **how}
+    shown = " ".join(map(str, words))[:300]
     try:
-        ran = subprocess.run(words, stdout=subprocess.PIPE, stderr=subprocess.STDOUT, timeout=seconds, **how)
+        status, told = said(words, timeout=seconds, **how)
     except subprocess.TimeoutExpired:
-        sys.exit("more than %d seconds: %s" % (seconds, " ".join(words)[:300]))
-    said = ran.stdout.decode(errors="replace")
-    if ran.returncode:
-        of_valgrind = "\n".join(line for line in said.splitlines() if line.startswith("=="))
-        sys.exit("status %d of %s\n%s" % (ran.returncode, " ".join(words)[:300], of_valgrind[:3000] or said[-3000:]))
-    return said
+        sys.exit("more than %d seconds: %s" % (seconds, shown))
+    if status:
+        of_valgrind = "\n".join(line for line in told.splitlines() if line.startswith("=="))
+        sys.exit("status %d of %s\n%s" % (status, shown, of_valgrind[:3000] or told[-3000:]))
+    return told
 
 
 def say(line):

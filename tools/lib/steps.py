@@ -1,10 +1,11 @@
 """The steps of `x try`, and what each shows.
 
-A step is a module with `main(given)`: it prints a line for each fault, and last a line of counts, and returns 1 if there was a
-fault. It needs some programs, and is skipped where they aren't; without those that it only uses it shows less.
+A step is a function of what is asked, `main` of its module: it prints a line for each fault, and last a line of counts, and returns 1
+if there was a fault. It needs some programs, and is skipped where they aren't; without those that it only uses it shows less.
 """
-import importlib
 from typing import NamedTuple, Tuple
+
+from lib.top import function_of
 
 # What a step looks at: the sources alone, builds that it makes with nothing proved, or the programs that `rt ci` or `rt run`
 # left.
@@ -14,13 +15,13 @@ SOURCES, UNPROVED, BUILT = "the sources", "builds with nothing proved", "built p
 class Step(NamedTuple):
     name: str
     kind: str
-    module: str
+    place: str
     told: str
     needs: Tuple[str, ...] = ()
     uses: Tuple[str, ...] = ()
 
     def main(self, given):
-        return importlib.import_module(self.module).main(given)
+        return function_of(self.place if ":" in self.place else self.place + ":main")(given)
 
 
 # Of those that run beside each other the longest come first.
@@ -28,12 +29,12 @@ STEPS = (
     Step("pages", SOURCES, "lib.pages.step", "what the pages say is as in the sources: code blocks, links, definitions, edits"),
     Step("calls", SOURCES, "lib.calls.step", "each public function is called by a program that tries many texts or refuses memory, or has a reason"),
     Step("growths", SOURCES, "lib.growths.step", "an error of memory is only passed on from a growth"),
-    Step("answers", SOURCES, "lib.model.stored", "the file that `rt ci` compares a run of probe_model with is what the model says"),
+    Step("answers", SOURCES, "lib.model.step:answers", "the file that `rt ci` compares a run of probe_model with is what the model says"),
     Step("generated", SOURCES, "lib.by_count.step", "the files with a call for each number of fields are as `x generate` writes them"),
     Step("api", SOURCES, "lib.api.page", "docs/API.md is as `x generate` writes it from the sources"),
     Step("promises", SOURCES, "lib.promises.page", "each promise in a comment of the sources stands beside a clause, and docs/PROMISES.md has it"),
     Step("copies", SOURCES, "lib.copies.trial", "`x new` and `x update` in folders of each kind"),
-    Step("c", UNPROVED, "lib.c.step", "each call of the library for C, from C, Rust and Python", ("rt", "gcc", "nm", "objdump"), ("valgrind", "rustc", "g++")),
+    Step("c", UNPROVED, "lib.c.step", "each call of the library for C, from C and Rust", ("rt", "gcc", "nm", "objdump"), ("valgrind", "rustc", "g++")),
     Step("texts", BUILT, "lib.model.step", "each call on random texts and texts of each shape, against a model; memory and steps", (), ("cc", "valgrind")),
     Step("costs", UNPROVED, "lib.costs.step", "what printing and parsing of each type takes; each allocation of parsing is refused", ("rt", "cc"), ("valgrind",)),
     Step("macros", UNPROVED, "lib.crates.step", "each form of each macro, lines that must not compile, tests that must fail, how often values print", ("rt",)),
@@ -46,8 +47,8 @@ STEPS = (
     Step("rust", UNPROVED, "lib.rust.step", "the package for Rust: its tests, no panicking branch, bytes", ("cargo", "rustc", "gcc", "nm"), ("clippy-driver",)),
     Step("memory", BUILT, "lib.alloc_failures.step", "what each call returns when one allocation after another is refused", ("cc",)),
     Step("programs", BUILT, "lib.programs.step", "the programs as a shell runs them, built by each of the two compilers", ("cc",)),
-    Step("rows", BUILT, "lib.rows.step", "tables of texts, values, numbers with options and dumps, by the program and by the model"),
+    Step("rows", BUILT, "lib.rows.step", "tables of texts, values, numbers with options and dumps, by the program and by the model", (), ("xxd",)),
     Step("expected", BUILT, "lib.expected.step", "what rustc prints of values of std, by the model and by the library"),
-    Step("check", SOURCES, "lib.programs.check", "how `x check` calls a checker, and what it says of its lines"),
+    Step("check", SOURCES, "lib.sessions:check", "how `x check` calls a checker, and what it says of its lines"),
 )
 BY_NAME = {step.name: step for step in STEPS}

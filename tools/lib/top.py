@@ -1,10 +1,17 @@
 """Where the repository is, and which repository a command means."""
+import importlib
 import pathlib
 
 from lib.running import output_of
 
 TOP = pathlib.Path(__file__).resolve().parents[2]
 X = TOP / "x"
+
+
+def function_of(place):
+    """A function by its place, as `lib.bench.calls:table`. Its module is loaded only now."""
+    module, _, name = place.partition(":")
+    return getattr(importlib.import_module(module), name)
 
 
 def listed(repository=None):

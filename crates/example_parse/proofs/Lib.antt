@@ -1,4 +1,4 @@
 pub mod AlarmTokens
 pub mod CommandTokens
 pub mod MeasurementTokens
-mod Nested
+mod Nodes

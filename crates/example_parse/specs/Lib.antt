@@ -1,2 +1,3 @@
 pub mod Alarm
-pub mod Nested
+pub mod Nodes
+pub mod Trees

@@ -3,7 +3,7 @@ ghost use Rattle.std.specs.Prelude.{[], ◌∷◌};
 ghost use Rattle.ufmt.specs.Document.{Document};
 ghost use Rattle.ufmt.specs.ValueDocuments.{named_struct, number, option_document};
 ghost use Rattle.ufmt_parse.specs.Parses.{Parses};
-ghost use Rattle.example_parse.specs.Nested.{is_node};
+ghost use Rattle.example_parse.specs.Nodes.{is_node};
 ghost use Rattle.example_parse.specs.declared.node.Node.TheFolds.{fold-Node};
 
 use std::alloc::Global;
@@ -32,7 +32,7 @@ impl uDebug for Node {
 impl ProvesValue for Node {
     ghost is_whole = { is_node };
 
-    #[tactic(auto, using(crate::proofs::Nested::node_is))]
+    #[tactic(auto, using(crate::proofs::Nodes::node_is))]
     fn prove(&self) {
         let _value = self.value;
         match &self.next {

@@ -13,6 +13,7 @@ pub mod Places
 mod SameErrors
 pub mod SortedKeys
 pub mod Truths
+pub mod Unrolling
 pub use Rattle.ufmt_parser.proofs.Clauses
 pub use Rattle.ufmt_parser.proofs.Naming
 pub use Rattle.ufmt_parser.proofs.Next

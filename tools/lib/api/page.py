@@ -1,15 +1,100 @@
 """docs/API.md: what a user can call, as the sources have it.
 
 A call has its signature, its clauses and the first sentence of its comment. Laws, which only say that something holds, are in
-docs/PROMISES.md, and so are left out here.
+docs/PROMISES.md, and so are left out here. An item is without its body.
 """
 import re
+from typing import NamedTuple
 
-from lib import generated
-from lib.api.items import items_of, macros_of
-from lib.contracts.functions import Exports, re_exported
+from lib.command.generate import compare
+from lib.contracts.functions import Exports, functions_of, re_exported
 from lib.contracts.source import sources
 from lib.top import TOP
+
+TYPE = re.compile(r"pub (?:struct|enum|trait|type|const) (\w+)")
+MACRO = re.compile(r"macro_rules! (\w+)")
+
+
+class Item(NamedTuple):
+    """An item, the type or trait that it belongs to, or else its own name, and the path before that, as `pieces::`."""
+
+    group: str
+    is_free: bool
+    name: str
+    text: str
+    module: str = ""
+
+
+def items_of(path, exports):
+    """The types, traits and functions of a file that other crates can name."""
+    lines = path.read_text().splitlines()
+    for at, line in enumerate(lines):
+        named = TYPE.match(line)
+        if named and (named[1] in exports.types or line.startswith("pub const")) and not is_hidden(lines, at):
+            yield Item(named[1], line.startswith("pub const"), named[1], item_text(lines, at, declared(lines, at)))
+    for function in functions_of(path):
+        at = function.line - 1
+        if exports.has(function) and not is_hidden(lines, at) and (function.is_of_trait() or "pub" in function.before):
+            group = function.owner_name() if function.owner else function.name
+            yield Item(group, not function.owner, function.name, item_text(lines, at, function.signature.split("\n")))
+
+
+def macros_of(paths, names):
+    for path in paths:
+        lines = path.read_text().splitlines()
+        for at, line in enumerate(lines):
+            named = MACRO.match(line)
+            if named and named[1] in names:
+                yield Item(named[1], True, named[1], "/// %s\n%s!(..)" % (first_sentence(comment(lines, at)), named[1]))
+
+
+def above(lines, at):
+    """The lines of attributes and comments right above an item, the nearest first."""
+    for line in reversed(lines[:at]):
+        if not line.strip().startswith(("///", "#[", "//")) and line.strip() not in (")]", "]"):
+            return
+        yield line.strip()
+
+
+def is_hidden(lines, at):
+    return "#[doc(hidden)]" in above(lines, at)
+
+
+def comment(lines, at):
+    return [line[3:].strip() for line in above(lines, at) if line.startswith("///")][::-1]
+
+
+def first_sentence(lines):
+    """The comment up to its first full stop outside of backticks."""
+    told = " ".join(line for line in lines[: lines.index("") if "" in lines else None])
+    parts = re.split(r"(`[^`]*`)", told)
+    for number, part in enumerate(parts):
+        end = re.search(r"\.(?= |$)", part) if number % 2 == 0 else None
+        if end:
+            return "".join(parts[:number]) + part[: end.end()]
+    return told
+
+
+def item_text(lines, at, item):
+    told = first_sentence(comment(lines, at))
+    indent = len(lines[at]) - len(lines[at].lstrip())
+    return "\n".join((["/// " + told] if told else []) + [line[indent:] for line in item])
+
+
+def declared(lines, at):
+    """The lines of a type without comments and private fields. Of a trait there is its head: its calls follow."""
+    head = lines[at]
+    if head.startswith("pub const"):
+        return [re.sub(r" = .*$", "", head).rstrip(";") + ";"]
+    if " trait " in head or head.endswith(";") or not head.endswith("{"):
+        return [re.sub(r"\s*\{.*$", "", head).rstrip(";") + ";"]
+    end = next(number for number in range(at, len(lines)) if lines[number] == "}")
+    inner = [line for line in lines[at + 1 : end] if not line.strip().startswith(("//", "#["))]
+    if " struct " in head:
+        kept = [line for line in inner if line.startswith("    pub ")]
+        return [head, *kept, "}"] if len(kept) == len(inner) else [re.sub(r"\s*\{$", "", head) + " { .. }"] if not kept else [head, *kept, "    ..", "}"]
+    return [head, *inner, "}"]
+
 
 # A file for each crate: what the words of its clauses mean.
 WORDS = TOP / "tools" / "data" / "words"
@@ -17,10 +102,6 @@ WORDS = TOP / "tools" / "data" / "words"
 CRATES = ("ufmt", "ufmt_parse", "ufmt_doc", "ufmt_values", "ufmt_snapshot")
 # What these modules have, but `Mode`, and this call of `cursor`, are for other crates of this repository.
 FOR_SIBLINGS = {"ascii", "layout", "quoted", "unsigned", "put"}
-HEAD = """# API
-
-What you can call, by the crate that you name. `./x generate` writes this page from the sources: a call has its signature, its clauses and the first sentence of its comment. A heading has the path below the crate: `pieces::Each` of `ufmt` is `use ufmt::pieces::Each;`. `Builder` has none: name its aliases, such as `DebugList`. Where there is a call for each number of fields, such as `struct_0` to `struct_12`, the one with two fields stands for all. [PROMISES.md](PROMISES.md) has the laws of each crate, and the CALLING page of a crate says how to use it. [GLOSSARY.md](GLOSSARY.md) explains the words that aren't of clauses.
-"""
 # Other macros are called by these.
 MACROS = {"fields", "variants", "uwrite", "uwriteln", "pieces", "parse_fields", "parse_variants", "prove_fields", "prove_variants", "assert_snapshot"}
 # A call for each number of fields: the page has the one with two.
@@ -37,7 +118,7 @@ def handed_on(text):
         yield crate, found | {of for path in sources(TOP / "crates" / crate / "src") for name, of in ALIAS.findall(path.read_text()) if name in found}
 
 
-def shown(crate, names=None):
+def items_shown(crate, names=None):
     """The items of a crate that are public, or those of these names."""
     folder = TOP / "crates" / crate / "src"
     exports = Exports(folder)
@@ -62,7 +143,7 @@ def before(exports, parts, name, names):
 
 def of_crate(crate):
     folder = TOP / "crates" / crate / "src"
-    found = list(shown(crate))
+    found = list(items_shown(crate))
     for other, names in handed_on((folder / "lib.rt").read_text()):
         found += of_names(other, names)
     return [*found, *macros_of(sources(folder), MACROS)]
@@ -70,7 +151,7 @@ def of_crate(crate):
 
 def of_names(crate, names):
     """The items of these names that a crate has, or hands on from another."""
-    found = list(shown(crate, names))
+    found = list(items_shown(crate, names))
     for path in sources(TOP / "crates" / crate / "src"):
         for other, further in handed_on(path.read_text()):
             found += of_names(other, names & further) if names & further else []
@@ -95,7 +176,7 @@ def about(crate):
 
 
 def text():
-    return HEAD + "".join(part for crate in CRATES for part in section(crate))
+    return (TOP / "tools" / "data" / "api.md").read_text(encoding="utf-8") + "".join(part for crate in CRATES for part in section(crate))
 
 
 def files():
@@ -103,4 +184,4 @@ def files():
 
 
 def main(_given):
-    return generated.compare(files(), "docs/API.md")
+    return compare(files(), "docs/API.md")

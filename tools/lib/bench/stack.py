@@ -9,12 +9,10 @@ bounds are in tools/data/measured/stack.txt. Calls that convert or scan are trie
   some lines, so a call that is compiled into each of its callers is seen.
 """
 import functools
-import pathlib
 import resource
 import subprocess
-import tempfile
 
-from lib import data, findings, measures, needs
+from lib import data, findings, measures, needs, running
 from lib.bench import build, frames
 from lib.findings import case, ended
 from lib.running import output_of
@@ -26,8 +24,7 @@ DEPTH = 248
 TABLE = measures.Table("stack")
 BOUNDS, CODE = TABLE.of("program"), {name: most for name, (most,) in TABLE.of("code").items()}
 # A program, the library that it is over, and its calls: what each does, and its functions.
-PROGRAMS = [(*part.split(), [(told, *names.split()) for told, names in (row.split(" => ") for row in rows)])
-            for part, rows in data.parts("bench/stack.txt").items()]
+PROGRAMS = [(*part.split(), [(told, *names.split()) for told, names in rows]) for part, rows in data.rows("bench/stack.txt").items()]
 # A shape is what begins a block before the next one in it, and what ends it, of one level or two.
 DOCUMENTS = ((b"[", b"1", b"]"), (b"{", b"1", b"}"), (b"{1: ", b"1", b"}"), (b"{", b"1", b": 1}"), (b"a(", b"1", b")"),
              (b"(", b"1", b",)"), (b"a { b: ", b"1", b" }"))
@@ -100,7 +97,7 @@ def run_faults(name, words, has_length, shapes, levels):
 
 
 def main(_given):
-    with tempfile.TemporaryDirectory(prefix="x-stack-") as room:
-        faults = past_bounds(pathlib.Path(room), PROGRAMS[:2])
+    with running.room("stack") as room:
+        faults = past_bounds(room, PROGRAMS[:2])
     figures = [*map(code_faults, ("ufmt_conv", "ufmt_lines")), *(run_faults(*run) for run in RUNS), *map(size_faults, sorted(CODE))]
     return ended(faults + [fault for its in figures for fault in its], "%d figures of built programs, and those of calls" % len(figures))

@@ -9,7 +9,7 @@ in a line `====`, the second comes for each number of fields. A line that begins
 """
 import re
 
-from lib import generated
+from lib.command.generate import compare
 from lib.data import DATA
 
 MOST = 12
@@ -107,4 +107,4 @@ def in_one_line(text):
 
 def main(_given):
     made = list(files())
-    return generated.compare(made, "%d files by the number of fields" % len(made), same=in_one_line)
+    return compare(made, "%d files by the number of fields" % len(made), same=in_one_line)

@@ -1,14 +1,11 @@
-"""Makes calls of the library by a program in C or in Rust, or of the shared object by ctypes, and compares what they return and
-leave."""
-import ctypes
+"""Makes calls of the library by a program in C or in Rust, and compares what they return and leave."""
 import functools
 import itertools
 import shutil
-import struct
 import sys
 
 from lib import running
-from lib.c import cases
+from lib.c.calls import CALLS, FRONT, FULL, NO_TEXT, NUMBER_SIZE, SIZE_MAX, has_buffer
 from lib.data import DATA as ALL_DATA
 from lib.top import TOP
 
@@ -22,13 +19,6 @@ SECONDS = 300
 # valgrind runs at most so many cases of a call, of each kind of outcome.
 UNDER_VALGRIND = 60
 VALGRIND = ["valgrind", "--quiet", "--error-exitcode=9", "--leak-check=full", "--errors-for-leak-kinds=all"]
-# A float is made of its bits.
-TYPES = {"uint8_t": ctypes.c_uint8, "uint32_t": ctypes.c_uint32, "uint64_t": ctypes.c_uint64, "int64_t": ctypes.c_int64,
-         "bool": ctypes.c_bool, "size_t": ctypes.c_size_t, "double": lambda bits: ctypes.c_double(*struct.unpack("<d", struct.pack("<Q", bits)))}
-STRUCTS = {name: type("ufmt_%s_style" % name, (ctypes.Structure,), {"_fields_": [("member_%d" % at, TYPES[kind]) for at, kind in enumerate(kinds)]})
-           for name, kinds in cases.STYLES.items()}
-# What the calls return that take no detail.
-RESULTS = {"is_text": ctypes.c_bool, "version": ctypes.c_uint32}
 # What a command printed; it must end with status 0, and soon.
 run = functools.partial(running.output_of, seconds=SECONDS)
 
@@ -52,8 +42,8 @@ def lines_of(program, tried, before=(), words=(), seconds=SECONDS):
 def rooms(case):
     """How long the buffers are with which a case is tried. None is no buffer."""
     if case.length is not None:
-        return [None, 0, 1, 8, cases.FRONT]
-    if not cases.has_buffer(case):
+        return [None, 0, 1, 8, FRONT]
+    if not has_buffer(case):
         return [0]
     if case.text is None:
         return [0, 9]
@@ -63,16 +53,13 @@ def rooms(case):
 
 def request(case, room):
     words = [case.call]
-    kinds = [kind for kind in cases.CALLS[case.call] if kind not in ("buffer", "number")]
-    if cases.has_buffer(case):
+    if has_buffer(case):
         words.append("null" if room is None else str(room) if room or case.length is not None else next(NO_ROOM))
-    for kind, value in zip(kinds, case.arguments):
-        if kind == "bytes":
+    for value in case.arguments:
+        if isinstance(value, bytes):
             words.append(value.hex() or next(NO_BYTES))
-        elif kind in cases.STYLES:
-            words += map(str, value)
         else:
-            words.append(str(int(value)))
+            words += map(str, value if isinstance(value, tuple) else [int(value)])
     return " ".join(words) + "\n"
 
 
@@ -81,14 +68,14 @@ def wanted_of(case, room):
     length counts."""
     filled = bytes([FILL]) * (room or 0)
     if case.number is not None:
-        return 0, DETAIL, (case.number % 2**64).to_bytes(cases.NUMBER_SIZE, "little"), False
+        return 0, DETAIL, (case.number % 2**64).to_bytes(NUMBER_SIZE, "little"), False
     if case.text is None:
-        left = bytes([FILL]) * cases.NUMBER_SIZE if cases.CALLS[case.call][:1] == ("number",) else filled
-        detail, is_any = DETAIL if case.detail is None else case.detail, case.result == cases.NO_TEXT and cases.has_buffer(case)
+        left = bytes([FILL]) * NUMBER_SIZE if CALLS[case.call][:1] == ("number",) else filled
+        detail, is_any = DETAIL if case.detail is None else case.detail, case.result == NO_TEXT and has_buffer(case)
         return case.result, detail, left, is_any
     length = len(case.text) if case.length is None else case.length
-    result = length if length <= len(filled) else cases.FULL
-    return result, min(length, cases.SIZE_MAX), case.text[: len(filled)] + filled[length:], False
+    result = length if length <= len(filled) else FULL
+    return result, min(length, SIZE_MAX), case.text[: len(filled)] + filled[length:], False
 
 
 def wrong(case, room, *got):
@@ -150,22 +137,3 @@ def caller_in_c(room, library):
     program = room / "calls"
     run(["gcc", "-std=c11", "-D_GNU_SOURCE", *WARNINGS, "-O1", "-g", "-I", HEADER.parent, DATA / "calls.c", library, "-o", program])
     return program
-
-
-def by_python(library, case, room):
-    """What the call returns and leaves: the result, the detail and the buffer, which had `room` bytes of the fill. A room of None
-    is a buffer of 0 bytes at NULL."""
-    call, kinds, words = getattr(library, "ufmt_" + case.call), list(cases.CALLS[case.call]), []
-    call.restype = RESULTS.get(case.call, ctypes.c_ssize_t)
-    left = (ctypes.c_uint8 * (cases.NUMBER_SIZE if kinds[:1] == ["number"] else room or 0))()
-    ctypes.memset(left, FILL, len(left))
-    reported = ctypes.c_size_t(DETAIL)
-    if kinds[:1] in (["number"], ["buffer"]):
-        words += [left] if kinds.pop(0) == "number" else [left if room is not None else None, ctypes.c_size_t(len(left))]
-    for kind, value in zip(kinds, case.arguments):
-        if kind == "bytes":
-            words += [value, ctypes.c_size_t(len(value))]
-        else:
-            words.append(ctypes.byref(STRUCTS[kind](*value)) if kind in STRUCTS else TYPES[kind](value))
-    words += [ctypes.byref(reported)] * (case.call not in RESULTS)
-    return int(call(*words)), reported.value, bytes(left)

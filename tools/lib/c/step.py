@@ -1,26 +1,24 @@
-"""Calls the library for C from C, Rust and Python, and compares what comes out with tables.
+"""Calls the library for C from C and Rust, and compares what comes out with tables.
 
-It is built with nothing proved (archive.py). `--proved` takes that of `rt lib` in crates/ufmt_c, and `--program` one that is
+It is built with nothing proved. `--proved` takes that of `rt lib` in crates/ufmt_c, and `--program` one that is
 built. Each call of ufmt.h is made with buffers that are longer than the text, as long, one byte shorter, half as long and empty,
 with inputs that are no texts and options that mean nothing (cases.py).
 
-- tools/data/c/calls.c makes every call, also with a detail at NULL and under valgrind; calls.rs makes them all from Rust, and
-  ctypes from Python.
+- tools/data/c/calls.c makes every call, also with a detail at NULL and under valgrind; calls.rs makes them all from Rust.
 - Random inputs with random options and buffers go through every call (random_cases.py), and each option up to the largest number.
-- The steps and the stack of calls have bounds (costs.py), the header is as it was (header.py), and the page's callers run
-  (callers.py).
+- The steps and the stack of calls have bounds (costs.py), the header is as it was (header.py) and compiles by each standard, and the
+  page's callers run (tools/data/sessions/c.txt).
 
-With `--write` it writes tools/data/c/rows.tsv again, by rustc and xxd, and interface.txt, and stops.
+With `--write` it writes tools/data/c/rows.tsv again, by rustc, and interface.txt, and stops.
 """
-import ctypes
 import pathlib
 import shutil
-import tempfile
 
-from lib import findings
-from lib.c import archive, callers, cases, costs, header, huge as huge_options, leaves
-from lib.c.calling import (CRATE, DATA, VALGRIND, by_program, by_python, caller_in_c, compare, here, rooms, run, under_valgrind,
-                           without_detail)
+from lib import findings, running, sessions
+from lib.bench import build
+from lib.c import cases, costs, header
+from lib.c.calling import CRATE, DATA, VALGRIND, by_program, caller_in_c, here, rooms, run, under_valgrind, without_detail
+from lib.c.calls import CALLS
 from lib.c.random_cases import RandomCases
 
 LEAST_CASES, LEAST_HUGE = 2_000, 5_000
@@ -34,7 +32,7 @@ def at_random(faults, program, seed):
     """Makes random calls, some of them under valgrind. Returns how many, and how many of these."""
     made = RandomCases(seed)
     tried = [(case, room) for case in made.made(RANDOM_CASES) for room in made.rooms(case)]
-    if len(tried) < LEAST_RANDOM or {case.call for case, _ in tried} != set(cases.CALLS) - {"version"}:
+    if len(tried) < LEAST_RANDOM or {case.call for case, _ in tried} != set(CALLS) - {"version"}:
         faults.append(findings.case("random calls", "%d, of each name" % LEAST_RANDOM, "%d" % len(tried)))
     by_program(faults, program, tried, how="C, at random")
     some = tried[::RANDOM_EACH]
@@ -55,14 +53,14 @@ def built(room, given):
     if given.proved:
         run(["rt", "lib"], cwd=CRATE, seconds=3600)
         return CRATE / "out" / "libufmt_c.a", ["memmove", "__udivti3"]
-    library = pathlib.Path(given.program).resolve() if given.program else archive.unproved(room)
+    library = pathlib.Path(given.program).resolve() if given.program else build.library_for_c(room)
     return library, ["memmove", "memcpy", "memset", "__udivti3"]
 
 
 def cases_of_tables(faults):
     """The cases of the tables, and those with huge options, each with its buffers; and the cases alone."""
-    made, huge = [*cases.all_cases(), *leaves.all_cases()], huge_options.huge_options()
-    missing = set(cases.CALLS) - {case.call for case in made}
+    made, huge = cases.all_cases(), list(cases.huge_options())
+    missing = set(CALLS) - {case.call for case in made}
     if missing or len(made) < LEAST_CASES or len(huge) < LEAST_HUGE:
         got = "%d, %d, and none of %s" % (len(made), len(huge), sorted(missing))
         faults.append(findings.case("cases", "%d, and %d with huge options" % (LEAST_CASES, LEAST_HUGE), got))
@@ -70,35 +68,12 @@ def cases_of_tables(faults):
 
 
 def write_rows():
-    with tempfile.TemporaryDirectory() as folder:
-        program = pathlib.Path(folder) / "rows"
+    with running.room("c") as folder:
+        program = folder / "rows"
         run(["rustc", "--edition", "2024", "-D", "warnings", "-O", DATA / "rows.rs", "-o", program])
-        said = run(["rustc", "--version"]).strip()
-        rows = run([program]) + "".join(dumps(folder))
+        rows = "# Printed by %s, by x try c --write\n%s" % (run(["rustc", "--version"]).strip(), run([program]))
     header.STORED.write_text(header.interface())
-    (DATA / "rows.tsv").write_text("# Printed by %s and by xxd, by x try c --write\n%s" % (said, rows))
-
-
-def escaped(data):
-    return "".join(chr(byte) if 0x20 < byte < 0x7F and byte != 0x25 else "%%%02x" % byte for byte in data) or "%"
-
-
-def dumps(folder):
-    """Rows of dumps, as xxd prints them, and the same with the column of offsets or of texts cut off."""
-    path = pathlib.Path(folder) / "bytes"
-    for data in (b"", b"abc", bytes(range(0x18, 0x40)), b"\x7f\x80~ %\n" * 5, bytes(range(256))[::7]):
-        path.write_bytes(data)
-        for per_row, group, first in ((16, 1, 0), (0, 1, 0), (16, 2, 0), (8, 4, 4096), (5, 3, 255), (16, 0, 0), (3, 1, 0xFFFFFFF0 if len(data) < 9 else 0x10000), (33, 1, 0)):
-            printed = run(["xxd", "-g", group, "-c", per_row, "-o", first, path])
-            width = 2 * (per_row or 16) + ((per_row or 16) - 1) // (group or per_row or 16)
-            for has_offsets, has_text in ((1, 1), (0, 1), (1, 0), (0, 0)):
-                text = "".join(cut(line, width, has_offsets, has_text) + "\n" for line in printed.splitlines())
-                yield "dump %s %d %d %d %d %d = %s\n" % (escaped(data), per_row, group, first, has_offsets, has_text, escaped(text.encode()))
-
-
-def cut(line, width, has_offsets, has_text):
-    offset, rest = line.split(": ", 1)
-    return (offset + ": " if has_offsets else "") + (rest if has_text else rest[:width].rstrip(" "))
+    (DATA / "rows.tsv").write_text(rows)
 
 
 def main(given):
@@ -107,11 +82,9 @@ def main(given):
         return 0
     faults, is_ours = [], not given.proved and not given.program
     made, huge, tried, tried_huge = cases_of_tables(faults)
-    with tempfile.TemporaryDirectory(prefix="x-c-") as folder:
-        room = pathlib.Path(folder)
+    with running.room("c") as room:
         library, needed = built(room, given)
         header.header(faults, library, needed)
-        header.by_literals(room, library)
         program, shared = caller_in_c(room, library), room / "libufmt_c.so"
         run(["gcc", "-shared", "-o", shared, "-Wl,--whole-archive", library, "-Wl,--no-whole-archive"])
         # The calls that might never end come first.
@@ -125,9 +98,8 @@ def main(given):
         by_all += without_detail(faults, program, tried[:: 1 if len(tried) < 1000 else 7])
         from_rust = by_rust(faults, room, library, tried)
         by_valgrind = under_valgrind(faults, program, made + huge)
-        loaded = ctypes.CDLL(str(shared))
-        compare(faults, "Python", tried, (by_python(loaded, case, size) for case, size in tried))
-        by_pages = callers.by_callers(faults, room, library, shared, made)
-    counts = len(made) + len(huge), len(cases.CALLS), by_all, from_rust, by_valgrind + some, randomly, steps, by_pages
-    return findings.ended((fault[:600] for fault in faults), "%d cases of %d calls: %d calls from C and as many from Python, %d from Rust, "
-                          "%d under valgrind, %d at random, the steps of %d, %d by the page's callers" % counts)
+        found, tried_sessions = sessions.faults("c.txt", LIBRARY=str(library), SHARED=str(shared))
+        faults += found
+    counts = len(made) + len(huge), len(CALLS), by_all, from_rust, by_valgrind + some, randomly, steps, tried_sessions
+    return findings.ended((fault[:600] for fault in faults), "%d cases of %d calls: %d calls from C, %d from Rust, "
+                          "%d under valgrind, %d at random, the steps of %d, %d sessions" % counts)

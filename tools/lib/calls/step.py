@@ -10,7 +10,9 @@ call or a file in which the function isn't. `x list calls` prints each function 
 import fnmatch
 import re
 
+from lib import data
 from lib.contracts.functions import Exports, functions_of
+from lib.contracts.source import sources
 from lib.findings import ended
 from lib.top import TOP, libraries
 
@@ -21,15 +23,10 @@ COUNTED = re.compile(r'count!\(\s*\w+,\s*"([^"]+)"')
 NAMED = re.compile(r"`([^`]+)` of (probe_\w+)")
 
 
-def sources(crate):
-    paths = sorted((CRATES / crate / "src").rglob("*.rt"))
-    return [path for path in paths if not {"tests", "tests.rt"} & set(path.parts)]
-
-
 def public_of(crate):
     """The public functions, methods and macros of a library: `crate::name`, `crate::Type::name` or `crate::name!`."""
     exports = Exports(CRATES / crate / "src")
-    for path in sources(crate):
+    for path in sources(CRATES / crate / "src"):
         for function in functions_of(path):
             if exports.has(function):
                 yield "::".join(filter(None, (crate, function.owner and function.owner_name(), function.name)))
@@ -39,7 +36,7 @@ def public_of(crate):
 def listed():
     printed = {probe: (CRATES / probe / "stdout").read_text() for probe in ("probe_memory", "probe_model")}
     of_memory = set(re.findall(r"^([\w:]+)", printed["probe_memory"], re.M))
-    of_model = {name for path in sources("probe_model") for name in COUNTED.findall(path.read_text())}
+    of_model = {name for path in sources(CRATES / "probe_model" / "src") for name in COUNTED.findall(path.read_text())}
     compared = set(re.findall(r"[a-z]+(?: [a-z]+)*(?= (?:yes|no|\d|\[))", printed["probe_model"]))
     return {"probe_memory": of_memory, "probe_model": of_model | compared}
 
@@ -49,16 +46,6 @@ def called(functions, names):
     own = [function.split("::")[-1].rstrip("!") for function in functions]
     typed = ["::".join(function.split("::")[1:]) for function in functions]
     return {one: name for one, name, whole in zip(functions, own, typed) if name in names and own.count(name) == 1 or whole in names}
-
-
-def reasons():
-    """Each reason with the functions that it is for, which can have stars, and the line where it stands."""
-    line = 1
-    for block in REASONS.read_text().split("\n\n"):
-        reason, *rows = block.strip("\n").split("\n")
-        if not reason.startswith("#"):
-            yield line, reason, [word for row in rows for word in row.split()]
-        line += block.count("\n") + 2
 
 
 def wrong(reason, function, names):
@@ -75,8 +62,9 @@ def main(arguments):
     functions = [function for crate in libraries() for function in dict.fromkeys(public_of(crate))]
     names, given, faults = listed(), {}, []
     calls = called(functions, names["probe_memory"])
-    for line, reason, patterns in reasons():
-        for wanted in patterns:
+    for line, reason, rows in data.reasons(REASONS):
+        # The functions that it is for may have stars.
+        for wanted in " ".join(rows).split():
             found = fnmatch.filter(functions, wanted)
             said = ["there is no function %s" % wanted] * (not found)
             said += ["%s is a call of probe_memory" % one for one in found if one in calls]

@@ -15,20 +15,19 @@ numbers each time. Without a NAME it measures all, one after another. The progra
 - `stack`: bytes of stack that a call takes at most, and what a level more takes. The status is 1 if one is past its bound.
 - `lines`: instructions that ufmt_lines takes for each byte of a log of each shape. PROGRAM is another build of it.
 """
-import importlib
 import pathlib
-import tempfile
 
-from lib import needs, running
+from lib import needs, running, top
 from lib.command.arguments import add_names
 
-# What each needs. It is a module of lib/bench with `table(room, given)`, which prints the figures and may return a status.
-NEEDED = {"calls": ("rt", "valgrind", "gcc", "readelf"), "texts": ("rt", "valgrind"), "parse": ("rt", "valgrind", "gcc", "readelf"),
-          "floats": ("rt", "valgrind", "rustc"), "stack": ("rt", "objdump", "nm"), "lines": ("rt", "valgrind")}
+# What prints the figures, of a folder and what is asked, and may return a status; and what it needs.
+TABLES = {"calls": ("lib.bench.calls:table", "rt valgrind gcc readelf"), "texts": ("lib.bench.tables:texts", "rt valgrind"),
+          "parse": ("lib.bench.tables:parse", "rt valgrind gcc readelf"), "floats": ("lib.bench.tables:floats", "rt valgrind rustc"),
+          "stack": ("lib.bench.stack:table", "rt objdump nm"), "lines": ("lib.bench.tables:lines", "rt valgrind")}
 
 
 def add_arguments(parser):
-    add_names(parser, "NAME", NEEDED, ", ".join(NEEDED))
+    add_names(parser, "NAME", TABLES, ", ".join(TABLES))
     parser.add_argument("--ufmt", type=pathlib.Path, metavar="FOLDER", help="calls: a checkout of ufmt 0.2.0")
     parser.add_argument("--program", type=pathlib.Path, metavar="PATH", help="lines: another build of ufmt_lines")
 
@@ -36,11 +35,12 @@ def add_arguments(parser):
 def main(given):
     running.heartbeat("x bench")
     statuses = []
-    for name in given.names or NEEDED:
-        missing = needs.missing(NEEDED[name])
+    for name in given.names or TABLES:
+        place, needed = TABLES[name]
+        missing = needs.missing(needed.split())
         if missing:
             print("skipped: %s: %s" % (name, needs.told(missing[0])))
             continue
-        with tempfile.TemporaryDirectory(prefix="x-bench-") as room:
-            statuses.append(importlib.import_module("lib.bench." + name).table(pathlib.Path(room), given) or 0)
+        with running.room("bench") as room:
+            statuses.append(top.function_of(place)(room, given) or 0)
     return max(statuses, default=1)

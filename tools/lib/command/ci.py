@@ -2,8 +2,11 @@
 
 First the steps of `x try` that only look at the sources, which take seconds. Then `rt ci`, which proves every crate and runs every test
 and program. Then the other steps of `x try`, some side by side. It ends early if the sources or `rt ci` fail, and last prints a table of
-steps, with the seconds of each and what it found, and the processor minutes. The status is 0 if nothing failed.
+steps, with the seconds of each and what it found, and the processor minutes. The first line says how long it took last time on this
+machine. The status is 0 if nothing failed.
 """
+import contextlib
+import pathlib
 import re
 import resource
 import subprocess
@@ -16,6 +19,9 @@ from lib.running import say
 
 # What `rt ci` says of a crate that it has checked, or need not check.
 ENDED = re.compile(r"rt: (\w+) (?:proved|NOT PROVED|is kept)")
+
+# How many minutes the last run took that ended well.
+LAST = pathlib.Path.home() / ".cache" / "ufmt" / "ci_minutes"
 
 
 def add_arguments(parser):
@@ -45,6 +51,9 @@ def processor_minutes():
 
 def main(given):
     needs.require("ci", "rt")
+    began = time.monotonic()
+    if LAST.exists():
+        say("the last run on this machine took %s min" % LAST.read_text().strip())
     trying.say_missing(steps.STEPS)
     results, minutes = [], []
     cheap, others = ([step for step in steps.STEPS if (step.kind == steps.SOURCES) == is_cheap] for is_cheap in (True, False))
@@ -57,4 +66,8 @@ def main(given):
     for result in results:
         print("%-10s %-8s %6d s  %s" % (result.name, result.said(), result.seconds, result.found[:150]))
     print("processor minutes: %s" % ", ".join("%.1f for %s" % said for said in zip(minutes, ("the sources", "`rt ci`", "the other steps"))))
+    if not any(result.status for result in results):
+        with contextlib.suppress(OSError):
+            LAST.parent.mkdir(parents=True, exist_ok=True)
+            LAST.write_text("%d\n" % ((time.monotonic() - began) / 60 + 1))
     return trying.closing(results)

@@ -5,10 +5,9 @@ has its name now; and each `requires` that is new. So a reader sees what to judg
 A function that moved to another module or crate is found by its name and its type's. The last line has the counts. The status is 0.
 """
 import collections
-import pathlib
 import subprocess
-import tempfile
 
+from lib import running
 from lib.contracts.functions import public_functions
 from lib.top import TOP
 
@@ -65,12 +64,12 @@ def add_arguments(parser):
 
 
 def main(given):
-    with tempfile.TemporaryDirectory(prefix="x-clauses-") as room:
+    with running.room("clauses") as room:
         packed = subprocess.run(["git", "archive", given.revision, "crates"], cwd=TOP, stdout=subprocess.PIPE)
         if packed.returncode:
             return 1
         subprocess.run(["tar", "x"], cwd=room, input=packed.stdout, check=True)
-        old, new = Tree(pathlib.Path(room)), Tree(TOP)
+        old, new = Tree(room), Tree(TOP)
         gone, changed = compared(old, new)
     count = sum(len(found) for found in old.functions.values())
     print("%d public functions at %s: %d are gone, %d have a clause that changed" % (count, given.revision, gone, changed))

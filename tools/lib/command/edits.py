@@ -5,10 +5,8 @@ crate before a change to it lands. It works on a clone of HEAD in a temporary fo
 nothing here. It prints a line for each edit, and last `N refused, M not refused`. Its status is 1 if an edit is not refused, or can't be
 applied or read.
 """
-import pathlib
 import shutil
 import subprocess
-import tempfile
 
 from lib import running
 from lib.command.arguments import add_names
@@ -43,8 +41,8 @@ def clone(room, crates):
 
 def main(given):
     crates, refused, said, last = given.crates or having(), 0, 0, []
-    with tempfile.TemporaryDirectory(prefix="x-edits-") as folder:
-        room = pathlib.Path(folder) / "clone"
+    with running.room("edits") as folder:
+        room = folder / "clone"
         count = clone(room, crates)
         process = running.begun(["rt", "must-fail", *crates], cwd=room, stdin=subprocess.DEVNULL, stdout=subprocess.PIPE, stderr=subprocess.STDOUT)
         for line in running.lines_of(process):

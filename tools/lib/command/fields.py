@@ -1,56 +1,33 @@
 """Checks that structs of every kind of field are printed and parsed with nothing to prove by hand.
 
-The kinds are those of tools/data/fields.txt. It draws so many pairs and triples of them, writes a crate with a struct of each, and checks
-it over trusted libraries, as `x check` does. Kinds in quotes name one struct: `x fields "vector of text" integer`. The time grows by some
-seconds a struct.
+The kinds are those of tools/data/fields.txt. It draws so many pairs and triples of them, writes crates with a struct of each, and checks
+them over trusted libraries, as `x check` does. Kinds in quotes name one struct: `x fields "vector of text" integer`. What it found is kept
+in `out/`, beside what `x check` found, so the next run checks only new structs.
 
-It prints a line for each function that isn't proved, with the kinds of its struct. The status is 1 if there was one.
+It prints the kinds of each struct that isn't proved. The status is 1 if there was one.
 """
 import itertools
-import pathlib
 import random
 import re
-import subprocess
-import tempfile
+import shutil
 
+from lib import running
 from lib.bench import build
 from lib.command import check
 from lib.command.arguments import add_jobs, add_names
+from lib.data import DATA
 from lib.findings import ended
 from lib.top import TOP, closure, listed
 
-TABLE, HEAD = TOP / "tools" / "data" / "fields.txt", TOP / "tools" / "data" / "fields.rt.txt"
+# The source up to a line `====`, and a struct of it.
+HEAD, STRUCT = (DATA / "fields.rt.txt").read_text().split("====\n")
 BELOW = "ufmt ufmt_core ufmt_parse ufmt_parser".split()
-STRUCT = """
-// %(told)s
-#[derive(Drop)]
-pub struct %(name)s%(parameter)s {
-%(fields)s}
-
-impl%(printed)s uDebug for %(name)s%(parameter)s {
-    ghost document = { λ s. named_struct "%(name)s" (%(documents)s[]) };
-
-    fn fmt<W: uWrite>(&self, f: &mut Formatter<W>) -> Result<(), W::Error> {
-        fields!(f, self, %(name)s { %(names)s })
-    }
-}
-
-impl%(parsed)s uParse<Global> for %(name)s%(parameter)s {
-    ghost is_value = { λ %(value)s };
-
-    fn prove_value(&self) {
-        prove_fields!(Global, self, %(name)s { %(names)s })
-    }
-
-    fn parse_from<M: ParseMode>(alloc: Global, parser: &mut Parser<'_, M>) -> Result<%(name)s%(parameter)s, Fault> {
-        parse_fields!(alloc, parser, %(name)s { %(names)s })
-    }
-}
-"""
+# Where crates are written, what is kept, and so many structs in a crate.
+ROOM, KEPT, BATCH = TOP / "out" / "fields", TOP / "out" / "trusting", 32
 
 
 def kinds():
-    rows = (re.split(r" \|(?: |$)", line, maxsplit=3) for line in TABLE.read_text().splitlines() if not line.startswith("#"))
+    rows = (re.split(r" \|(?: |$)", line, maxsplit=3) for line in (DATA / "fields.txt").read_text().splitlines() if not line.startswith("#"))
     return {kind: (type_of, document, value.strip()) for kind, type_of, document, value in rows}
 
 
@@ -83,18 +60,26 @@ def add_arguments(parser):
     add_jobs(parser, "proofs")
 
 
+def faults_of(drawn, table, lines, jobs):
+    """Checks a crate with a struct of each of these kinds."""
+    structs = {"".join(kind.title().replace(" ", "") for kind in one): one for one in drawn}
+    folder = ROOM / "crates" / "fields"
+    (folder / "src" / "lib.rt").write_text(HEAD + "".join(struct(name, one, table) for name, one in structs.items()))
+    call = check.command(folder, KEPT, "fields", lines, ["fields"], jobs, False)
+    status, said = running.said(call, cwd=folder)
+    # Of a method the name of its trait follows.
+    unproved = [one for name, one in structs.items() if re.search(r"^fn fields::%s(?:uDebug|uParse\w*)?::.*(?<!: proved)$" % name, said, re.M)]
+    faults = ["%s: not proved" % ", ".join(one) for one in unproved]
+    return faults or [line for line in said.splitlines() if line.startswith("error")] or ["status %d" % status] * bool(status)
+
+
 def main(given):
-    table, lines = kinds(), {**listed(), "fields": BELOW}
-    structs = {"S%d" % i: drawn for i, drawn in enumerate(draws(given, table))}
-    with tempfile.TemporaryDirectory(prefix="x-fields-") as room:
-        room = pathlib.Path(room)
-        build.copied(TOP, room, closure(BELOW, lines), ("src", "specs", "proofs"))
-        folder = room / "crates" / "fields"
-        (folder / "src").mkdir(parents=True)
-        (folder / "src" / "lib.rt").write_text(HEAD.read_text() + "".join(struct(name, drawn, table) for name, drawn in structs.items()))
-        call = check.command(folder, room / "kept", "fields", lines, ["fields"], given.jobs, False)
-        said = subprocess.run(call, cwd=folder, text=True, stdout=subprocess.PIPE, stderr=subprocess.STDOUT).stdout
-    open_in = sorted({name for name in re.findall(r"fields::(S\d+)", said)}, key=lambda name: int(name[1:]))
-    faults = ["%s: not proved" % ", ".join(structs[name]) for name in open_in]
-    faults += [line for line in said.splitlines() if re.match(r"error", line)] if not faults else []
-    return ended(faults, "%d structs" % len(structs))
+    table, lines, faults = kinds(), {**listed(), "fields": BELOW}, []
+    shutil.rmtree(ROOM / "crates", ignore_errors=True)
+    build.copied(TOP, ROOM, closure(BELOW, lines), ("src", "specs", "proofs"))
+    (ROOM / "crates" / "fields" / "src").mkdir(parents=True)
+    KEPT.mkdir(parents=True, exist_ok=True)
+    drawn = draws(given, table)
+    for first in range(0, len(drawn), BATCH):
+        faults += faults_of(drawn[first:first + BATCH], table, lines, given.jobs)
+    return ended(faults, "%d structs" % len(drawn))

@@ -12,12 +12,10 @@ NAME.rt.txt is src/lib.rt of a crate NAME, and NAME.antt.txt, where there is one
 It prints a line for each form that is no longer refused, or not in these words, and for each name that only one of docs/forms and
 docs/DECISIONS.md has. Its status is 1 if there was such a line.
 """
-import pathlib
 import re
 import shutil
-import subprocess
-import tempfile
 
+from lib import running
 from lib.bench import build
 from lib.command.arguments import add_names
 from lib.findings import ended
@@ -47,12 +45,11 @@ class Form:
     def fault(self, room):
         if not self.says:
             return "no line `//! says:`"
-        ran = subprocess.run(["rt", self.command, "--jobs", "1"], cwd=room / "crates" / self.name, stdin=subprocess.DEVNULL,
-                             stdout=subprocess.PIPE, stderr=subprocess.STDOUT, text=True, errors="replace")
-        if ran.returncode == 0:
+        status, said = running.said(["rt", self.command, "--jobs", "1"], cwd=room / "crates" / self.name)
+        if status == 0:
             return "not refused"
-        last = "\n".join(ran.stdout.splitlines()[-20:])
-        missing = [words for words in self.says if words not in ran.stdout]
+        last = "\n".join(said.splitlines()[-20:])
+        missing = [words for words in self.says if words not in said]
         return "nothing says `%s`; last was said:\n%s" % (missing[0], last) if missing else None
 
 
@@ -84,8 +81,7 @@ def main(given):
     faults, refused = list(page_faults(forms)), 0
     if not tried:
         faults.append("docs/forms has no form to try")
-    with tempfile.TemporaryDirectory(prefix="x-forms-") as room:
-        room = pathlib.Path(room)
+    with running.room("forms") as room:
         make_room(room, tried)
         for number, form in enumerate(tried, 1):
             fault = form.fault(room)

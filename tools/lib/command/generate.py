@@ -4,6 +4,26 @@ Run it after a change in tools/lib/by_count or in its templates, tools/data/by_c
 files. docs/API.md changes with the public calls, and docs/PROMISES.md with the comments of promises in the sources. With
 `--check` it writes nothing: it compares the files with what it would write, but for spaces, line ends and last commas.
 """
+from lib import needs
+from lib.findings import ended
+from lib.running import output_of
+from lib.top import TOP
+
+
+def write(files):
+    files = dict(files)
+    for name, text in files.items():
+        (TOP / name).parent.mkdir(parents=True, exist_ok=True)
+        (TOP / name).write_text(text, encoding="utf-8")
+    print("%s, written" % (", ".join(files) if len(files) == 1 else "%d files by the number of fields" % len(files)))
+    return 0
+
+
+def compare(files, told, faults=(), same=str):
+    """Compares the files with what would be written, in the form in which they must be the `same`."""
+    stale = ["%s:1: not as `x generate` writes it" % name for name, text in files
+             if not (TOP / name).is_file() or same((TOP / name).read_text(encoding="utf-8")) != same(text)]
+    return ended([*faults, *stale], told)
 
 
 def add_arguments(parser):
@@ -12,15 +32,12 @@ def add_arguments(parser):
 
 def formatted(files):
     """Formats the crates of these files, as docs/API.md shows lines of them."""
-    from lib.running import output_of
-    from lib.top import TOP
-
     for crate in sorted({name.split("/")[1] for name, _ in files}):
         output_of(["rt", "fmt"], cwd=TOP / "crates" / crate)
 
 
 def main(given):
-    from lib import generated, needs
+    # These parts compare their files by this module.
     from lib.api import page as calls
     from lib.by_count import step as by_count
     from lib.promises import page as promises
@@ -28,6 +45,6 @@ def main(given):
     if given.check:
         return max(part.main(given) for part in (by_count, calls, promises))
     needs.require("generate", "rt")
-    generated.write(by_count.files())
+    write(by_count.files())
     formatted(by_count.files())
-    return max(generated.write(part.files()) for part in (calls, promises))
+    return max(write(part.files()) for part in (calls, promises))

@@ -5,7 +5,7 @@
 - `edits`: each promise, with the edits that guard it.
 - `calls`: each public function, with what calls it, or the reason why nothing does.
 """
-import importlib
+from lib import top
 
 LISTS = {"definitions": "lib.pages.definitions", "requires": "lib.pages.requires", "edits": "lib.pages.edits", "calls": "lib.calls.step"}
 
@@ -15,4 +15,4 @@ def add_arguments(parser):
 
 
 def main(given):
-    return importlib.import_module(LISTS[given.list]).main(["--list"])
+    return top.function_of(LISTS[given.list] + ":main")(["--list"])

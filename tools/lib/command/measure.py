@@ -10,13 +10,11 @@ With `--write` it writes the tables in tools/data/measured again. What `costs`, 
 built with nothing proved; `texts` and `logs` count the proved programs that `rt ci` leaves.
 The status is 0 if each bound is in the band.
 """
-import importlib
-
-from lib import running
+from lib import running, top
 from lib.command.arguments import add_names
 
 # The module of each, with `measured_again(is_written)`, which returns the status.
-MEASURED = {"costs": "lib.costs.step", "c": "lib.c.costs", "floats": "lib.floats.steps", "texts": "lib.model.step",
+MEASURED = {"costs": "lib.costs.step", "c": "lib.c.costs", "floats": "lib.floats.step", "texts": "lib.model.step",
             "logs": "lib.log_model.log_costs"}
 
 
@@ -27,4 +25,4 @@ def add_arguments(parser):
 
 def main(given):
     running.heartbeat("x measure")
-    return max(importlib.import_module(MEASURED[name]).measured_again(given.write) for name in given.names or MEASURED)
+    return max(top.function_of(MEASURED[name] + ":measured_again")(given.write) for name in given.names or MEASURED)

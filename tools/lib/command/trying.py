@@ -33,7 +33,7 @@ def add_arguments(parser):
     parser.add_argument("--every-f32", metavar="BLOCK", nargs="?", type=int, const=0, help="floats: every f32, from this block of 2^24 on (0 to 255)")
     parser.add_argument("--program", metavar="PATH", help="c, logs, programs, rows, texts: another build of the library or the program")
     parser.add_argument("--proved", action="store_true", help="c: the library as `rt lib` proves and builds it")
-    parser.add_argument("--write", action="store_true", help="c: writes what rustc and xxd print, in place of a trial; growths: writes its table anew")
+    parser.add_argument("--write", action="store_true", help="c: writes what rustc prints, in place of a trial; growths: writes its table anew")
 
 
 def words_of(given):

@@ -5,7 +5,7 @@ With DESTDIR in the environment, they are below that folder.
 import pathlib
 import sys
 
-from lib.packaging import installing
+from lib.command import install
 
 
 def add_arguments(parser):
@@ -13,8 +13,12 @@ def add_arguments(parser):
 
 
 def main(given):
+    prefix = install.below(given.prefix)
+    files = install.listed(prefix)
+    if not files:
+        sys.exit("x uninstall: %s isn't there: nothing of ufmt is installed" % (prefix / install.FILES))
     try:
-        installing.uninstall(installing.below(given.prefix))
+        install.remove(prefix, files)
     except OSError as error:
         sys.exit("x uninstall: %s" % error)
     return 0

@@ -4,6 +4,8 @@ the lines to write next. `--long` shows all: goals, what may be used in a proof,
 import itertools
 import re
 
+from lib import data
+
 PROVED = re.compile(r"^(?:fn|struct|enum|trait|impl) .*: proved$")
 ONLY = re.compile(r"^only=(\d+) proved=(\d+)")
 NOISE = ("logic ", "statements ", "library ", "crate ", "checked ", "so far: checked ")
@@ -16,15 +18,7 @@ START = re.compile(r"^    (\S+( .*)?) = \?$")
 CALL = re.compile(r"^  \| (c\.\S+): .*\.ensures \{\.(\w+)")
 ARM = re.compile(r"returns-in-(\w+)$")
 # What a clause promises, where a function may return: of the trait whose types users write.
-CLAUSES = {
-    "taken": "it takes the text of the value that it returns",
-    "only": "no value with a longer text is there",
-    "none": "it fails with `NotText` only if no value's text is there",
-    "memory": "it isn't refused memory",
-    "stops": "it stops where the type says",
-    "blocks": "as many blocks are open as before",
-    "shrinks": "no byte is put back",
-}
+CLAUSES = dict(data.rows("words/clauses.txt")["of a type"])
 # A list of bytes as the checker writes it, with what ends it.
 BYTES = re.compile(r"(?:mathlib\.Core\.List\.◌∷◌ \d+ \(?)+mathlib\.Core\.List\.\[\]\)*")
 # Where a name is declared.

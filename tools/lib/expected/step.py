@@ -3,24 +3,61 @@ printed in the other mode, for each class of texts: token texts and debug texts.
 
 tools/expected/rows.txt has each value's text by `{:?}` and by `{:#?}`: tools/expected/print wrote it. In
 tools/expected/reasons each row that a class refuses, or that comes out as another text, has its reason. A row
-without a reason is a fault, and so is a reason without a row and one that no longer holds. The model refuses
-the texts of tools/data/texts/refused.txt.
+without a reason is a fault, and so is a reason without a row and one that no longer holds.
 
 All these texts are passed to the built probe_model, which `rt ci` leaves in crates/probe_model/out, and what
 the calls of both classes say of them is compared with what the model says.
 """
-import sys
+import itertools
+import re
+from typing import NamedTuple
+from urllib.parse import unquote
 
-from lib import needs
-from lib.expected.rows import reasons, rows
+from lib import data, needs
 from lib.findings import case, ended
-from lib.model import debug_refused
-from lib.model.reading import MODES, READERS, converted
-from lib.model.step import shown, wrong_lines
+from lib.model.reading import MODES, converted
+from lib.model.step import wrong_lines
+from lib.top import TOP
 
-sys.setrecursionlimit(20_000)
-
+DATA = TOP / "tools" / "expected"
 CLASSES = ("token", "debug")
+OF_REASON = {"token": ("token",), "debug": ("debug",), "both": CLASSES}
+REASON = re.compile(r"(token|debug|both): (same|another|refused), (same|another|refused)\. (\S.*)")
+
+
+class Row(NamedTuple):
+    """A value's texts by `{:?}` and by `{:#?}`."""
+
+    name: str
+    plain: str
+    pretty: str
+
+
+def rows():
+    """The first line of the file says which rustc printed it, and src/rows.rs has the form of the others."""
+    blocks = (DATA / "rows.txt").read_text(encoding="utf-8").rstrip("\n").split("\n\n")
+    return [row(*block.split("\n")) for block in blocks[1:]]
+
+
+def row(name, first, *others):
+    if not first.startswith("? ") or not others or not all(line[:2] in ("#", "# ") for line in others):
+        raise ValueError("a row of another form: " + name)
+    return Row(name, unquote(first[2:]), "\n".join(unquote(line[2:]) for line in others))
+
+
+def reasons():
+    """What comes out of a row's plain and of its pretty text, by its name and a class. A reason of another form ends the run."""
+    found = {}
+    for _, reason, names in data.reasons(DATA / "reasons"):
+        its = REASON.fullmatch(reason)
+        if not its:
+            raise ValueError("a reason of another form: " + reason)
+        for key in itertools.product(names, OF_REASON[its[1]]):
+            if found.setdefault(key, its.group(2, 3)) != its.group(2, 3):
+                raise ValueError("two reasons: %s" % key[0])
+    return found
+
+
 # There are at least so many rows. Of each 150 the debug class has at least so many in both directions.
 LEAST_ROWS, LEAST_OF_150 = 150, 137
 SAME = ("same", "same")
@@ -45,21 +82,6 @@ def wrong_tables(stored, listed):
         yield "%d rows, and not at least %d" % (len(names), LEAST_ROWS)
 
 
-def wrong_in_debug(row):
-    """A text that token texts have is read as that document among debug texts."""
-    for mode, text in zip(MODES, (row.plain, row.pretty)):
-        document = READERS[mode, "token"].read(text)
-        if document is not None and READERS[mode, "debug"].read(text) != document:
-            yield "%s text %s: another document among debug texts than among token texts" % (mode, shown(text.encode()))
-
-
-def wrong_refused():
-    for text in debug_refused.texts():
-        for mode in MODES:
-            if converted(mode, "debug", text.decode("utf-8", "surrogateescape")) is not None:
-                yield case("%s text %s" % (mode, shown(text)), "refused", "read")
-
-
 def main(_given):
     stored, listed, whole = rows(), reasons(), []
     faults = list(wrong_tables(stored, listed))
@@ -73,8 +95,7 @@ def main(_given):
                 faults.append(case("%s, %s" % (row.name, name), "%s, %s (%s)" % (*wanted, why), "%s, %s" % its))
     if 150 * whole[1] < LEAST_OF_150 * len(stored):
         faults.append("debug texts: %d rows both ways, and not at least %d of 150" % (whole[1], LEAST_OF_150))
-    faults += [*(fault for row in stored for fault in wrong_in_debug(row)), *wrong_refused()]
-    texts = [*(text.encode() for row in stored for text in (row.plain, row.pretty)), *debug_refused.texts()]
-    faults += wrong_lines(needs.built("probe_model"), list(dict.fromkeys(texts)))[0]
+    texts = list(dict.fromkeys(text.encode() for row in stored for text in (row.plain, row.pretty)))
+    faults += wrong_lines(needs.built("probe_model"), texts)[0]
     told = len(stored), *whole, len(texts)
     return ended(faults, "%d rows, both ways %d as token texts and %d as debug texts, %d texts by the program" % told)

@@ -5,10 +5,9 @@ import struct
 from fractions import Fraction
 
 from lib import data
+from lib.model.floats import FORMATS
 
 HARD = {part: " ".join(rows).split() for part, rows in data.parts("floats/hard.txt").items()}
-# By width: the bits of a significand without its leading one, and those of an exponent.
-FORMATS = {64: (52, 11), 32: (23, 8)}
 
 
 def round_numbers():

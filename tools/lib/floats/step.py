@@ -1,48 +1,98 @@
 """Compares the texts of floats with those that rustc prints: as Debug and as Display, and with 0 to 1,100 decimals, for edges,
 hard cases and random bit patterns of each format (patterns.py). One program is built over copies of ufmt_float and ufmt_fixed with
-nothing proved, the other by rustc. Then the steps and the stack of calls of ufmt are compared with their bounds (steps.py).
+nothing proved, the other by rustc.
+
+Then the steps and the stack of calls of ufmt are compared with their bounds. The rows of tools/data/measured/floats.txt are usual
+floats; decimals that binary fractions have; the ends of the ranges that crates/ufmt_float/CALLING.md and
+crates/ufmt_fixed/CALLING.md name, and what lies in them.
 
 With `--every-f32` it compares all `f32`s by digests, each for 2^24 patterns, in an hour and a half of a processor.
 """
-import pathlib
+import functools
+import shutil
 import subprocess
-import tempfile
 
+from lib import findings, measures, needs, running
+from lib.bench import build, frames, tables
+from lib.data import DATA
 from lib.findings import case, ended
-from lib.floats import patterns, programs, steps
+from lib.floats import patterns
 
 COUNT = 20_000
+TOLD = "Of `x try floats`: steps of a `{:?}` and the loop around it, and after a colon of one with decimals"
+
+
+def built(name, libraries, room):
+    """Built of tools/data/floats/NAME.rt.txt over copies of these libraries and of what is below them, with nothing proved."""
+    return build.over_copies(room, name, libraries, "floats")
+
+
+ours = functools.partial(built, "floats", ["ufmt_fixed"])
+# What its calls take is counted.
+by_ufmt = functools.partial(built, "by_ufmt", ["ufmt"])
+# It prints an exponent or a point by rules of its own.
+ryu = functools.partial(built, "ryu_floats", ["ryu"])
+
+
+def theirs(room):
+    room.mkdir(exist_ok=True)
+    subprocess.run(["rustc", "-O", "-o", room / "rustc-floats", DATA / "floats" / "floats.rs"], check=True)
+    return room / "rustc-floats"
+
+
+def printed(program, *words, text=None):
+    return subprocess.run([program, *words], input=text, stdout=subprocess.PIPE, text=True, check=True).stdout
 
 
 def compare_every(first):
     faults = 0
-    with tempfile.TemporaryDirectory(prefix="x-floats-") as room:
-        both = programs.ours(pathlib.Path(room)), programs.theirs(pathlib.Path(room))
+    with running.room("floats") as room:
+        both = ours(room), theirs(room)
         for block in range(first, 256):
-            ends = ["%x" % (it << 24) for it in (block, block + 1)]
-            said = [subprocess.run([program, *ends], stdout=subprocess.PIPE, text=True, check=True).stdout for program in both]
+            said = [printed(program, *("%x" % (it << 24) for it in (block, block + 1))) for program in both]
             faults += said[0] != said[1]
             print("%d %s" % (block, said[0] if said[0] == said[1] else "%s, and by rustc %s" % tuple(said)), flush=True)
     print("%d blocks of 2^24 floats, %d differences" % (256 - first, faults))
     return 1 if faults else 0
 
 
-def compare(count, seed):
-    with tempfile.TemporaryDirectory(prefix="x-floats-") as room:
-        room, text = pathlib.Path(room), patterns.lines(count, seed)
-        rustc = programs.theirs(room)
-        said = [programs.printed(program, text) for program in (programs.ours(room / "ours"), rustc)]
-        by_ufmt = programs.by_ufmt(room / "by_ufmt")
-        counts = steps.counted(by_ufmt)
-        past = steps.faults(by_ufmt, counts)
-    different = [it for it in zip(text.splitlines(), *said) if it[1] != it[2]]
-    faults = [case(bits, wanted, found) for bits, found, wanted in different] + past
-    faults += [case("lines", len(said[1]), len(said[0]))] if len(said[0]) != len(said[1]) else []
-    counted = len(said[1]), len(different), len(counts), len(past)
-    return ended(faults, "%d floats, %d differences; %d calls counted, %d past their bounds of steps or stack" % counted)
+def counted(program):
+    """The steps of each call of the program. None are counted without valgrind."""
+    rows = measures.Table("floats").rows if shutil.which("valgrind") else ()
+    return {value: [("steps", tables.float_instructions(program, value))] for value in rows}
+
+
+def past_bounds(program, counts):
+    """A line for each call that takes more steps than its bound, and for each function that is past a bound of stack, where there
+    is objdump."""
+    past = list(measures.Table("floats").faults(counts)) if counts else []
+    known = frames.Frames(program) if shutil.which("objdump") else None
+    for name, (most, own) in measures.Table("stack").of("float").items() if known else ():
+        function = "by_ufmt::" + name
+        taken = known.most(function).size, known.frames[known.addresses[function]].size
+        past += [findings.most(what, bound, size, "bytes of stack")
+                 for what, bound, size in zip((name, "the frame of %s" % name), (most, own), taken) if size > bound]
+    return past
+
+
+def measured_again(is_written):
+    needs.require("measure", "rt", "valgrind")
+    with running.room("floats") as room:
+        return measures.measured_again("floats", counted(by_ufmt(room)), TOLD, is_written)
 
 
 def main(given):
     if given.every_f32 is not None:
         return compare_every(given.every_f32)
-    return compare(COUNT if given.count is None else given.count, given.seed)
+    text = patterns.lines(COUNT if given.count is None else given.count, given.seed)
+    with running.room("floats") as room:
+        rustc = theirs(room)
+        said = [printed(program, text=text).splitlines() for program in (ours(room / "ours"), rustc)]
+        program = by_ufmt(room / "by_ufmt")
+        counts = counted(program)
+        past = past_bounds(program, counts)
+    different = [it for it in zip(text.splitlines(), *said) if it[1] != it[2]]
+    faults = [case(bits, wanted, found) for bits, found, wanted in different] + past
+    faults += [case("lines", len(said[1]), len(said[0]))] if len(said[0]) != len(said[1]) else []
+    told = len(said[1]), len(different), len(counts), len(past)
+    return ended(faults, "%d floats, %d differences; %d calls counted, %d past their bounds of steps or stack" % told)

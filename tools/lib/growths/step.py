@@ -1,19 +1,75 @@
 """Whether code makes an error of memory, in place of passing one on from a growth.
 
 A contract lets a call fail for want of memory at any time, and a test sees it only where the call then fails. So this is a rule:
-each line of the libraries, programs and examples that rule.py finds is in tools/data/growths.txt, with its reason. `--write`
-writes the table anew, with `?` for a reason that isn't known.
+each line of the libraries, programs and examples where that may be is in tools/data/growths.txt, with its reason. A line counts if it
+names such an error or what can make one, asks for memory by a size, has a large number, or begins a loop that no list ends and that
+grows. A `return` counts with the line before it, which says when. Of a text in quotes only its words on memory count. `--write` writes
+the table anew, with `?` for a reason that isn't known.
 
 It also puts each wrong body of tools/data/wrong_growths.txt into its source, in memory, and a wrong line into each function: one
 that isn't found is a fault. The crates of tests and the probes aren't looked at, since what they write is compared.
 """
 import collections
+import math
 import re
 
 from lib import data
 from lib.findings import ended
-from lib.growths import rule
 from lib.top import TOP, is_ours
+
+# Errors of memory, and what can make one that isn't named.
+NAMES = re.compile(r"(?<!: )(?<!\.)\b(AllocError|AllocFailed|OutOfMemory|TryReserveError|LayoutError|StorageFull|NO_MEMORY)\b(?![<>])|\b([Dd]efault|unsafe|"
+                   r"transmute|zeroed|from_str_radix|include|ErrorKind|Layout|allocate|from_residual|Try)\b|\bExitCode::|(?<!fn )\breport\(|(?<!io)::Error\s*[),;?]|\.parse\b")
+# A line of a contract, and one that only declares an error.
+OTHER = re.compile(r"[≡≢→λ⊥∷×⊎↦]|^(pub )?use (?!.* as )|^ghost |^ensures |^OutOfMemory,$|^type Error = ")
+SIZES = re.compile(r"\b(with_capacity|reserve|try_reserve|resize|repeat|from_elem|from_fn|collect|extend|extend_from_within|from_iter)(_exact|_in|_with|_n)?(\(|::<)|"
+                   r"\b(vec|format)!")
+# Room for one or two items more.
+FEW = re.compile(r"\breserve\([12]\)")
+LARGE = re.compile(r"\bMAX\b|\bmax_value\b|\bBITS\b|<<|\b(checked_)?pow\b|\bleading_ones\b|!\d")
+NUMBER = re.compile(r"\b\d[\d_]*(?: \* \d[\d_]*)*\b")
+MOST = 65536
+LOOP = re.compile(r"\s*(for \w+ in [^{]*\.\.|while |loop\b)")
+GROWS = re.compile(r"\b(push\w*|new|clone|collect|extend\w*|insert|append|to_\w+|write_\w+|from_\w+|with_capacity|reserve|resize)(::<[^>]*>)?\(.*\?", re.S)
+TEXT = re.compile(r'"(?:[^"\\]|\\.)*"')
+
+
+def bare(line):
+    """A line without its comment, and with what its texts say only of memory."""
+    line = TEXT.sub(lambda found: '"memory"' if "memory" in found[0].lower() else '""', line)
+    return line.partition("//")[0].rstrip()
+
+
+def indent(line):
+    return len(line) - len(line.lstrip())
+
+
+def loop_at(lines, at):
+    end = at + 1
+    while end < len(lines) and (not lines[end] or indent(lines[end]) > indent(lines[at])):
+        end += 1
+    return "\n".join(lines[at:end])
+
+
+def is_large(line):
+    # A number of more digits is in a text of several lines.
+    rows = (found.replace("_", "").split(" * ") for found in NUMBER.findall(line))
+    products = [math.prod(int(number) if len(number) < 40 else 0 for number in row) for row in rows]
+    return max(products, default=0) > MOST or bool(LARGE.search(line))
+
+
+def places_in(text):
+    """The number and the text of each such line, without spaces around. Where a line only returns, the text begins with the line before."""
+    lines = [bare(line) for line in text.split("\n")]
+    for at, line in enumerate(lines):
+        grows = LOOP.match(line) and GROWS.search(loop_at(lines, at))
+        if grows or '"memory"' in line or NAMES.search(line) or SIZES.search(FEW.sub("", line)) or is_large(line):
+            told = line.strip()
+            if told.startswith(("return", "Err(")) and at:
+                told = "%s %s" % (lines[at - 1].strip(), told)
+            if not OTHER.search(told):
+                yield at + 1, told
+
 
 CRATES = TOP / "crates"
 TABLE = TOP / "tools" / "data" / "growths.txt"
@@ -34,8 +90,7 @@ def sources():
 
 def table():
     rows, reasons = collections.Counter(), {}
-    for block in TABLE.read_text().split("\n\n")[1:]:
-        reason, *lines = map(str.strip, block.strip("\n").split("\n"))
+    for _, reason, lines in data.reasons(TABLE):
         rows.update(lines)
         reasons.update(dict.fromkeys(lines, reason))
     return rows, reasons
@@ -49,13 +104,13 @@ def open_tests(text):
 
 
 def places(texts):
-    return ["%s: %s" % (name, told) for name, text in texts.items() for _, told in rule.places(text)]
+    return ["%s: %s" % (name, told) for name, text in texts.items() for _, told in places_in(text)]
 
 
 def new_places(name, text, rows):
     """The places of a source that aren't in the table, or not so often."""
     left = collections.Counter(rows)
-    for number, told in rule.places(text):
+    for number, told in places_in(text):
         row = "%s: %s" % (name, told)
         left[row] -= 1
         if left[row] < 0:

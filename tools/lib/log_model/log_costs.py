@@ -5,12 +5,10 @@ Steps are counted on a log of 32 KiB, less those of a run on no log: with one st
 bytes, each byte would cost 16,384 steps more. Memory, reads and writes are those of a log of 512 KiB: most of
 them hold a line or a group.
 """
-import pathlib
-import tempfile
 from concurrent.futures import ThreadPoolExecutor
 from typing import Callable, NamedTuple
 
-from lib import data, measures, needs
+from lib import data, measures, needs, running
 from lib.model.counter import Counter
 from lib.model.document import list_of, pretty
 
@@ -38,9 +36,9 @@ def repeated(row):
 
 
 def table_shapes():
-    for part, rows in data.parts("logs/shapes.txt").items():
+    for part, rows in data.rows("logs/shapes.txt").items():
         mode, form = part.split(", ")
-        for name, *pieces in (row.split(" => ") for row in rows):
+        for name, *pieces in rows:
             first, piece, last = map(data.data_of, pieces) if form == "between" else (b"", b"".join(map(repeated, pieces)), b"")
             yield Shape(name, mode, lambda size, row=(first, piece, last): in_a_row(*row, size))
 
@@ -70,8 +68,8 @@ def steps(counter, path, mode, log, name):
 
 def counted(path):
     """What a run on a log of each shape takes. Without valgrind there are no steps."""
-    with tempfile.TemporaryDirectory() as room, ThreadPoolExecutor(needs.processors()) as pool:
-        counter = Counter(pathlib.Path(room))
+    with running.room("logs") as room, ThreadPoolExecutor(needs.processors()) as pool:
+        counter = Counter(room)
         nothing = steps(counter, path, "pretty", b"", "nothing") if counter.valgrind else None
 
         def rows_of(shape):

@@ -6,6 +6,7 @@ import shutil
 import subprocess
 from typing import NamedTuple, Optional
 
+from lib import needs
 from lib.top import TOP
 
 HERE = pathlib.Path(__file__).resolve().parent
@@ -17,7 +18,7 @@ CALLGRIND = ("--tool=callgrind", "--combine-dumps=yes", "--zero-before=counts_be
 def programs_of(program):
     """The built programs by their names: those that `rt ci` leaves, or a probe_model that is named, with those that the same
     compiler made."""
-    program = pathlib.Path(program or TOP / "crates/probe_model/out/probe_model").resolve()
+    program = needs.built("probe_model", program)
     found = {name: TOP / "crates" / name / "out" / program.name.replace("probe_model", name) for name in ("ufmt_conv", "ufmt_lines")}
     return dict(found, probe_model=program)
 

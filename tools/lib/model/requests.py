@@ -1,5 +1,5 @@
 """Values that no text makes: columns, numbers with options, dumps, lines, and values of std's types. A request asks the program to
-print them to a writer that notes pieces. The rules are those of pieces.py, and these:
+print them to a writer that notes pieces. The rules are those of document.py, and these:
 
 - Before and after a value in a column spaces come by `write_str`, 64 in a piece and last what is left; another fill comes by
   `write_char`, each in a piece of its own.
@@ -18,9 +18,9 @@ from decimal import Decimal
 from typing import NamedTuple
 
 from lib.model import floats
-from lib.model.document import Block, list_of, plain, pretty, quoted, tuple_of
+from lib.model.document import (Block, by_character, by_text, digest, list_of, of_value, printed, quoted, text_of, tuple_of,
+                                with_zeros)
 from lib.model.reading import document_of
-from lib.model.pieces import by_character, by_text, digest, of_value, printed, with_zeros
 
 REQUEST_PREFIX = b"\0pieces "
 DEEPEST_LISTS = 260
@@ -53,38 +53,48 @@ def asked(data):
     return Request(*map(int, line.split()), payload)
 
 
-# ---- Lines, columns and hexadecimal texts.
+# ---- Lines, columns and hexadecimal texts. Runs are pieces, each with how often it comes in a row: an option may be huge.
+
+
+def joined(runs):
+    return b"".join(piece * count for piece, count in runs)
 
 
 def spaces(count):
     """So many spaces in pieces of 64, and last what is left."""
-    return [" " * 64] * (count // 64) + [" " * (count % 64)] * (count % 64 > 0)
+    return [(by_text(" " * 64), count // 64), (by_text(" " * (count % 64)), int(count % 64 > 0))]
 
 
-def filled(request, count):
-    return by_character(chr(request.fill)) * count if request.fill != 32 else by_text(*spaces(count))
-
-
-def in_column(request, text, pieces):
-    missing = max(request.width - len(text), 0)
+def column(request, pieces):
+    """What a column has around pieces, and these, as runs."""
+    missing = max(request.width - len(text_of(pieces)), 0)
     before = (0, missing // 2, missing)[min(request.align, 2)]
-    return filled(request, before) + pieces + filled(request, missing - before)
+
+    def filled(count):
+        return spaces(count) if request.fill == 32 else [(by_character(chr(request.fill)), count)]
+
+    return [*filled(before), (pieces, 1), *filled(missing - before)]
+
+
+def in_column(request, pieces):
+    return joined(column(request, pieces))
 
 
 def padded(request, digits, letter="x"):
-    """A text with its prefix and padding, and its pieces."""
+    """A text with its prefix and padding, as runs."""
     prefix = ("0X" if letter == "x" and request.upper_case else "0" + letter) if request.prefix else ""
-    count = max(request.pad_length - len(prefix) - len(digits.encode()), 0)
-    padding = by_character(chr(request.pad)) * count
-    first = by_text(prefix) if prefix else b""
-    pads_first = request.prefix and request.pad == 32
-    pieces = (padding + first if pads_first else first + padding) + by_text(digits)
-    return "." * (len(prefix) + count + len(digits)), pieces
+    padding = by_character(chr(request.pad)), max(request.pad_length - len(prefix) - len(digits.encode()), 0)
+    first = by_text(prefix), len(prefix) > 0
+    return [*((padding, first) if request.pad == 32 else (first, padding)), (by_text(digits), 1)]
 
 
-def hexadecimal(request, number, bits, letter="x"):
+def in_base(request, number, bits, letter="x"):
     digits = format(number % 2**bits, letter)
     return padded(request, digits.upper() if request.upper_case else digits, letter)
+
+
+def hexadecimal(*how):
+    return joined(in_base(*how))
 
 
 def with_places(number, places, width):
@@ -103,17 +113,17 @@ def plain_line(request, text):
     leaf, whole = quoted(text), by_text(text)
     pair = tuple_of(leaf, "()")
     pieces = printed(pair, True, of_value)
-    columns = [(text, whole), (leaf, of_value(leaf)), (pretty(pair), pieces), length, ("!", by_character("!"))]
-    return b"".join([whole * 2, of_value(leaf), pieces, length[1], *(in_column(request, *each) for each in columns)])
+    columns = [whole, of_value(leaf), pieces, length, by_character("!")]
+    return b"".join([whole * 2, *columns[1:4], *(in_column(request, each) for each in columns)])
 
 
 def line_of_each(request, text):
     zero, greatest = (hexadecimal(request, number, 32) for number in (0, 255))
     leaves = [of_value(quoted(item)) for item in (text, "", "x")]
     between = by_text(text)
-    out = [by_text(text, text, "", text, "x"), by_text("").join(leaves), between.join(leaves), zero[1] + between + greatest[1]]
-    out.append(between.join(in_column(request, item, by_text(item)) for item in (text, "", "x")))
-    out.append(by_text(", ").join(in_column(request, *number) for number in (zero, greatest)))
+    out = [by_text(text, text, "", text, "x"), by_text("").join(leaves), between.join(leaves), zero + between + greatest]
+    out.append(between.join(in_column(request, by_text(item)) for item in (text, "", "x")))
+    out.append(by_text(", ").join(in_column(request, number) for number in (zero, greatest)))
     return b"".join(out)
 
 
@@ -122,11 +132,10 @@ def written_line(request, text, is_pretty, depth):
     leaf, whole = quoted(text), by_text(text)
     pair, single = tuple_of(leaf, "'c'"), tuple_of(leaf)
     pieces = printed(pair, is_pretty, of_value, depth)
-    out = [whole * 2, pieces, printed(single, True, of_value, depth), length[1]]
-    out += [hexadecimal(request, len(text.encode()), 64, letter)[1] for letter in "bo"]
-    out += [with_zeros(format(len(text.encode()), "0%dd" % request.width)), in_column(request, text, whole)]
-    out += [in_column(request, pretty(pair, depth) if is_pretty else plain(pair), pieces)]
-    out += [in_column(request, *length), by_text("\n")]
+    out = [whole * 2, pieces, printed(single, True, of_value, depth), length]
+    out += [hexadecimal(request, len(text.encode()), 64, letter) for letter in "bo"]
+    out += [with_zeros(format(len(text.encode()), "0%dd" % request.width))]
+    out += [*(in_column(request, each) for each in (whole, pieces, length)), by_text("\n")]
     return b"".join(out)
 
 
@@ -155,7 +164,7 @@ NUMBER = re.compile(r"0|-?[1-9][0-9]*")
 
 
 def numbers(request, text):
-    out = [padded(request, text)[1]]
+    out = [joined(padded(request, text))]
     if not NUMBER.fullmatch(text):
         return out[0]
     number = int(text)
@@ -163,7 +172,7 @@ def numbers(request, text):
     def add(low, high, bits, count):
         if low <= number <= high:
             pieces = by_text(str(number)) * 3
-            pieces += b"".join(hexadecimal(request, number, bits, letter)[1] for letter in "xbo")
+            pieces += b"".join(hexadecimal(request, number, bits, letter) for letter in "xbo")
             out.append((pieces + with_zeros(format(number, "0%dd" % request.pad_length))) * count)
 
     for bits in BITS:
@@ -232,11 +241,11 @@ def nested(request, text):
 def dump(request):
     per_row = request.per_row or 16
     rows = range(0, len(request.payload), per_row)
-    return b"".join(row_pieces(request, at, request.payload[at : at + per_row]) for at in rows)
+    return [run for at in rows for run in row_runs(request, at, request.payload[at : at + per_row])]
 
 
-def row_pieces(request, at, row):
-    """The pieces of a row. A short one is one piece, which has the text of all of them."""
+def row_runs(request, at, row):
+    """The pieces of a row, as runs. A short row is one piece, which has the text of all of them."""
     per_row = request.per_row or 16
     group = request.group or per_row
     pieces = []
@@ -244,14 +253,15 @@ def row_pieces(request, at, row):
         digits = "%x" % (request.offset + at)
         pieces += [piece for piece in ("0" * (8 - len(digits)), digits) if piece] + [": "]
     pieces += [" " * (number > 0 and number % group == 0) + "%02x" % byte for number, byte in enumerate(row)]
+    runs = [(by_text(*pieces), 1)]
     if request.ascii:
         missing = per_row - len(row)
         for count in (missing, missing, (per_row - 1) // group - (len(row) - 1) // group):
-            pieces += spaces(count)
+            runs += spaces(count)
         text = "".join(chr(byte) if 32 <= byte < 127 else "." for byte in row)
-        pieces += ["  "] + [text[start : start + 64] for start in range(0, len(text), 64)]
-    pieces.append("\n")
-    return by_text(*pieces) if per_row > 32 else by_text("".join(pieces))
+        runs.append((by_text("  ", *(text[start : start + 64] for start in range(0, len(text), 64))), 1))
+    runs.append((by_text("\n"), 1))
+    return runs if per_row > 32 else [(by_text(text_of(joined(runs))), 1)]
 
 
 # ---- The line of a request.
@@ -260,7 +270,7 @@ def row_pieces(request, at, row):
 def verdict(data):
     """The line that the program prints of a request."""
     request = asked(data)
-    line = "request: dump %s" % digest(dump(request))
+    line = "request: dump %s" % digest(joined(dump(request)))
     try:
         text = request.payload.decode()
     except UnicodeDecodeError:

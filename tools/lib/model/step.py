@@ -7,22 +7,18 @@ cell of the table of shapes (coverage.py): a cell that no text fills is a fault.
 apostrophes too.
 
 Then each call is made by itself on a text of each shape, and its memory and its steps are compared with what was measured
-(costs.py); and so are runs of both programs (commands.py), which are also run on texts of 16 MiB and on a million lines (large.py).
+(costs.py); and so are runs of both programs (commands.py), which are also run on texts of 16 MiB and on a million lines.
 Memory is counted if there is a C compiler, and steps if there is valgrind too. With `--full` it only passes texts of 16 MiB, and one
 of 1,500,000 words, to every call of the library, in some minutes.
 """
 import concurrent.futures
-import pathlib
 import subprocess
-import sys
-import tempfile
 
-from lib import measures, needs
+from lib import measures, needs, running
 from lib.findings import case, ended
-from lib.model import asked, characters, commands, costs, counter, coverage, documents, first_texts, large, verdicts
+from lib.model import asked, characters, commands, costs, counter, coverage, documents, first_texts, verdicts
 from lib.programs import cases
-
-sys.setrecursionlimit(20_000)
+from lib.top import TOP
 
 # How many bytes of texts a run of the program takes. ufmt_conv is run on one of so many texts.
 BATCH_BYTES = 2_000_000
@@ -93,7 +89,7 @@ def made(count, seed):
 
 def cost_jobs(pool, programs, meter):
     """The jobs that count, and those that run the commands on large texts."""
-    jobs = [pool.submit(large.faults, programs, number) for number in range(large.PARTS)]
+    jobs = [pool.submit(commands.large_faults, programs, number) for number in range(commands.LARGE_PARTS)]
     if meter.library is None:
         return jobs
     for is_counted in (True, False) if meter.valgrind else (False,):
@@ -107,8 +103,8 @@ def cost_jobs(pool, programs, meter):
 def measured_again(is_written):
     needs.require("measure", "cc", "valgrind")
     programs = counter.programs_of(None)
-    with tempfile.TemporaryDirectory() as room:
-        meter = counter.Counter(pathlib.Path(room))
+    with running.room("texts") as room:
+        meter = counter.Counter(room)
         rows = {**costs.measured_rows(meter, programs["probe_model"]), **commands.measured_rows(meter, programs)}
     return measures.measured_again(costs.MEASURED, rows, TOLD, is_written)
 
@@ -130,11 +126,11 @@ def counted(meter, number):
 def main(given):
     programs = counter.programs_of(given.program)
     if given.full:
-        wrong, count = large.run_faults(programs, large.verdict_runs())
+        wrong, count = commands.run_faults(programs, commands.verdict_runs())
         return ended(wrong, "%d texts of 16 MiB" % count)
     faults, cells, costs_counted = [], set(), 0
-    with tempfile.TemporaryDirectory() as room, concurrent.futures.ProcessPoolExecutor() as pool:
-        meter = counter.Counter(pathlib.Path(room))
+    with running.room("texts") as room, concurrent.futures.ProcessPoolExecutor() as pool:
+        meter = counter.Counter(room)
         costing = cost_jobs(pool, programs, meter)
         texts = batches(made(COUNT if given.count is None else given.count, given.seed))
         for job in [pool.submit(judged, programs["probe_model"], programs["ufmt_conv"], batch) for batch in texts]:
@@ -148,3 +144,23 @@ def main(given):
             costs_counted += number
     told = "%d texts with seed %s fill %d cells" % (sum(map(len, texts)), given.seed, len(cells))
     return ended(faults, "%s, %s" % (told, counted(meter, costs_counted)))
+
+
+def stored_texts(left):
+    """The texts in the file stdin of probe_model, each after its size."""
+    while left:
+        size, left = left.split(b"\n", 1)
+        yield left[: int(size)]
+        left = left[int(size) :]
+
+
+def answers(_given):
+    """Compares crates/probe_model/stdout, which `rt ci` compares a run with, with what the model says of the texts in the file stdin."""
+    folder = TOP / "crates" / "probe_model"
+    stored, asked = (folder / "stdout").read_text().split("\n")[:-1], list(stored_texts((folder / "stdin").read_bytes()))
+    faults = [] if len(stored) == len(asked) else [case("lines of stdout", len(asked), len(stored))]
+    for text, line in zip(asked, stored):
+        wanted = verdicts.verdict(text)[0]
+        if line != wanted:
+            faults.append(case("the line in stdout of %s" % shown(text), wanted, line))
+    return ended(faults, "%d lines of the file stdout" % len(asked))

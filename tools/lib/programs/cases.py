@@ -24,8 +24,8 @@ from lib.model.counter import Counter
 
 # A run that takes longer is a fault.
 SECONDS = 120
-# So long a wait for an output that must come, and for one that must not come yet.
-LATE, SOON = 60, 0.2
+# So long a wait for an output that must come.
+LATE = 60
 CLOSED, FOLDER = "closed", "folder"
 # A message on standard error has fewer bytes.
 MESSAGE = 64 * 1024
@@ -46,11 +46,9 @@ class Ran(NamedTuple):
 
 class Cases:
     def __init__(self, program):
-        self.program = pathlib.Path(program).resolve()
+        self.program = needs.built(None, program)
         self.room = pathlib.Path(tempfile.mkdtemp(prefix="cases-"))
         self.count, self.faults, self.meter, self.texts = 0, [], Counter(self.room), {"room": os.fsencode(self.room)}
-        if not os.access(self.program, os.X_OK):
-            sys.exit("%s isn't there: %s" % (self.program, needs.BUILDS))
         if self.meter.library is None:
             sys.exit("a C compiler is needed, for devices that move one byte at a call and calls that are counted")
 
@@ -161,7 +159,7 @@ class Cases:
         must come before more is written: `soon` says that nothing may come. After the steps stands the output that comes last."""
         *steps, last = steps
         rounds = [[] if wanted in (b"", b"soon") else [wanted] for wanted in (*steps[1::2], last)]
-        self.same("a slow producer: " + name, None, devices.fault(devices.Program(self.program), arguments, steps[::2], rounds))
+        self.same("a slow producer: " + name, None, devices.fault(self.program, arguments, steps[::2], rounds))
 
     def leaves(self, arguments, text, size, endless=False, ignores=False):
         """Runs the program before a reader that takes so many bytes of the output and goes away. The input is the text, or

@@ -7,7 +7,7 @@ clause is a fault, and so is the name of a function or a clause that isn't there
 import re
 from typing import NamedTuple
 
-from lib import generated
+from lib.command.generate import compare
 from lib.contracts.functions import functions_of, public_functions
 from lib.contracts.source import sources
 from lib.pages.edits import all_edits
@@ -128,4 +128,4 @@ def main(_given):
     reader = Reader()
     told = re.findall(r"(?m)^\{(\w+)\}$", TEMPLATE.read_text(encoding="utf-8"))
     faults = reader.faults + ["%s: no section %s" % (one.place, one.section) for one in reader.promises if one.section not in told]
-    return generated.compare([] if faults else files(reader), "%d promises in the sources" % len(reader.promises), faults)
+    return compare([] if faults else files(reader), "%d promises in the sources" % len(reader.promises), faults)

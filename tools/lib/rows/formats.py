@@ -1,27 +1,22 @@
 """Rows of values that a part's formats print: `{:#010b}|` and so on, as a format of Rust has them, and what the program is asked for each."""
+import itertools
 import re
 import struct
 
 from lib.model import floats
-from lib.model.document import quoted
-from lib.model.pieces import with_zeros
-from lib.model.requests import Request, dump, hexadecimal, in_column, numbers, with_places
+from lib.model.document import END, by_text, quoted, text_of, with_zeros
+from lib.model.requests import Request, dump, hexadecimal, in_column, joined, numbers, with_places
 
 SPEC = re.compile(r"\{:?(?:(.)([<^>]))?(#?)(0?)(\d*)(?:\.(\d+))?([xXbo?]?)\}")
 ALIGNS = "<^>"
 BITS = re.compile(r"(?:NonZero)?[iuIU](\d+|size)")
 
 
-def text_of(pieces):
-    """The text of pieces that a writer is passed."""
-    return b"".join(piece[1:] for piece in pieces.split(b"\xff")).decode()
-
-
 def number(request, spec, kind, value):
     _fill, _align, _prefix, _zero, width, _decimals, letter = spec.groups()
     if letter in ("x", "X", "b", "o"):
         size = BITS.fullmatch(kind)[1]
-        return text_of(hexadecimal(request, int(value), 64 if size == "size" else int(size), letter.lower())[1])
+        return text_of(hexadecimal(request, int(value), 64 if size == "size" else int(size), letter.lower()))
     return text_of(with_zeros(format(int(value), "0%dd" % int(width or 0)) if width else value))
 
 
@@ -32,7 +27,7 @@ def asked(spec, kind, value):
                       payload=value.encode())
     if kind == "str":
         request = request._replace(align=ALIGNS.index(align or "<"), fill=ord(fill or " "))
-        return request, text_of(in_column(request, value, b"t" + value.encode() + b"\xff"))
+        return request, text_of(in_column(request, by_text(value)))
     if kind in ("f32", "f64"):
         size = int(kind[1:])
         bits = int.from_bytes(struct.pack({32: ">f", 64: ">d"}[size], float(value)), "big")
@@ -63,22 +58,26 @@ def number_around(_words, cells):
     """A number, its neighbours, and the same with the other sign: the text of each is its digits."""
     for value in sorted({sign * (int(cells[0]) + more) for sign in (-1, 1) for more in (-1, 0, 1)}):
         request = Request(payload=b"%d" % value)
-        yield request.data(), "%d" % value, text_of(numbers(request, "%d" % value).split(b"\xff", 2)[1] + b"\xff")
+        yield request.data(), "%d" % value, text_of(numbers(request, "%d" % value).split(END, 2)[1] + END)
 
 
 # What a word of `xxd` asks for.
 OPTIONS = {"-c": "per_row", "-g": "group", "-o": "offset"}
 
 
-def dumped(words, cells):
-    """The dump of bytes, in hexadecimal digits, as `xxd` prints it with the words of the part; and without its offsets, and without its texts."""
+def dumps(words, cells):
+    """Requests for the dump of bytes, in hexadecimal digits, whether it has offsets, and the dump as `xxd` prints it with the words of
+    the part; and without its offsets, and without its texts."""
     options = dict({"per_row": 16, "group": 2}, **{OPTIONS[word[:2]]: int(word[2:], 0) for word in words})
     for request in alike(Request(payload=bytes.fromhex(cells[0]), **options)):
-        yield request.data(), cells[1], text_of(dump(request))
-        for offset in (request.offset, 2**32):
-            for has_texts in (1, 0):
-                other = request._replace(offset=offset, ascii=has_texts)
-                yield other.data(), columns(cells[1], offset < 2**32, has_texts), text_of(dump(other))
+        for has_offsets, has_texts in itertools.product((1, 0), repeat=2):
+            yield request._replace(ascii=has_texts), has_offsets, columns(cells[1], has_offsets, has_texts)
+
+
+def dumped(words, cells):
+    for request, has_offsets, wanted in dumps(words, cells):
+        request = request if has_offsets else request._replace(offset=2**32)
+        yield request.data(), wanted, text_of(joined(dump(request)))
 
 
 def alike(request):

@@ -7,8 +7,7 @@ from lib import data
 from lib.model import places, types
 from lib.model.document import Block, list_of, plain, pretty, quoted, tuple_of
 from lib.model.reading import DEBUG, MODES, READERS, TOKEN, converted
-from lib.model.shown import events, field_text, parts, text_of
-from lib.model.verdicts import kinds
+from lib.model.verdicts import events, field_text, kinds, own_text, parts
 from lib.rows.formats import dumped, formats, number_around
 
 LAID_OUT = {"plain": plain, "pretty": pretty}
@@ -62,19 +61,17 @@ def unended(words, cells):
     yield text, "nothing", or_nothing(converted(*words, text))
 
 
-def of_document(add):
+def of_document(said):
     def question(words, cells):
-        document, said = READERS[tuple(words)].read(cells[0]), []
-        if document is not None:
-            add(document, said)
-        yield cells[0], cells[1], "".join(said) or "nothing"
+        document = READERS[tuple(words)].read(cells[0])
+        yield cells[0], cells[1], "nothing" if document is None else said(document)
 
     return question
 
 
 def shown(words, cells):
     document = READERS["plain", words[0]].read(cells[0])
-    yield cells[0], cells[-1], or_nothing(text_of(document) if len(cells) == 2 else field_text(document, cells[1]))
+    yield cells[0], cells[-1], or_nothing(own_text(document) if len(cells) == 2 else field_text(document, cells[1]))
 
 
 def kind(_words, cells):

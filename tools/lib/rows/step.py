@@ -1,19 +1,17 @@
 """Compares the rows of tools/data/rows with what the model says, and what the built probe_model says of each row's text with all that the
-model says of it. The program is crates/probe_model/out/probe_model, which `rt ci` leaves there, or the one that `--program` names.
+model says of it. Where `xxd` is on the machine it prints the dumps again.
 
 A row is a text with what rustc, xxd or a hand made of it: its other text, its pieces, the value that it is, the place where it stops to be one.
 """
 import concurrent.futures
-import pathlib
-import sys
+import shutil
+import subprocess
 
+from lib import needs
+from lib.data import rows_with_places
 from lib.findings import case, ended
 from lib.model import step
 from lib.rows.questions import QUESTIONS
-from lib.rows.tables import rows
-from lib.top import TOP
-
-sys.setrecursionlimit(20_000)
 
 # So many texts a run of the program takes.
 BATCH = 50
@@ -28,16 +26,24 @@ def asked(row, faults):
         yield text if isinstance(text, bytes) else text.encode(errors="surrogateescape")
 
 
+def wrong_dump(row):
+    """A dump that isn't as `xxd` prints it."""
+    printed = subprocess.run(["xxd", *row.words[1:]], input=bytes.fromhex(row.cells[0]), stdout=subprocess.PIPE, check=True).stdout.decode()
+    return [] if printed == row.cells[1] else [case(row.place, "%r by xxd" % printed, repr(row.cells[1]))]
+
+
 def wrong_lines(program, places):
     """The faults of a run of the program on these texts, each of which has the place of its row."""
     return step.wrong_lines(program, list(places), places.get)[0]
 
 
 def main(given):
-    program = pathlib.Path(given.program or TOP / "crates/probe_model/out/probe_model").resolve()
+    program = needs.built("probe_model", given.program)
     faults, places, count = [], {}, 0
-    for row in rows():
+    for row in rows_with_places():
         count += 1
+        if row.words[0] == "xxd" and shutil.which("xxd"):
+            faults += wrong_dump(row)
         for text in asked(row, faults):
             places.setdefault(text, row.place)
     pairs = list(places.items())

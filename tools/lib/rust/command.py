@@ -7,9 +7,8 @@ tools/data/rust/decisions.tsv end it with the place. `x try rust` tries what it 
 of calls by it, with valgrind: those of README.md.
 """
 import pathlib
-import tempfile
 
-from lib import findings
+from lib import findings, running
 from lib.bench import calls
 from lib.contracts.source import Fault
 from lib.rust import export, linking, step, table
@@ -48,8 +47,8 @@ def counts(tried, features, profile, told):
 
 def measure(ufmt):
     """Bytes of the programs that make one call, and instructions of a call: README's column for Rust."""
-    with tempfile.TemporaryDirectory(prefix="x-rust-") as folder:
-        tried = step.Trial(pathlib.Path(folder))
+    with running.room("rust") as room:
+        tried = step.Trial(room)
         export.export(tried.package)
         for features in ("proved", ""):
             sizes(tried, features, "release", linking.HOST, ufmt)

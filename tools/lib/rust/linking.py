@@ -7,8 +7,8 @@ Debian has the sources as rust-src, and rustup as its component rust-src. They n
 import os
 import pathlib
 import re
-import subprocess
 
+from lib import running
 from lib.data import DATA
 
 RUSTC = os.environ.get("RUSTC", "rustc")
@@ -27,9 +27,8 @@ SET = {"RUSTC_BOOTSTRAP": "1", "CFG_CARGO_FEATURES": "", "CFG_OPT_LEVEL": "3", "
 
 def run(words, **how):
     """What a command says on both outputs, or None if it fails."""
-    ran = subprocess.run(list(map(str, words)), stdout=subprocess.PIPE, stderr=subprocess.STDOUT, text=True, errors="replace",
-                         **how)
-    return ran.stdout if ran.returncode == 0 else None
+    status, said = running.said(words, **how)
+    return said if status == 0 else None
 
 
 def flags(room, target):

@@ -10,13 +10,53 @@ import pathlib
 import re
 import shutil
 import subprocess
-import tempfile
 
-from lib import findings
-from lib.rust import export, linking, table, wrong
+from lib import data, findings, running, sessions
+from lib.contracts.source import Fault
+from lib.rust import export, linking, rewrite, table
 from lib.rust.linking import HOST
 from lib.rust.table import DATA
 from lib.top import TOP
+
+# The wrong sources are those of tools/data/rust/wrong.txt: the tool must end with the place of each.
+PATH = pathlib.Path("wrong.rt")
+# What goes wrong with the tables, and a part of what the tool says.
+TABLES = {
+    "a decision for no function": (lambda: table.decided("put", "unsafe", PATH, "fn other() {}\n"), "no public function"),
+    "a text of the table that isn't there": (lambda: table.replaced(PATH, "fn f() {}", "fn g", "fn h", 1), "has this text 0 times"),
+    "a file of the table that isn't there": (lambda: table.check_paths(set()), "isn't there"),
+    "a substitution without its end": (lambda: list(table.substitutions("a.rt\nwhy: b\n<<<\nc\n===\nd\n")), "isn't of the form"),
+}
+
+
+def fault_of(work, *arguments):
+    try:
+        work(*arguments)
+    except Fault as fault:
+        return str(fault)
+    return "no fault"
+
+
+def through(text):
+    return rewrite.in_rust(PATH, rewrite.without_ghost(PATH, text))
+
+
+def undecided(file, text):
+    file.write_text(text)
+    table.check_decisions(file.parent, [file])
+
+
+def faults_of_tool(room):
+    """A line for each wrong source that the tool takes, and for each text that it changes."""
+    rows = data.named("rust/wrong.txt")
+    found = [(name, said.decode(), fault_of(through, text.decode())) for name, (text, said) in rows["refused"].items()]
+    found += [(name, said.decode(), fault_of(undecided, room / PATH, text.decode())) for name, (text, said) in rows["undecided"].items()]
+    found += [(name, said, fault_of(work)) for name, (work, said) in TABLES.items()]
+    yield from (findings.case(name, said, fault) for name, said, fault in found if said not in fault)
+    for name, (text,) in rows["kept"].items():
+        if through(text.decode()) != text.decode():
+            yield findings.case(name, "a text that stays", through(text.decode()))
+
 
 LIBRARY = '[lib]\npath = "lib.rs"\ncrate-type = ["staticlib"]'
 # Bytes of a program that makes one call, with the feature `proved` at O3: at most these.
@@ -24,54 +64,20 @@ BYTES = {"ours_number": 456, "ours_struct": 1401, "ours_two": 1700, "ours_eight"
 LEVELS = {"release": "3", "small": "s", "smallest": "z", "unlinked": "3, without LTO"}
 # The profiles and features of programs that have no panicking branch.
 WITHOUT_PANICS = (*((profile, "proved") for profile in LEVELS), ("smallest", "proved,small"))
-LEAST_TESTS = 110
 NARROW_HOST = "i686-unknown-linux-gnu"
 
 
 class Trial:
     def __init__(self, room):
         self.room, self.faults, self.package = room, [], room / "package"
-        self.environment = dict(os.environ, CARGO_TARGET_DIR=str(room / "target"), CARGO_NET_OFFLINE="true", RUST_BACKTRACE="0",
-                                RUSTFLAGS="-D warnings", RUSTDOCFLAGS="-D warnings")
+        self.environment = dict(os.environ, CARGO_TARGET_DIR=str(room / "target"), CARGO_NET_OFFLINE="true", RUSTFLAGS="-D warnings")
 
     def cargo(self, *words, folder=None, **more):
         """Runs cargo with this in its environment. Its result is what cargo said, or None after a fault."""
-        ran = subprocess.run(["cargo", *words], cwd=folder or self.package, env={**self.environment, **more}, text=True, errors="replace",
-                             stdin=subprocess.DEVNULL, stdout=subprocess.PIPE, stderr=subprocess.STDOUT)
-        if ran.returncode:
-            self.faults.append("cargo %s\n%s" % (" ".join(words), ran.stdout[-3000:]))
-            return None
-        return ran.stdout
-
-    def features(self):
-        for features in ("", "alloc", "std", "proved", "alloc,proved", "small"):
-            self.cargo("check", "--quiet", "-p", "ufmt", "--features", features)
-
-    def tests(self):
-        """The tests pass, with what is tested at run time and without: then std ends a program at an index out of bounds."""
-        for features in ("", "proved"):
-            said = self.cargo("test", "--quiet", "-p", "ufmt_tests", "-p", "ufmt_rows", "--features", features)
-            count = sum(int(it) for it in re.findall(r"(\d+) passed", said or ""))
-            if said and count < LEAST_TESTS:
-                self.faults.append(findings.case("tests with the features `%s`" % features, "at least %d" % LEAST_TESTS, count))
-
-    def memory(self):
-        """Valgrind sees no wrong access in what the tests call out of order, nor where a writer refuses a piece."""
-        if not shutil.which("valgrind"):
-            print("no valgrind here, so it isn't asked")
-            return
-        runner = {"CARGO_TARGET_%s_RUNNER" % HOST.upper().replace("-", "_"): "valgrind --quiet --error-exitcode=9"}
-        tests = "--test", "out_of_order", "--test", "refused_pieces"
-        self.cargo("test", "--quiet", "-p", "ufmt_tests", *tests, "--features", "proved", **runner)
-
-    def lints(self):
-        """No warning by `cargo doc`, nor by clippy where it is there."""
-        self.cargo("doc", "--quiet", "--no-deps", "-p", "ufmt", "--features", "std")
-        if linking.run(["cargo", "clippy", "--version"]) is None:
-            print("no clippy here, so it isn't asked")
-            return
-        for features in ("", "std,proved"):
-            self.cargo("clippy", "--quiet", "-p", "ufmt", "--features", features, "--", "-D", "warnings")
+        status, said = running.said(["cargo", *words], cwd=folder or self.package, env={**self.environment, **more})
+        if status:
+            self.faults.append("cargo %s\n%s" % (" ".join(words), said[-3000:]))
+        return None if status else said
 
     def build(self, name, source, profile, features, target=HOST, **form):
         """Builds this source over the package, with this in its manifest. Its result is the folder of what cargo made, or
@@ -124,13 +130,12 @@ class Trial:
             if size is None or size > bound:
                 self.faults.append(findings.most(name, bound, size, "bytes"))
 
-    def example(self):
-        folder = shutil.copytree(DATA / "example", self.room / "example")
-        (self.room / "rust").symlink_to(self.package)
-        self.cargo("run", "--quiet", folder=folder)
+    def sessions(self):
+        found, _ = sessions.faults("rust.txt", PACKAGE=str(self.package), TARGET=self.environment["CARGO_TARGET_DIR"])
+        self.faults += found
 
     def tool(self):
-        self.faults += wrong.faults(self.room)
+        self.faults += faults_of_tool(self.room)
         if table.of_page() not in (TOP / "docs" / "RUST.md").read_text():
             self.faults.append("docs/RUST.md:1: hasn't the table that `x rust --table` prints")
 
@@ -151,11 +156,11 @@ class Trial:
 
 
 def main(_given):
-    with tempfile.TemporaryDirectory(prefix="x-rust-") as folder:
-        trial = Trial(pathlib.Path(folder))
+    with running.room("rust") as room:
+        trial = Trial(room)
         trial.tool()
         export.export(trial.package)
-        for part in (trial.example, trial.features, trial.tests, trial.memory, trial.lints, trial.panics, trial.sizes):
+        for part in (trial.sessions, trial.panics, trial.sizes):
             part()
         targets = trial.narrow_targets()
         for target in targets:

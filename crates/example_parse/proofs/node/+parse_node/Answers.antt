@@ -2,7 +2,7 @@ use Rattle.std.proofs.Common.{codes, refl, subst}
 use Rattle.ufmt_parse.specs.Next.{IsNotNext, NextLeaves}
 use Rattle.ufmt_parse.specs.Taking.{IsTaken}
 use Rattle.example_parse.specs.declared.node.Node.{out-Node}
-use Rattle.example_parse.proofs.Nested.{document_made, document_of, node_is, node_made}
+use Rattle.example_parse.proofs.Nodes.{document_made, document_of, node_is, node_made}
 use Rattle.example_parse.proofs.node.+parse_node.Goals as goal
 
 pub returns-in-Err : goal.returns-in-Err
