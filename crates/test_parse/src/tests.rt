@@ -19,6 +19,7 @@ macro_rules! all_read {
 mod allocators;
 mod by_parsers;
 mod decimals;
+mod details;
 mod enums;
 mod errors;
 mod field_counts;

@@ -1,5 +1,5 @@
 //! The rest of a text, and what is taken from its front.
-ghost use Rattle.std.specs.Prelude.{◌≡◌, ◌<◌, ◌≤◌, ◌-◌, length, MatchBool, false, not, suc, true};
+ghost use Rattle.std.specs.Prelude.{◌≡◌, ◌<◌, ◌≤◌, ◌-◌, length, MatchBool, false, if◌then◌else◌, not, suc, true};
 ghost use Rattle.std.specs.Str.{bytes_eq};
 ghost use Rattle.ufmt_core.specs.Layout.{ending, frame, lead};
 ghost use Rattle.ufmt_core.specs.declared.layout.Count.TheVariants.{Zero};
@@ -7,10 +7,11 @@ ghost use Rattle.ufmt_core.specs.Document.{Document};
 ghost use Rattle.ufmt_grammar.specs.Bytes.{ends_name};
 ghost use Rattle.ufmt_grammar.specs.Leaves.{is_spaced};
 ghost use Rattle.ufmt_parser.specs.Naming.{document_name, is_debug_name, is_past_name};
-ghost use Rattle.ufmt_parser.specs.Needs.{need};
+ghost use Rattle.ufmt_parser.specs.Needs.{detail_of, need};
 ghost use Rattle.ufmt_parser.specs.Next.{IsNotNext, NextLeaves};
 ghost use Rattle.ufmt_parser.specs.Taking.{Eats, open_blocks, rest, setting_in};
 
+use crate::detail::Detail;
 use crate::mode::ParseMode;
 use crate::need::Need;
 use crate::strip::{strip_ending, strip_lead, strip_piece};
@@ -28,12 +29,14 @@ pub enum Fault {
 }
 
 /// What is left of a text in the mode `M`, how many blocks are open there, and what is missing where a
-/// call failed.
+/// call failed. In the mode `Detailed` also what is expected there in detail.
 #[derive(Drop)]
 pub struct Parser<'t, M> {
     rest: &'t [u8],
     open_blocks: u8,
     need: Need,
+    // At the text's own lifetime, though names live longer: with two lifetimes no call of a closure on a parser is proved.
+    detail: Detail<'t>,
     mode: PhantomData<M>,
 }
 
@@ -42,11 +45,13 @@ impl<'t, M: ParseMode> Parser<'t, M> {
     pub fn new(text: &'t [u8]) -> Parser<'t, M>
         ensures rest { rest result ≡ text.now }
         ensures outermost { open_blocks result ≡ 0 }
+        ensures nothing { detail_of result ≡ Detail.Nothing }
     {
         Parser {
             rest: text,
             open_blocks: 0,
             need: Need::Punctuation,
+            detail: Detail::Nothing,
             mode: PhantomData,
         }
     }
@@ -175,11 +180,39 @@ impl<'t, M: ParseMode> Parser<'t, M> {
     pub fn refuse(&mut self, missing: Need) -> Fault
         ensures fault { result ≡ Fault.NotText }
         ensures needs { need self.new ≡ missing }
+        ensures detail { detail_of self.new ≡ (if M.keeps_detail then Detail.Nothing else detail_of self.old) }
+        ensures rest { rest self.new ≡ rest self.old }
+        ensures blocks { open_blocks self.new ≡ open_blocks self.old }
+    {
+        self.refuse_in_detail(missing, Detail::Nothing)
+    }
+
+    /// The same, and records what is expected in detail if the mode is `Detailed`.
+    #[must_use]
+    #[inline(always)]
+    pub fn refuse_in_detail(&mut self, missing: Need, detail: Detail<'t>) -> Fault
+        ensures fault { result ≡ Fault.NotText }
+        ensures needs { need self.new ≡ missing }
+        ensures detail { detail_of self.new ≡ (if M.keeps_detail then detail.entry else detail_of self.old) }
         ensures rest { rest self.new ≡ rest self.old }
         ensures blocks { open_blocks self.new ≡ open_blocks self.old }
     {
         self.need = missing;
+        self.note(detail);
         Fault::NotText
+    }
+
+    /// Records what is expected next in detail, for calls that fail without `refuse`, if the mode is `Detailed`.
+    #[inline(always)]
+    pub fn note(&mut self, detail: Detail<'t>)
+        ensures detail { detail_of self.new ≡ (if M.keeps_detail then detail.entry else detail_of self.old) }
+        ensures needs { need self.new ≡ need self.old }
+        ensures rest { rest self.new ≡ rest self.old }
+        ensures blocks { open_blocks self.new ≡ open_blocks self.old }
+    {
+        if M::keeps_detail() {
+            self.detail = detail;
+        }
     }
 
     /// What is missing where a call failed.
@@ -187,6 +220,13 @@ impl<'t, M: ParseMode> Parser<'t, M> {
         ensures { result ≡ need self.now }
     {
         self.need
+    }
+
+    /// What is expected in detail where a call failed, if the mode is `Detailed`. It is `Nothing` in other modes.
+    pub fn detail(&self) -> Detail<'t>
+        ensures { result ≡ detail_of self.now }
+    {
+        self.detail
     }
 
     /// Removes all before this rest of the text.
