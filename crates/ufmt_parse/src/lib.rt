@@ -1,6 +1,6 @@
 #![tactic(auto)]
 
-//! Values straight from their texts: the mirror of printing. A parser takes a text from the front, piece
+//! Parses values from their texts, as the reverse of printing. A parser consumes a text from the front, piece
 //! by piece, as a formatter writes it. A user names this crate only.
 
 // The value of an `Ok`. An `Err` is returned at once, as by `?`, but without the call that converts the error, of which the

@@ -229,7 +229,7 @@ impl<'t, M: ParseMode> Parser<'t, M> {
         self.detail
     }
 
-    /// Removes all before this rest of the text.
+    /// Moves to this rest of the text.
     #[inline(always)]
     pub fn skip_to(&mut self, after: &'t [u8])
         ensures rest { rest self.new ≡ after.now }
