@@ -5,7 +5,6 @@ ghost use Rattle.ufmt_core.specs.Layout.{ending, frame, lead};
 ghost use Rattle.ufmt_core.specs.declared.layout.Count.TheVariants.{Zero};
 ghost use Rattle.ufmt_core.specs.Document.{Document};
 ghost use Rattle.ufmt_grammar.specs.Bytes.{ends_name};
-ghost use Rattle.ufmt_grammar.specs.Leaves.{is_spaced};
 ghost use Rattle.ufmt_parser.specs.Naming.{document_name, is_debug_name, is_past_name};
 ghost use Rattle.ufmt_parser.specs.Needs.{detail_of, need};
 ghost use Rattle.ufmt_parser.specs.Next.{IsNotNext, NextLeaves};
@@ -18,7 +17,7 @@ use crate::strip::{strip_ending, strip_lead, strip_piece};
 use std::marker::PhantomData;
 use ufmt_core::layout::{Count, Kind};
 use ufmt_grammar::bytes::ByteClass;
-use ufmt_scan::strip::begins_with;
+use ufmt_scan::strip::{begins_with, is_spaced};
 
 /// Why a value isn't parsed.
 #[derive(Clone, Copy, Drop)]
@@ -268,17 +267,6 @@ fn is_past_name(after: &[u8]) -> bool
         Some((b':', after)) => is_spaced(after),
         Some((b'(', after)) => !begins_with(b')', after),
         Some((&first, _)) => ends_name(first),
-    }
-}
-
-// Whether a space comes next, and no closing brace after it.
-#[inline(always)]
-fn is_spaced(text: &[u8]) -> bool
-    ensures { result ≡ is_spaced text.now }
-{
-    match text.split_first() {
-        Some((b' ', after)) => !begins_with(b'}', after),
-        _ => false,
     }
 }
 
