@@ -15,11 +15,10 @@ has_bit mask c = not (bit_and (slice_index_or CLASSES c 0) mask == 0)
 
 -- a bit says what a test does, if it does so for each byte, and nothing past 255 passes
 agrees : (mask : ℕ) (test : ℕ → Bool) → agree_below (has_bit mask) test 256 ≡ true → ((c : ℕ) → 256 ≤ c → test c ≡ false) → (c : ℕ) → has_bit mask c ≡ test c
-agrees mask test agree past c = go (cases_lt c 256)
-  where
-    go : (c < 256) ⊎ (256 ≤ c) → has_bit mask c ≡ test c
-    go (inl low) = agree_below_at (has_bit mask) test 256 c agree low
-    go (inr high) = ap (λ b. not (bit_and b mask == 0)) (get_or_past CLASSES c 0 high) ∙ sym (past c high)
+agrees mask test agree past c = elim (cases_lt c 256) [
+  | inl low ↦ agree_below_at (has_bit mask) test 256 c agree low
+  | inr high ↦ ap (λ b. not (bit_and b mask == 0)) (get_or_past CLASSES c 0 high) ∙ sym (past c high)
+]
 
 -- so the table says of each byte and each class whether the byte is of the class
 pub table_says : (class : ByteClass) (c bit : ℕ) → bit ≡ bit_of class → not (bit_and (slice_index_or CLASSES c 0) bit == 0) ≡ is_in class c

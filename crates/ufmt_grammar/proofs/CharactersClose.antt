@@ -26,12 +26,7 @@ digits_past b true short low = rw (short, digit_is_escape_byte b (ltb-true b 16 
 digits_past b false short low = rw (short, digit_is_escape_byte (b / 16) (omega arith), digit_is_escape_byte (b % 16) (omega arith)) refl
 
 plain_closes : (b : ℕ) → is_control b ≡ false → (b == backslash || b == apostrophe) ≡ false → is_character_closed (b ∷ apostrophe ∷ []) ≡ true
-plain_closes b no_control itself = go (b == backslash) (b == apostrophe) refl refl itself
-  where
-    go : (escapes same : Bool) → (b == backslash) ≡ escapes → (b == apostrophe) ≡ same → escapes || same ≡ false → is_character_closed (b ∷ apostrophe ∷ []) ≡ true
-    go true same e f h = absurd (cc)
-    go false true e f h = absurd (cc)
-    go false false e f h = rw (e, f, no_control) refl
+plain_closes b no_control itself = grind (arith, nat_tests)
 
 byte_closes : (b : ℕ) → is_character_closed (escaped_byte apostrophe b ++ (apostrophe ∷ [])) ≡ true
 byte_closes b = each_row apostrophe b (λ n e. is_character_closed (e ++ (apostrophe ∷ [])) ≡ true) refl refl refl refl itself
