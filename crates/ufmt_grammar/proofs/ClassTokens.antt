@@ -95,11 +95,7 @@ module _ (q : ℕ) (quote : IsQuote q) where
 
   -- a backslash takes the next byte with it
   escape_ends : (x : ℕ) (t : List ℕ) → (is_control x || nat_le 128 x) ≡ false → EndsLeaf (between q) t → EndsLeaf (between q) (backslash ∷ x ∷ t)
-  escape_ends x t plain rest = (after_backslash q, go quote, (between q, rw plain refl, rest))
-    where
-      go : IsQuote q → place_after (between q) backslash (x ∷ t) ≡ Some (after_backslash q)
-      go (inl e) = rw e refl
-      go (inr e) = rw e refl
+  escape_ends x t plain rest = (after_backslash q, elim quote [ inl e ↦ rw e refl | inr e ↦ rw e refl ], (between q, rw plain refl, rest))
 
   -- a property of each quote holds of this one
   of_quote : (P : ℕ → Type 0) → P quotation_mark → P apostrophe → P q
@@ -163,13 +159,12 @@ module _ (q : ℕ) (quote : IsQuote q) where
 -- ---- documents
 
 leaf_is_debug : (text : List ℕ) → IsTokenLeaf text → IsLeaf Debug text
-leaf_is_debug text h = go h.shape
-  where
-    go : IsWord text ⊎ IsSymbol text → IsLeaf Debug text
-    go (inl w) = word_is_text text w
-    go (inr (inl unit)) = subst IsDebugLeaf (sym unit) (unit_leaf Debug)
-    go (inr (inr (inl of_text))) = subst IsDebugLeaf (sym of_text.2) (quoted_is_text quotation_mark (inl refl) of_text.0 of_text.1 refl)
-    go (inr (inr (inr of_char))) = subst IsDebugLeaf (sym of_char.2) (quoted_is_text apostrophe (inr refl) (of_char.0 ∷ []) (rw of_char.1 refl) (bytes_close of_char.0))
+leaf_is_debug text h = elim h.shape [
+  | inl w ↦ word_is_text text w
+  | inr (inl unit) ↦ subst IsDebugLeaf (sym unit) (unit_leaf Debug)
+  | inr (inr (inl of_text)) ↦ subst IsDebugLeaf (sym of_text.2) (quoted_is_text quotation_mark (inl refl) of_text.0 of_text.1 refl)
+  | inr (inr (inr of_char)) ↦ subst IsDebugLeaf (sym of_char.2) (quoted_is_text apostrophe (inr refl) (of_char.0 ∷ []) (rw of_char.1 refl) (bytes_close of_char.0))
+]
 
 name_is_debug : (w : List ℕ) → OrEmpty (IsName Token) w → OrEmpty (IsName Debug) w
 name_is_debug [] h = tt

@@ -35,12 +35,7 @@ module _ (N M P Q R : List ℕ → Type 0) (D : Type 0) (both : (text : List ℕ
     FieldsAreBuiltFrom-both (first_field name value fs) h k = (h.0, IsBuiltFrom-both value h.1 k.1, FieldsAreBuiltFrom-both fs h.2 k.2)
 
 unquoted : (text : List ℕ) → IsTokenLeaf text → ¬ (IsQuoted text) → IsUnquotedLeaf text
-unquoted text h no_quotes = go h.shape
-  where
-    go : IsWord text ⊎ IsSymbol text → IsUnquotedLeaf text
-    go (inl word) = inl word
-    go (inr (inl unit)) = inr unit
-    go (inr (inr quoted)) = absurd (no_quotes quoted)
+unquoted text h no_quotes = elim h.shape [ inl word ↦ inl word | inr (inl unit) ↦ inr unit | inr (inr quoted) ↦ absurd (no_quotes quoted) ]
 
 token : (text : List ℕ) → IsUnquotedLeaf text → ¬ (IsQuoted text) → IsTokenLeaf text
 token text (inl word) no_quotes = record { shape = inl word }
