@@ -22,7 +22,7 @@ outside_step c t next h = by_tests (is_in_word c t) (opens_quotes c t) (is_lifet
     by_tests : (word quote lifetime opens closes : Bool) → (opens ≡ true → c ≡ opening_parenthesis)
         → cond word (Some outside) (cond quote (Some (between c)) (cond lifetime (Some outside) (cond (opens && closes) (Some in_parentheses) None))) ≡ Some next
         → ((word ≡ true) × (next ≡ outside)) ⊎ ((quote ≡ true) × (next ≡ between c)) ⊎ ((quote ≡ false) × (lifetime ≡ true) × (next ≡ outside))
-          ⊎ ((c ≡ opening_parenthesis) × (closes ≡ true) × (next ≡ in_parentheses))
+        ⊎ ((c ≡ opening_parenthesis) × (closes ≡ true) × (next ≡ in_parentheses))
     by_tests word quote lifetime opens closes is h = grind arith
 
 -- an opening quote is a quotation mark, or an apostrophe before a character
@@ -492,9 +492,9 @@ pub front_ends_leaf : (place : Place) (t : List ℕ) → is_outside (last_place 
 front_ends_leaf place [] h = h
 front_ends_leaf place (c ∷ t) h = (elim (place_after place c t) as (λ o. place_after place c t ≡ o → is_outside (last_place place (choose o (λ next. c ∷ leaf_from next t) [])) ≡ true
     → EndsLeaf place (choose o (λ next. c ∷ leaf_from next t) [])) [
-  | None ↦ λ e k. k
-  | Some next ↦ λ e k. let kept = kept_alone place c t next e in (next, kept, front_ends_leaf next t (rw kept at k))
-]) refl h
+      | None ↦ λ e k. k
+      | Some next ↦ λ e k. let kept = kept_alone place c t next e in (next, kept, front_ends_leaf next t (rw kept at k))
+    ]) refl h
 
 -- the first byte of a leaf ends no entry
 pub leaf_no_ender : (c : ℕ) (t : List ℕ) (next : Place) → place_after beginning c t ≡ Some next → is_ender c ≡ false
