@@ -1,5 +1,5 @@
 -- The table has the bit of a class at each byte of the class.
-use Rattle.std.proofs.Common.{◌≡◌, ◌∙◌, ◌⊎◌, inl, inr, refl, sym, ap, ℕ, ◌<◌, ◌≤◌, ◌==◌, not, Bool, true, false, arith}
+use Rattle.std.proofs.Common.{◌≡◌, ◌∙◌, inl, inr, refl, sym, ap, ℕ, ◌≤◌, ◌==◌, not, Bool, true, false, arith}
 use Rattle.std.specs.Prelude.{bit_and, slice_index_or}
 use Rattle.std.proofs.lemmas.Bool.Decides.{nat_tests}
 use Rattle.std.proofs.lemmas.Bool.{agree_below, agree_below_at, cases_lt}

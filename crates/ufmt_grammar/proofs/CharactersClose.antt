@@ -1,5 +1,5 @@
 -- A character between apostrophes is found closed, however it is spelled: so each token document's characters are quotes of a debug document.
-use Rattle.std.proofs.Common.{◌≡◌, ◌⊎◌, inl, inr, refl, sym, ap, ◌∙◌, ℕ, ◌+◌, ◌/◌, ◌%◌, ◌<◌, ◌≤◌, ◌==◌, ◌||◌, nat_lt, cond, Bool, true, false, List, [], ◌∷◌, ◌++◌, codes, append-nil, append_assoc, encode_utf8, arith}
+use Rattle.std.proofs.Common.{◌≡◌, ◌⊎◌, inl, inr, refl, sym, ap, ◌∙◌, ℕ, ◌+◌, ◌/◌, ◌%◌, ◌<◌, ◌≤◌, ◌==◌, nat_lt, Bool, true, false, List, [], ◌∷◌, ◌++◌, codes, append-nil, append_assoc, encode_utf8, arith, ◌||◌}
 use borrow.Author.Tests.{ltb-true}
 use lib.Utf8.{encode, next}
 use Rattle.std.specs.Prelude.{unwrap_or}
@@ -10,7 +10,7 @@ use Rattle.std.proofs.lemmas.Bool.Decides.{nat_tests}
 use Rattle.std.proofs.lemmas.Str.{encode_ascii}
 use Rattle.ufmt_core.proofs.QuotedBytes.{escape-past_ascii}
 use Rattle.ufmt_core.proofs.QuotedCharacters.{escaped_all-bytes}
-use Rattle.ufmt_core.specs.Bytes.{apostrophe, backslash, closing_brace, opening_brace}
+use Rattle.ufmt_core.specs.Bytes.{apostrophe, backslash, closing_brace}
 use Rattle.ufmt_core.specs.Quoted.{escape, escaped, escaped_byte, escaped_bytes, hex_digits}
 use Rattle.ufmt_grammar.specs.Leaves.{begins_with, is_character_closed, is_continuation, is_control, is_escape_byte, past}
 use Rattle.ufmt_grammar.proofs.QuotedDecoded.{each_row}

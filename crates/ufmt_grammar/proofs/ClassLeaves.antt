@@ -1,6 +1,6 @@
 -- Names and leaves of each class: how they begin, that each is read, and that only they are read as names and leaves.
-use Rattle.std.proofs.Common.{◌≡◌, ◌≢◌, ◌⊎◌, inl, inr, refl, ap, sym, ◌∙◌, subst, ℕ, ◌==◌, ◌&&◌, not, Bool, true, false, cond, List, [], ◌∷◌, ◌++◌, Option, Some, None, codes, append_assoc, eqb-true, arith}
-use Rattle.std.proofs.lemmas.Bool.{cases_Bool, false_from_ne_true}
+use Rattle.std.proofs.Common.{◌≡◌, ◌≢◌, inl, inr, refl, ap, sym, ◌∙◌, subst, ℕ, ◌==◌, ◌&&◌, not, true, false, List, [], ◌∷◌, ◌++◌, Option, Some, None, codes, append_assoc, eqb-true, arith}
+use Rattle.std.proofs.lemmas.Bool.{cases_Bool, false_from_ne_true, not-true}
 use Rattle.std.specs.Prelude.{⊤}
 use Rattle.std.specs.Str.{is_utf8}
 use Rattle.std.proofs.lemmas.Str.{IsUtf8-from_ascii, is_utf8-from_IsUtf8}
@@ -17,7 +17,7 @@ use Rattle.ufmt_grammar.proofs.Parsing.{chosen_from, same_parts, strip_found}
 use Rattle.ufmt_grammar.proofs.QuotedComplete.{read_quoted-complete}
 use Rattle.ufmt_grammar.proofs.QuotedSound.{read_quoted-sound}
 use Rattle.ufmt_grammar.proofs.ReadingWords.{StopsWord, each_closer, each_ender, no_ender, ender_closes, follower_stops, words_whole, word_of_bytes, word_of-append, after_word-append, word_bytes}
-use Rattle.ufmt_grammar.proofs.DebugLeaves.{StopsLeaf, follower_stops_leaf, follower_unspaced, leaf_from-append, after_leaf-append, leaves_whole, last_is_outside, front_ends_leaf, leaf_no_ender, some_begun}
+use Rattle.ufmt_grammar.proofs.DebugLeaves.{StopsLeaf, both, follower_stops_leaf, follower_unspaced, leaf_from-append, after_leaf-append, leaves_whole, last_is_outside, front_ends_leaf, leaf_no_ender, some_begun}
 
 -- the text has a first byte, which is no comma and no closing bracket
 pub record Begins (text : List ℕ) : Type 0 where
@@ -181,10 +181,6 @@ bytes_are_word : (w : List ℕ) → IsWordOrEmpty w → w ≢ [] → IsWord w
 bytes_are_word [] h some = absurd (some refl)
 bytes_are_word (c ∷ w) h some = h
 
-both : (a b : Bool) → a && b ≡ true → (a ≡ true) × (b ≡ true)
-both true b h = (refl, h)
-both false b h = absurd (cc)
-
 pub front_is : (class : Class) (t : List ℕ) → IsFrontOf class (front_of class t)
 front_is Token t = record {
   leaf = λ some whole. record { shape = inl (bytes_are_word (word_of t) (word_of_bytes t) some) };
@@ -194,7 +190,7 @@ front_is Debug t = record {
   leaf = λ some whole. text some whole;
   name = λ some whole name.
       let parts = both (has_name_bytes front) (not (ends_in_colon front)) name in
-      record { whole = text some whole; bytes = parts.0; ends = ends (ends_in_colon front) refl parts.1 };
+      record { whole = text some whole; bytes = parts.0; ends = not-true (ends_in_colon front) parts.1 };
 }
   where
     front : List ℕ
@@ -204,10 +200,6 @@ front_is Debug t = record {
     text some whole =
         let parts = both (is_outside (last_place beginning front)) (is_utf8 front) whole in
         record { some = some; pieces = front_ends_leaf beginning t parts.0; utf8 = parts.1 }
-
-    ends : (b : Bool) → ends_in_colon front ≡ b → not (ends_in_colon front) ≡ true → ends_in_colon front ≡ false
-    ends false e h = e
-    ends true e h = absurd (cc)
 
 pub nothing_is_whole : (class : Class) → is_whole class [] ≡ true
 nothing_is_whole Token = refl

@@ -11,7 +11,7 @@ use Rattle.ufmt_core.specs.Bytes.{apostrophe, backslash, closing_brace, colon, o
 use Rattle.ufmt_core.specs.Quoted.{IsQuote, escaped_byte, escaped_bytes, hex_digits, quoted}
 use Rattle.ufmt_core.specs.Document.{Document, leaf, joined, list_of, set_of, map_of, struct_of, non_exhaustive_of, tuple_of, pretty_part, Documents, no_documents, first_document, Pairs, no_pairs, first_pair, Fields, no_fields, first_field}
 use Rattle.ufmt_grammar.specs.Token.{Token, Debug, IsWord, IsWordOrEmpty, OrEmpty, IsName, IsLeaf, IsBuilt, AreBuilt, PairsAreBuilt, FieldsAreBuilt}
-use Rattle.ufmt_grammar.specs.Leaves.{is_word_byte, is_debug_byte, is_control, is_in_word, has_name_bytes, ends_in_colon, opens_quotes, beginning, outside, after_quotes, between, after_backslash, place_after, EndsLeaf, IsSymbol, IsTokenLeaf, IsDebugLeaf, IsDebugWord}
+use Rattle.ufmt_grammar.specs.Leaves.{is_word_byte, is_debug_byte, is_control, is_in_word, has_name_bytes, ends_in_colon, opens_quotes, beginning, outside, after_quotes, between, after_backslash, place_after, EndsLeaf, IsTokenLeaf, IsDebugLeaf, IsDebugWord}
 use Rattle.ufmt_grammar.specs.ReadingLaws.{TokensAreDebug}
 use Rattle.ufmt_grammar.proofs.CharactersClose.{bytes_close}
 use Rattle.ufmt_grammar.proofs.ClassLeaves.{unit_leaf}

@@ -1,5 +1,5 @@
 -- A list and a tuple of a debug document don't begin as a leaf does that begins with an address or a word in brackets.
-use Rattle.std.proofs.Common.{◌≡◌, ◌∙◌, inl, inr, refl, ap, sym, subst, ℕ, ◌==◌, ◌&&◌, Bool, true, false, cond, List, [], ◌∷◌, ◌++◌, Some, append_assoc, eqb-true, arith}
+use Rattle.std.proofs.Common.{◌≡◌, ◌∙◌, inl, inr, refl, ap, sym, subst, ℕ, ◌==◌, Bool, true, false, List, [], ◌∷◌, ◌++◌, Some, append_assoc, eqb-true, arith}
 use Rattle.std.proofs.lemmas.Bool.Decides.{nat_tests}
 use Rattle.std.proofs.lemmas.Bool.{cases_Bool, false_from_ne_true}
 use Rattle.ufmt_core.specs.Bytes.{closing_bracket, closing_parenthesis, opening_bracket, opening_parenthesis}
@@ -11,9 +11,9 @@ use Rattle.ufmt_core.specs.declared.layout.Setting.{Setting}
 use Rattle.ufmt_core.specs.declared.layout.Kind.TheVariants.{Brackets, Unnamed}
 use Rattle.ufmt_core.specs.declared.layout.Count.TheVariants.{One}
 use Rattle.ufmt_grammar.specs.Token.{Class, Token, Debug, IsName, IsBuilt, MayFollow}
-use Rattle.ufmt_grammar.specs.Leaves.{is_ender, is_debug_byte, is_name_byte, begins_with, past, is_word_closed, is_port, is_address_closed, Place, beginning, outside, in_word, in_address, place_outside, place_after, EndsLeaf, IsDebugFollower}
+use Rattle.ufmt_grammar.specs.Leaves.{is_ender, is_debug_byte, is_name_byte, begins_with, past, is_word_closed, is_port, is_address_closed, Place, beginning, outside, place_outside, place_after, EndsLeaf, IsDebugFollower}
 use Rattle.ufmt_grammar.proofs.ReadingWords.{each_ender}
-use Rattle.ufmt_grammar.proofs.DebugLeaves.{OutsideStep, each_quote, opening_is_quote, outside_step, at_beginning, leaf_no_ender}
+use Rattle.ufmt_grammar.proofs.DebugLeaves.{each_quote, opening_is_quote, outside_step, at_beginning, leaf_no_ender}
 use Rattle.ufmt_grammar.proofs.ClassLeaves.{IsNoAddress, IsNoWord, name_some}
 
 -- bytes that a name may have, and what is looked for past them: it begins with a closing bracket

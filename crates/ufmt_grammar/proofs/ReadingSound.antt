@@ -1,5 +1,5 @@
 -- Reading is sound: it gives a document of the class in normal form, and the document's text and the rest make up the text that was read.
-use Rattle.std.proofs.Common.{◌≡◌, ◌≢◌, ◌⊎◌, inl, inr, refl, ap, sym, ◌∙◌, subst, subst₂, ℕ, zero, suc, ◌<◌, ◌≤◌, List, [], ◌∷◌, ◌++◌, map, Bool, true, false, cond, Option, Some, None, codes, append_assoc, arith}
+use Rattle.std.proofs.Common.{◌≡◌, ◌≢◌, inl, inr, refl, ap, sym, ◌∙◌, subst, subst₂, ℕ, zero, suc, ◌<◌, ◌≤◌, List, [], ◌∷◌, ◌++◌, map, Bool, true, false, Option, Some, None, codes, append_assoc, arith}
 use Rattle.std.proofs.lemmas.Bool.{cases_Bool}
 use Rattle.ufmt_core.specs.Document.{Document, leaf, list_of, set_of, map_of, struct_of, non_exhaustive_of, tuple_of, no_documents, no_pairs, no_fields, documents, fields_of, nest, nest_fields}
 use Rattle.ufmt_core.specs.Layout.{frame, tuple_kind, inside, lead, block_tail, layout, texts, field_texts}
@@ -7,7 +7,7 @@ use Rattle.ufmt_core.specs.declared.layout.Setting.{Setting}
 use Rattle.ufmt_core.specs.declared.layout.Kind.TheVariants.{Brackets, Braces, Struct, Tuple, Unnamed}
 use Rattle.ufmt_core.specs.declared.layout.Count.TheVariants.{Zero}
 use Rattle.ufmt_grammar.specs.Token.{Class, Token, Debug, MayEndInDots, OrEmpty, IsName, IsLeaf, IsBuilt, FieldsAreBuilt, normal, normal_fields}
-use Rattle.ufmt_grammar.specs.Reading.{Parse, choose, strip, no_dots, strip_dots, strip_only_dots, last_dots, list_with, set_with, map_with, tuple_with, struct_with, front_of, after_front, is_whole, is_name, read_name, read_symbol, read_value, read_pair, read_block, read_list, read_map, read_set, read_map_or_set, read_braced_entries, read_braces, read_tuple, read_struct, read_unnamed, read_without_name, read_named, read_by_front, read_with, read}
+use Rattle.ufmt_grammar.specs.Reading.{Parse, strip, no_dots, strip_dots, strip_only_dots, last_dots, list_with, set_with, map_with, tuple_with, struct_with, front_of, after_front, is_whole, is_name, read_name, read_symbol, read_value, read_pair, read_list, read_map_or_set, read_braces, read_tuple, read_struct, read_unnamed, read_without_name, read_named, read_by_front, read_with, read}
 use Rattle.ufmt_grammar.proofs.Parsing.{same_parts, strip_found, led_from, chosen_from}
 use Rattle.ufmt_grammar.proofs.ClassLeaves.{IsFrontOf, name_leaf, front_is, fronts_whole, read_name_sound, symbol_is_leaf}
 use Rattle.ufmt_core.proofs.Printing.{texts-documents, pair_texts-pairs_of, field_texts-fields_of}

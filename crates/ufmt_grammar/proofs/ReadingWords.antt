@@ -1,5 +1,5 @@
 -- Words and what follows them: word bytes, closers, and the longest word at the front of a text.
-use Rattle.std.proofs.Common.{◌≡◌, inl, inr, refl, ap, sym, subst, ℕ, ◌==◌, ◌||◌, Bool, true, false, cond, List, [], ◌∷◌, ◌++◌, eqb-true, arith}
+use Rattle.std.proofs.Common.{◌≡◌, inl, inr, refl, ap, ℕ, Bool, true, false, cond, List, [], ◌∷◌, ◌++◌, arith}
 use Rattle.std.proofs.lemmas.Bool.Decides.{nat_tests}
 use Rattle.std.proofs.lemmas.Bool.{cases_Bool, false_from_ne_true}
 use Rattle.std.specs.Prelude.{⊤}

@@ -1,10 +1,10 @@
 -- An unquoted leaf can be read again exactly if it is a word or `()`.
-use Rattle.std.proofs.Common.{◌⊎◌, inl, inr, ℕ, List}
+use Rattle.std.proofs.Common.{inl, inr, ℕ, List}
 use Rattle.std.specs.Prelude.{⊤}
 use Rattle.ufmt_core.specs.Document.{Document, leaf, joined, list_of, set_of, map_of, struct_of, non_exhaustive_of, tuple_of, pretty_part, Documents, no_documents, first_document, Pairs, no_pairs, first_pair, Fields, no_fields, first_field}
 use Rattle.ufmt_core.specs.Quoted.{IsQuoted}
 use Rattle.ufmt_core.specs.EachText.{EachText, EachTextOfEntries, EachTextOfPairs, EachTextOfFields}
-use Rattle.ufmt_grammar.specs.Token.{IsWord, IsSymbol, IsBuiltFrom, AreBuiltFrom, PairsAreBuiltFrom, FieldsAreBuiltFrom, IsTokenLeaf, IsUnquotedLeaf}
+use Rattle.ufmt_grammar.specs.Token.{IsWord, IsBuiltFrom, AreBuiltFrom, PairsAreBuiltFrom, FieldsAreBuiltFrom, IsTokenLeaf, IsUnquotedLeaf}
 use Rattle.ufmt_grammar.specs.UnquotedLaws.{UnquotedAsBefore}
 
 -- leaves that are P and Q are R, whatever names are, and whether or not structs may end in dots
