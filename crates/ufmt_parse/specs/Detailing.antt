@@ -1,5 +1,5 @@
 -- What is expected where a text stops fitting, in detail, and how it reads.
-use Rattle.std.specs.Prelude.{◌≡◌, ℕ, ℤ, List, [], ◌∷◌, codes, option_map, Option}
+use Rattle.std.specs.Prelude.{◌≡◌, ℕ, ℤ, List, [], ◌∷◌, codes, option_map, Option, ⊤}
 use Rattle.std.specs.Borrow.{Bor}
 use Rattle.ufmt.specs.Document.{Document, documents, joined, leaf}
 use Rattle.ufmt.specs.ValueDocuments.{integer, number}
@@ -20,6 +20,10 @@ use Rattle.ufmt_parse.specs.declared.placed.PlacedError.TheVariants as placed
 abbrev pub words_and_name : List ℕ → List ℕ → Document
 words_and_name words name = joined (documents (leaf words ∷ leaf name ∷ leaf (codes "`") ∷ []))
 
+-- a number of a range
+abbrev pub range_document : ℤ → ℕ → Document
+range_document from to = joined (documents (leaf (codes "a number from ") ∷ integer from ∷ leaf (codes " to ") ∷ number to ∷ []))
+
 -- how it reads after the word `expected`; without a detail as what is expected does
 abbrev pub detail_document : Expected → Detail → Document
 detail_document expected detail.Nothing = leaf (expected_words expected)
@@ -29,7 +33,7 @@ detail_document expected detail.Truth = leaf (codes "`true` or `false`")
 detail_document expected (detail.Field name) = words_and_name (codes "the field `") name.now
 detail_document expected (detail.BeforeField name) = words_and_name (codes "punctuation before the field `") name.now
 detail_document expected detail.NoField = leaf (codes "the end of the fields")
-detail_document expected (detail.Range from to) = joined (documents (leaf (codes "a number from ") ∷ integer from ∷ leaf (codes " to ") ∷ number to ∷ []))
+detail_document expected (detail.Range from to) = range_document from to
 detail_document expected detail.NonZero = leaf (codes "a number other than 0")
 
 -- how a place reads after what is expected there

@@ -118,14 +118,14 @@ impl uDisplay for Wanted<'_> {
     ghost display = { λ wanted. detail_document wanted.expected wanted.detail };
 
     fn fmt<W: uWrite>(&self, f: &mut Formatter<W>) -> Result<(), W::Error> {
-        match self.detail {
+        match &self.detail {
             Detail::Nothing => self.expected.fmt(f),
-            Detail::Name(name) => pieces!(text "`", text name, text "`").print(f),
-            Detail::Variant(name) => pieces!(text "a variant of `", text name, text "`").print(f),
+            Detail::Name(name) => pieces!(text "`", text *name, text "`").print(f),
+            Detail::Variant(name) => pieces!(text "a variant of `", text *name, text "`").print(f),
             Detail::Truth => f.write_str("`true` or `false`"),
-            Detail::Field(name) => pieces!(text "the field `", text name, text "`").print(f),
+            Detail::Field(name) => pieces!(text "the field `", text *name, text "`").print(f),
             Detail::BeforeField(name) => {
-                pieces!(text "punctuation before the field `", text name, text "`").print(f)
+                pieces!(text "punctuation before the field `", text *name, text "`").print(f)
             }
             Detail::NoField => f.write_str("the end of the fields"),
             Detail::Range { from, to } => {
