@@ -229,7 +229,7 @@ marked_address (c ∷ t) some is =
     let later : is_port (past is_name_byte t) ≡ true = rw name at is in
     rw (name, later) refl
 
--- nor does one where nothing closes it
+-- a text that doesn't begin with what closes a word or an address ends none
 no_parenthesis : (t : List ℕ) → strip (codes ")") t ≡ None → begins_with 41 t ≡ false
 no_parenthesis [] h = refl
 no_parenthesis (c ∷ t) h = grind (arith, nat_tests)
