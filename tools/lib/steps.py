@@ -3,7 +3,8 @@
 A step is a function of what is asked, `main` of its module: it prints a line for each fault, and last a line of counts, and returns 1
 if there was a fault. It needs some programs, and is skipped where they aren't; without those that it only uses it shows less.
 """
-from typing import NamedTuple, Tuple
+
+from collections import namedtuple
 
 from lib.top import function_of
 
@@ -12,14 +13,7 @@ from lib.top import function_of
 SOURCES, UNPROVED, BUILT = "the sources", "builds with nothing proved", "built programs"
 
 
-class Step(NamedTuple):
-    name: str
-    kind: str
-    place: str
-    told: str
-    needs: Tuple[str, ...] = ()
-    uses: Tuple[str, ...] = ()
-
+class Step(namedtuple("Step", "name kind place told needs uses", defaults=((), ()))):
     def main(self, given):
         return function_of(self.place if ":" in self.place else self.place + ":main")(given)
 

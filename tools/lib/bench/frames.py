@@ -8,7 +8,7 @@ pointer in another way, or that calls through a pointer, ends the run: then noth
 """
 import re
 import sys
-from typing import NamedTuple
+from collections import namedtuple
 
 from lib.running import output_of
 
@@ -18,25 +18,11 @@ MOVES = re.compile(r"(sub|add)\s+\$(-?)0x([0-9a-f]+),%rsp$")
 WRITES_POINTER = re.compile(r"[a-z]+\s.*,%rsp$|enter\b")
 BELOW = re.compile(r"-0x([0-9a-f]+)\(%rsp")
 GOES = re.compile(r"(call|j\w+)\s+([0-9a-f]+) <(.*)>$")
-
-
-class Most(NamedTuple):
-    """The bytes that a call takes at most, the most that one more level of it adds, and the functions of the heaviest path."""
-
-    size: int
-    level: int
-    path: tuple
-
-
-class Frame(NamedTuple):
-    """The size of a function's frame, and with what it uses below it; the functions that it calls or continues as; the line
-    for which its stack isn't known."""
-
-    size: int
-    whole: int
-    calls: frozenset
-    jumps: frozenset
-    unknown: str
+# The bytes that a call takes at most, the most that one more level of it adds, and the functions of the heaviest path.
+Most = namedtuple("Most", "size level path")
+# The size of a function's frame, and with what it uses below it; the functions that it calls or continues as; the line
+# for which its stack isn't known.
+Frame = namedtuple("Frame", "size whole calls jumps unknown")
 
 
 def symbols(program):

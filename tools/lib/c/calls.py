@@ -1,7 +1,7 @@
 """The calls of libufmt_c: what each takes, and what it must return and leave, by models that share no code with the project: those
 of texts and of lines in tools/lib/model/ and tools/lib/log_model/, and Python's own decoding of UTF-8."""
 import re
-from typing import NamedTuple, Optional
+from collections import namedtuple
 
 from lib import data as tables, top
 from lib.log_model import log_model
@@ -26,20 +26,10 @@ NUMBER_SIZE = 8
 SIZE_MAX = 2**64 - 1
 # The longest buffer with which a text is tried that is longer than any.
 FRONT = 64
-
-
-class Case(NamedTuple):
-    """A call and its arguments: bytes, numbers, and tuples for structs. It writes a text; or it returns a result and,
-    if that is said, a detail. One without a buffer only returns, or leaves a number. Of a text whose length is said, only the
-    front is."""
-
-    call: str
-    arguments: tuple
-    text: Optional[bytes] = None
-    result: Optional[int] = None
-    detail: Optional[int] = None
-    length: Optional[int] = None
-    number: Optional[int] = None
+# A call and its arguments: bytes, numbers, and tuples for structs. It writes a text; or it returns a result and,
+# if that is said, a detail. One without a buffer only returns, or leaves a number. Of a text whose length is said, only the
+# front is.
+Case = namedtuple("Case", "call arguments text result detail length number", defaults=(None, None, None, None, None))
 
 
 def has_buffer(case):

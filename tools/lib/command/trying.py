@@ -6,7 +6,7 @@ of each step's file say what it does in full.
 """
 import argparse
 import sys
-from typing import NamedTuple, Optional
+from collections import namedtuple
 
 from lib import needs, running, steps, top
 from lib.command.arguments import add_jobs, add_names
@@ -51,13 +51,8 @@ def say_missing(tried):
         say("%s: %s" % (needs.told(name), "; ".join("%s: %s" % (kind, ", ".join(its)) for kind, its in kinds.items() if its)))
 
 
-class Result(NamedTuple):
+class Result(namedtuple("Result", "name seconds status found")):
     """How a step ended, with what it found in one line."""
-
-    name: str
-    seconds: float
-    status: Optional[int]
-    found: str
 
     def said(self):
         return {0: "passed", None: "skipped"}.get(self.status, "FAILED")

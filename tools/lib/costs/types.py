@@ -3,21 +3,15 @@
 A text is whole, or has another list, map or text in it that isn't right at its end. So memory that isn't given back is seen on each way out.
 """
 import re
-from typing import Callable, NamedTuple
+from collections import namedtuple
 
 from lib import data
 from lib.top import TOP
 
 IMPLEMENTATION = re.compile(r"uParse<\w+>\s+for\s+([^{]+?)\s*\{")
 TABLES = data.parts("costs/types.txt")
-
-
-class Parsed(NamedTuple):
-    """An implementation as its source has it, a type, and texts of the type by a size."""
-
-    implementation: str
-    type: str
-    texts: Callable[[int], list]
+# An implementation as its source has it, a type, and texts of the type by a size.
+Parsed = namedtuple("Parsed", "implementation type texts")
 
 
 def plainly(*texts):

@@ -1,7 +1,7 @@
 """Crates that `rt try` builds, with nothing proved: the crate of tests, and crates that must not compile, lines of code with the
 messages that each must give."""
 import re
-from typing import NamedTuple
+from collections import namedtuple
 
 from lib import findings, running
 from lib.top import libraries
@@ -92,14 +92,7 @@ ERROR = re.compile(r"^src/main\.rt:(\d+):\d+: (error\[.*)$", re.M)
 MORE = re.compile(r"and (\d+) more errors?")
 ROOT = "#![tactic(auto)]\n\n//! Lines that must not compile.\n"
 MAIN = "\nfn main(rt: HostRuntime) {}\n"
-
-
-class Snippet(NamedTuple):
-    place: str
-    items: str
-    function: str
-    messages: list
-    code: str
+Snippet = namedtuple("Snippet", "place items function messages code")
 
 
 def snippets_in(path):

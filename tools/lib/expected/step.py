@@ -10,7 +10,7 @@ the calls of both classes say of them is compared with what the model says.
 """
 import itertools
 import re
-from typing import NamedTuple
+from collections import namedtuple
 from urllib.parse import unquote
 
 from lib import data, needs
@@ -23,14 +23,8 @@ DATA = TOP / "tools" / "expected"
 CLASSES = ("token", "debug")
 OF_REASON = {"token": ("token",), "debug": ("debug",), "both": CLASSES}
 REASON = re.compile(r"(token|debug|both): (same|another|refused), (same|another|refused)\. (\S.*)")
-
-
-class Row(NamedTuple):
-    """A value's texts by `{:?}` and by `{:#?}`."""
-
-    name: str
-    plain: str
-    pretty: str
+# A value's texts by `{:?}` and by `{:#?}`.
+Row = namedtuple("Row", "name plain pretty")
 
 
 def rows():

@@ -9,21 +9,15 @@ import os
 import pathlib
 import socket
 import subprocess
-from typing import NamedTuple, Optional
+from collections import namedtuple
 
 # The size that is asked for of a socket's buffer. Linux doubles it. The longest outputs have 270,000 bytes.
 ROOM = 200_000
 LONGEST = 350_000
 # An output that doesn't come in this time is a fault.
 SECONDS = 20
-
-
-class Ended(NamedTuple):
-    """The status of a run, and how many reads and writes it made, each None if the system doesn't count them."""
-
-    status: int
-    reads: Optional[int]
-    writes: Optional[int]
+# The status of a run, and how many reads and writes it made, each None if the system doesn't count them.
+Ended = namedtuple("Ended", "status reads writes")
 
 
 def ended(process):

@@ -5,8 +5,8 @@ Steps are counted on a log of 32 KiB, less those of a run on no log: with one st
 bytes, each byte would cost 16,384 steps more. Memory, reads and writes are those of a log of 512 KiB: most of
 them hold a line or a group.
 """
+from collections import namedtuple
 from concurrent.futures import ThreadPoolExecutor
-from typing import Callable, NamedTuple
 
 from lib import data, measures, needs, running
 from lib.model.counter import Counter
@@ -19,14 +19,8 @@ LABELS = ("allocations", "most", "left", "reads", "writes")
 ARGUMENTS = {"pretty": [], "plain": ["--plain"]}
 # A run that takes longer is a fault.
 SECONDS = 120
-
-
-class Shape(NamedTuple):
-    """A log of this shape for a size in bytes."""
-
-    name: str
-    mode: str
-    log: Callable[[int], bytes]
+# A log of this shape for a size in bytes.
+Shape = namedtuple("Shape", "name mode log")
 
 
 def repeated(row):

@@ -2,8 +2,8 @@
 the rows of tools/data/measured/texts.txt; and texts of 16 MiB and a million lines, with outputs that are known by how they are made."""
 import resource
 import subprocess
+from collections import namedtuple
 from concurrent.futures import ThreadPoolExecutor
-from typing import NamedTuple
 
 from lib import measures
 from lib.log_model import log_model
@@ -18,16 +18,8 @@ READ_BYTES, READS = 10, 2000
 LABELS = ("allocations", "bytes", "growths", "held", "most", "left", "reads", "writes")
 # What is before the text of a line, as in a log.
 STAMP = "12:00: "
-
-
-class Run(NamedTuple):
-    """A run of a program by its name, with its words, its input and its output, if that is known."""
-
-    name: str
-    program: str
-    words: tuple
-    data: bytes
-    output: bytes = None
+# A run of a program by its name, with its words, its input and its output, if that is known.
+Run = namedtuple("Run", "name program words data output", defaults=(None,))
 
 
 def conv_runs():

@@ -5,7 +5,7 @@ Steps are counted on short texts. Memory is counted on long ones, and so are the
 call that took longer than its steps on the short one let expect: steps that grow in another order are far
 more.
 """
-from typing import NamedTuple
+from collections import namedtuple
 
 from lib import findings, measures
 from lib.model import asked, shapes
@@ -24,14 +24,8 @@ MEMORY = ("allocations", "bytes", "growths", "held", "most", "left")
 SOME_TIME, NANOSECONDS = 10_000_000, 3
 # Steps grow as the size of a text, or at most so many times that: a text that grows is copied, and keys are sorted.
 GROWTH = 3
-
-
-class Sample(NamedTuple):
-    """A text, and its size with that of the text in the other mode."""
-
-    name: str
-    data: bytes
-    size: int
+# A text, and its size with that of the text in the other mode.
+Sample = namedtuple("Sample", "name data size")
 
 
 def part_of(shapes_of_kind, size, number):

@@ -4,7 +4,7 @@ import functools
 import re
 import sys
 import zlib
-from typing import NamedTuple
+from collections import namedtuple
 
 # A document is as deep as calls for it.
 sys.setrecursionlimit(20_000)
@@ -12,18 +12,11 @@ sys.setrecursionlimit(20_000)
 # How deep blocks with entries are nested at most.
 DEEPEST = 255
 INDENT = "    "
-
-
-class Block(NamedTuple):
-    """A list, a set, a map, a struct, an open struct or a tuple. An open struct ends in two dots.
-
-    An entry is a pair: what is before the colon, and a document. Before the colon a map has a document, and a struct of either
-    kind has a name. The other kinds have None.
-    """
-
-    kind: str
-    name: str
-    entries: list
+# A list, a set, a map, a struct, an open struct or a tuple. An open struct ends in two dots.
+#
+# An entry is a pair: what is before the colon, and a document. Before the colon a map has a document, and a struct of either
+# kind has a name. The other kinds have None.
+Block = namedtuple("Block", "kind name entries")
 
 
 def list_of(*values):

@@ -1,6 +1,6 @@
 """The readers of the model: the leaves of each class of texts, and the documents of plain and pretty texts."""
 import re
-from typing import Callable, NamedTuple
+from collections import namedtuple
 
 from lib.model.document import (DEEPEST, EMPTY, INDENT, PLAIN_FRAMES, PRETTY_FRAMES, QUOTED_CHARACTER, QUOTED_TEXT, WORD, Block,
                                 is_single, plain, pretty)
@@ -9,15 +9,8 @@ from lib.model.document import (DEEPEST, EMPTY, INDENT, PLAIN_FRAMES, PRETTY_FRA
 
 # A byte that isn't UTF-8, as `surrogateescape` decodes it.
 NO_UTF8 = re.compile("[\ud800-\udfff]")
-
-
-class TextClass(NamedTuple):
-    """A class of texts: its name, the leaf at a place, whether a leaf is a name, and whether a struct may end in dots."""
-
-    name: str
-    leaf_at: Callable
-    is_name: Callable
-    has_open_structs: bool
+# A class of texts: its name, the leaf at a place, whether a leaf is a name, and whether a struct may end in dots.
+TextClass = namedtuple("TextClass", "name leaf_at is_name has_open_structs")
 
 
 def leaf_at(text, at):

@@ -16,7 +16,7 @@ import subprocess
 import sys
 import tempfile
 import threading
-from typing import NamedTuple, Optional
+from collections import namedtuple
 
 from lib import data, findings, needs
 from lib.log_model import devices
@@ -34,14 +34,8 @@ NOBODY = 65534
 # Variables that other programs look at.
 OTHERS = ("NO_COLOR CLICOLOR CLICOLOR_FORCE FORCE_COLOR COLUMNS LINES TERM LANG LC_ALL TZ PAGER CI DEBUG POSIXLY_CORRECT RUST_LOG "
           "RUST_BACKTRACE HOME PATH TMPDIR UFMT_LINES UFMT_LINES_LONGER_THAN").split()
-
-
-class Ran(NamedTuple):
-    """How a run ended. `None` stands for a run that didn't end in time."""
-
-    status: Optional[int]
-    output: bytes
-    error: bytes
+# How a run ended. `None` stands for a run that didn't end in time.
+Ran = namedtuple("Ran", "status output error")
 
 
 class Cases:
