@@ -55,7 +55,7 @@ def text_of(row):
 
 # What can't stand in a cell, as a space at its end, is written as in a literal of Rust: `\n`, `\u{20}`, and a byte as `\xff`.
 ESCAPE = re.compile(r"\\(?:u\{([0-9a-f]+)\}|x([0-9a-f]{2})|(.))")
-SHORT = {"n": "\n", "t": "\t", "r": "\r", "0": "\0"}
+LETTERS = {"n": "\n", "t": "\t", "r": "\r", "0": "\0"}
 # A row with its file and line, the words of its part, and its cells. A byte that isn't UTF-8 is a surrogate, as in the model.
 Row = namedtuple("Row", "place words cells")
 
@@ -65,7 +65,7 @@ def cell(written):
         code, byte, letter = found.groups()
         if byte:
             return bytes([int(byte, 16)]).decode(errors="surrogateescape")
-        return chr(int(code, 16)) if code else SHORT.get(letter, letter)
+        return chr(int(code, 16)) if code else LETTERS.get(letter, letter)
 
     return ESCAPE.sub(decoded, written).encode(errors="surrogateescape").decode(errors="surrogateescape")
 

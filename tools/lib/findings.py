@@ -12,6 +12,11 @@ def most(name, bound, got, what):
     return case(name, "at most %d %s" % (bound, what), got)
 
 
+def shown(data):
+    """Bytes, or where they begin and end."""
+    return repr(data if len(data) <= 80 else data[:60] + b".." + data[-20:])
+
+
 def ended(faults, counts):
     """Prints the faults and the counts, and returns the status."""
     faults = list(faults)

@@ -73,7 +73,7 @@ def in_other_mode(text_class, mode, data):
     """The text in the other mode; or None, and where the bytes stop being a text."""
     reader, text = READERS[MODES[mode], CLASSES[text_class].name], data.decode(errors="surrogateescape")
     document = reader.read(text)
-    return (None, reader.place(text)) if document is None else (PRINTERS[MODES[mode]](document).encode(), None)
+    return (None, reader.place(text)) if document is None else (PRINTERS[MODES[1 - mode]](document).encode(), None)
 
 
 def convert(text_class, to, data):
@@ -116,7 +116,6 @@ def parse_float(data):
 SPELLED = r'(?:\\(?:[0tnr"\\]|u\{(?:[1-8]|[bcef]|1[0-9a-f]|7f)\})|[^\x00-\x1f"\\\x7f])*'
 NUMBERED = r'\\u\{(?!d[89a-f][0-9a-f]{2}\})(?:0|[1-9a-f][0-9a-f]{0,4}|10[0-9a-f]{4})\}'
 DEBUG_SPELLED = r'(?:%s|\\[0tnr"\\]|[^\x00-\x1f"\\\x7f])*' % NUMBERED
-LETTERS = {"0": "\0", "t": "\t", "n": "\n", "r": "\r"}
 
 
 def unquote(spelled, data):
@@ -128,7 +127,7 @@ def unquote(spelled, data):
     if not matches('"%s"' % spelled, data):
         begins = [size for size in range(len(data) + 1) if matches('(?:"%s"?)?' % spelled, data[:size])]
         return {"result": NO_TEXT, "detail": begins[-1]}
-    text = re.sub(r"\\(?:u\{(\w+)\}|(.))", lambda it: chr(int(it[1], 16)) if it[1] else LETTERS.get(it[2], it[2]), data.decode()[1:-1])
+    text = re.sub(r"\\(?:u\{(\w+)\}|(.))", lambda it: chr(int(it[1], 16)) if it[1] else tables.LETTERS.get(it[2], it[2]), data.decode()[1:-1])
     return {"text": text.encode()}
 
 

@@ -8,14 +8,13 @@ import itertools
 import re
 import sys
 
-from lib import data, findings, measures, needs, running
+from lib import data, findings, measures, running
 from lib.bench import build, frames
 from lib.c.calling import caller_in_c, here, request, run
 from lib.c.calls import CALLS, FRONT, Case, has_buffer
 from lib.c.cases import arguments, huge_options
 from lib.model.document import Block, list_of, plain, pretty, quoted, tuple_of
 
-TOLD = "Of `x try c`: steps"
 SIZES = (80, 160)
 # Of so many cases with huge options one is counted, in these buffers.
 HUGE_EACH, HUGE_ROOMS = 97, (None, FRONT, 4096)
@@ -108,8 +107,5 @@ def stacks(faults, program):
             faults.append(findings.most(told, bound, found, "bytes of stack"))
 
 
-def measured_again(is_written):
-    needs.require("measure", "rt", "gcc", "valgrind")
-    with running.room("c") as room:
-        rows = counted(caller_in_c(room, build.library_for_c(room)))
-    return measures.measured_again("c", rows, TOLD, is_written)
+def measured(room):
+    return counted(caller_in_c(room, build.library_for_c(room))), []

@@ -6,14 +6,9 @@ import sys
 
 from lib import running
 
-# Each command is a module, with the text of its help, `add_arguments` and `main`.
-COMMANDS = {
-    "new": "lib.command.new", "update": "lib.command.update", "check": "lib.command.check", "test": "lib.command.test", "try": "lib.command.trying",
-    "ci": "lib.command.ci", "bench": "lib.command.bench", "measure": "lib.command.measure", "dist": "lib.command.dist", "install": "lib.command.install",
-    "uninstall": "lib.command.uninstall", "edits": "lib.command.edits", "clauses": "lib.command.clauses", "forms": "lib.command.forms",
-    "fields": "lib.command.fields",
-    "generate": "lib.command.generate", "list": "lib.command.listing", "rust": "lib.rust.command",
-}
+# Each command is a module of this folder, by its own name or by another one, with the text of its help, `add_arguments` and `main`.
+COMMANDS = "new update check test try ci bench measure dist install uninstall edits clauses forms fields generate list rust".split()
+MODULES = {"try": "lib.command.trying", "list": "lib.command.listing", "rust": "lib.rust.command"}
 
 
 def interrupted(_number, _frame):
@@ -21,7 +16,7 @@ def interrupted(_number, _frame):
 
 
 def module_of(command):
-    return importlib.import_module(COMMANDS[command])
+    return importlib.import_module(MODULES.get(command, "lib.command." + command))
 
 
 def parser():

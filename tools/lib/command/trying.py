@@ -12,12 +12,10 @@ from lib import needs, running, steps, top
 from lib.command.arguments import add_jobs, add_names
 from lib.running import say
 
-KINDS = (steps.SOURCES, steps.UNPROVED, steps.BUILT)
-
 
 def epilog():
     lines = []
-    for kind in KINDS:
+    for kind in steps.KINDS:
         its = [step for step in sorted(steps.STEPS) if step.kind == kind]
         lines += ["", "Of %s:" % kind, *("  %-10s %s" % (step.name, step.told) for step in its)]
     return "\n".join(lines).strip() + "\n\nBuilt programs are those that `rt ci` leaves, or `rt run` in each program's crate."
@@ -75,7 +73,7 @@ def main(given):
     say_missing(tried)
     if len(given.names) == 1:
         running.heartbeat("x try %s" % tried[0].name)
-        return 0 if needs.missing(tried[0].needs) else tried[0].main(given)
+        return 0 if needs.missing(tried[0].needs) else top.function_of(tried[0].place)(given)
     return closing(list(all_of(tried, words_of(given), given.jobs)))
 
 

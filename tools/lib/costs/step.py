@@ -8,7 +8,7 @@ for each allocation of it, which is refused: then there is no value, and nothing
 import re
 import shutil
 
-from lib import measures, needs, running
+from lib import measures, running
 from lib.bench import build
 from lib.costs import types
 from lib.findings import ended
@@ -98,21 +98,16 @@ def refused(counter, program):
     return found, faults
 
 
-def tried(is_refused):
-    with running.room("costs") as room:
-        counter, program = Counter(room), built(room)
-        found, wrong = counted(counter, program)
-        count, wrong_refused = refused(counter, program) if is_refused else (0, [])
-    return counter, found, count, [*types.missing(), *wrong, *wrong_refused]
-
-
-def measured_again(is_written):
-    needs.require("measure", "cc", "valgrind")
-    _, found, _, faults = tried(False)
-    return measures.measured_again("costs", found, "Of `x try costs`: %s" % ", ".join(LABELS), is_written, faults)
+def measured(room):
+    found, wrong = counted(Counter(room), built(room))
+    return found, [*types.missing(), *wrong]
 
 
 def main(_given):
-    counter, found, count, faults = tried(True)
+    with running.room("costs") as room:
+        counter, program = Counter(room), built(room)
+        found, wrong = counted(counter, program)
+        count, wrong_refused = refused(counter, program)
+    faults = [*types.missing(), *wrong, *wrong_refused, *measures.Table("costs").faults(found)]
     steps = "" if counter.valgrind else ", no steps for want of valgrind"
-    return ended(faults + list(measures.Table("costs").faults(found)), "%d calls counted%s, %d allocations refused" % (len(found), steps, count))
+    return ended(faults, "%d calls counted%s, %d allocations refused" % (len(found), steps, count))

@@ -13,7 +13,7 @@ from lib.model.counter import Counter
 from lib.model.document import list_of, pretty
 
 SIZE, LONG_SIZE = 32 * 1024, 512 * 1024
-MEASURED, TOLD = "logs", "Of `x try logs`: steps on a log of 32 KiB, less those of a run on no log; and memory, reads and writes"
+MEASURED = "logs"
 LABELS = ("allocations", "most", "left", "reads", "writes")
 # The arguments of ufmt_lines for each mode that it writes.
 ARGUMENTS = {"pretty": [], "plain": ["--plain"]}
@@ -83,6 +83,5 @@ def faults(path):
     return list(measures.Table(MEASURED).faults(rows, is_whole=len(rows) > len(SHAPES)))
 
 
-def measured_again(is_written):
-    needs.require("measure", "cc", "valgrind")
-    return measures.measured_again(MEASURED, counted(needs.built("ufmt_lines")), TOLD, is_written)
+def measured(_room):
+    return counted(needs.built("ufmt_lines")), []

@@ -4,12 +4,10 @@ A mode is the name of the texts that are written: "pretty", or "plain" for `--pl
 """
 import re
 
-from lib.model.document import STRUCTS, plain, pretty
-from lib.model.reading import DEBUG, READERS, PlainReader, PrettyReader
+from lib.model.document import STRUCTS, plain
+from lib.model.reading import DEBUG, PRINTERS, READERS, PlainReader, PrettyReader
 
-# What prints the documents of each mode, and what reads its texts: those of the other one.
-PRINTERS = {"pretty": pretty, "plain": plain}
-MODES = tuple(PRINTERS)
+# What reads the texts for each mode: those of the other one.
 OTHERS = {"pretty": PlainReader(DEBUG), "plain": PrettyReader(DEBUG)}
 # How long a plain text is at most that stays, if nothing else is said.
 LONGER_THAN = 40

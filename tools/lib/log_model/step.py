@@ -13,9 +13,10 @@ import random
 import shutil
 
 from lib import data, needs
-from lib.findings import ended
+from lib.findings import ended, shown
 from lib.log_model import devices, log_costs, log_model, logs
 from lib.model import verdicts
+from lib.model.reading import MODES
 
 LIMITS = (0, 8, 40)
 NAMED, PIECES = ([data.data_of(row) for row in data.parts("logs/nasty.txt")[part]] for part in ("named", "pieces"))
@@ -67,7 +68,7 @@ def sent(mode, log, chunks):
 
 def wrong_runs(paths, batch):
     faults = []
-    for (log, chunks), mode in itertools.product(batch, log_model.MODES):
+    for (log, chunks), mode in itertools.product(batch, MODES):
         pieces, rounds = sent(mode, log, chunks)
         for path in paths:
             fault = devices.fault(path, log_costs.ARGUMENTS[mode], pieces, rounds)
@@ -87,7 +88,7 @@ def wrong_texts(path, seed):
         last = [output.encode()] if output else []
         fault = devices.fault(path, [command], chunks, [[] for _ in chunks] + [last], status, line.encode())
         if fault:
-            faults.append("%s %s of %s: %s" % (path.name, command, devices.shown(text), fault))
+            faults.append("%s %s of %s: %s" % (path.name, command, shown(text), fault))
     return faults
 
 

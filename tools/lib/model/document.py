@@ -6,6 +6,8 @@ import sys
 import zlib
 from collections import namedtuple
 
+from lib.data import LETTERS
+
 # A document is as deep as calls for it.
 sys.setrecursionlimit(20_000)
 
@@ -94,8 +96,7 @@ def unquoted(leaf):
     document has it."""
     if leaf[0] not in "\"'" or not (QUOTED_TEXT.fullmatch(leaf) or QUOTED_CHARACTER.fullmatch(leaf)):
         return None
-    letters = {"0": "\0", "t": "\t", "n": "\n", "r": "\r"}
-    return ESCAPE.sub(lambda found: chr(int(found[1], 16)) if found[1] else letters.get(found[2], found[2]), leaf[1:-1])
+    return ESCAPE.sub(lambda found: chr(int(found[1], 16)) if found[1] else LETTERS.get(found[2], found[2]), leaf[1:-1])
 
 
 def depth_of(document):
@@ -103,7 +104,6 @@ def depth_of(document):
         return 0
     inside = [each for before, value in document.entries for each in ((before, value) if document.kind == "map" else (value,))]
     return 1 + max(map(depth_of, inside))
-
 
 
 # ---- Which pieces a writer is passed.

@@ -204,16 +204,17 @@ class PrettyReader(Reader):
 
 
 MODES = ("plain", "pretty")
-# A reader of each class of texts, by its mode and the name of the class, and what prints its documents in the other mode.
+OTHER = {"plain": "pretty", "pretty": "plain"}
+# A reader of each class of texts, by its mode and the name of the class, and what prints documents in a mode.
 READERS = {(mode, text_class.name): maker(text_class)
            for mode, maker in zip(MODES, (PlainReader, PrettyReader)) for text_class in (TOKEN, DEBUG)}
-PRINTERS = {"plain": pretty, "pretty": plain}
+PRINTERS = {"plain": plain, "pretty": pretty}
 
 
 def converted(mode, name, text):
     """The text in the other mode of what is a text of this mode, in the class of this name; or None."""
     document = READERS[mode, name].read(text)
-    return None if document is None else PRINTERS[mode](document)
+    return None if document is None else PRINTERS[OTHER[mode]](document)
 
 
 def document_of(text):

@@ -14,8 +14,8 @@ of 1,500,000 words, to every call of the library, in some minutes.
 import concurrent.futures
 import subprocess
 
-from lib import measures, needs, running
-from lib.findings import case, ended
+from lib import running
+from lib.findings import case, ended, shown
 from lib.model import asked, characters, commands, costs, counter, coverage, documents, first_texts, verdicts
 from lib.programs import cases
 from lib.top import TOP
@@ -26,11 +26,6 @@ CONVERTED_EACH = 40
 COMMANDS = ("lengths", "pretty", "plain")
 # So many random texts there are. From BULK on the run takes minutes, and has all texts that there are.
 COUNT, BULK = 1000, 3000
-TOLD = "Of `x try texts`: steps of each call, in the order of its line, and memory (lib/model/costs.py, commands.py)"
-
-
-def shown(data):
-    return repr(data if len(data) <= 80 else data[:60] + b".." + data[-20:])
 
 
 def batches(texts):
@@ -100,13 +95,9 @@ def cost_jobs(pool, programs, meter):
     return jobs + [pool.submit(commands.faults_of, meter, programs, part) for part in commands.PARTS]
 
 
-def measured_again(is_written):
-    needs.require("measure", "cc", "valgrind")
-    programs = counter.programs_of(None)
-    with running.room("texts") as room:
-        meter = counter.Counter(room)
-        rows = {**costs.measured_rows(meter, programs["probe_model"]), **commands.measured_rows(meter, programs)}
-    return measures.measured_again(costs.MEASURED, rows, TOLD, is_written)
+def measured(room):
+    programs, meter = counter.programs_of(None), counter.Counter(room)
+    return {**costs.measured_rows(meter, programs["probe_model"]), **commands.measured_rows(meter, programs)}, []
 
 
 def result_of(job):

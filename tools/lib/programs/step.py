@@ -84,11 +84,20 @@ def terminals(cases):
     os.close(follower)
 
 
+def in_a_shell(cases, file):
+    found, count = sessions.faults(file, PROGRAM=str(cases.program))
+    cases.faults, cases.count = cases.faults + found, cases.count + count
+
+
 def lines(cases):
     for part in (conversions, runs_of_table, terminals):
         part(cases)
-    found, count = sessions.faults("lines.txt", PROGRAM=str(cases.program))
-    cases.faults, cases.count = cases.faults + found, cases.count + count
+    in_a_shell(cases, "lines.txt")
+
+
+def conv(cases):
+    of_table("conv.txt")(cases)
+    in_a_shell(cases, "conv.txt")
 
 
 def of_table(file):
@@ -100,7 +109,7 @@ def print_program(cases):
     cases.judge_calls("what it prints", [], b"", 0, 1)
 
 
-TRIED = {"ufmt_conv": of_table("conv.txt"), "ufmt_lines": lines}
+TRIED = {"ufmt_conv": conv, "ufmt_lines": lines}
 EXAMPLES = {"example_parse_program": of_table("parse.txt"), "example_print_program": print_program}
 
 

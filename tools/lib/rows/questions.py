@@ -5,13 +5,11 @@ program does what the row wants.
 """
 from lib import data
 from lib.model import places, types
-from lib.model.document import Block, list_of, plain, pretty, quoted, tuple_of
-from lib.model.reading import DEBUG, MODES, READERS, TOKEN, converted
+from lib.model.document import Block, list_of, quoted, tuple_of
+from lib.model.reading import DEBUG, MODES, OTHER, PRINTERS, READERS, TOKEN, converted
 from lib.model.verdicts import events, field_text, kinds, own_text, parts
 from lib.rows.formats import dumped, formats, number_around
 
-LAID_OUT = {"plain": plain, "pretty": pretty}
-OTHER = {"plain": "pretty", "pretty": "plain"}
 # Where a leaf stands: by itself, in a list, as the key of a map, in a struct.
 AROUND = (("plain", "%s"), ("pretty", "%s"), ("plain", "[%s]"), ("pretty", "[\n    %s,\n]"), ("plain", "{%s: v}"), ("pretty", "{\n    %s: v,\n}"),
           ("plain", "S { a: %s }"), ("pretty", "S {\n    a: %s,\n}"))
@@ -121,8 +119,8 @@ def nested(name, around):
 def deep(words, cells):
     name = " ".join(words)
     document = nested(name, int(cells[0]))
-    for mode, wanted in zip(LAID_OUT, cells[1:]):
-        text = LAID_OUT[mode](document)
+    for mode, wanted in zip(MODES, cells[1:]):
+        text = PRINTERS[mode](document)
         yield text, wanted, stopped([mode, name], text)
 
 
