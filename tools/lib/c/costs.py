@@ -84,12 +84,6 @@ def counted(program):
     return rows
 
 
-def compared_steps(faults, program):
-    rows = counted(program)
-    faults += measures.Table("c").faults(rows) if rows else []
-    return len(rows)
-
-
 def steps_of(program, name, asked):
     with running.room("c") as folder:
         counting = ["--tool=callgrind", "--combine-dumps=yes", "--toggle-collect=" + name, "--dump-after=" + name]

@@ -14,7 +14,7 @@ With `--write` it writes tools/data/c/rows.tsv again, by rustc, and interface.tx
 import pathlib
 import shutil
 
-from lib import findings, running, sessions
+from lib import findings, measures, running, sessions
 from lib.bench import build
 from lib.c import cases, costs, header
 from lib.c.calling import CRATE, DATA, VALGRIND, by_program, caller_in_c, here, rooms, run, under_valgrind, without_detail
@@ -92,7 +92,8 @@ def main(given):
         by_all = len(tried_huge) + by_program(faults, program, tried)
         tried += tried_huge
         randomly, some = at_random(faults, program, given.seed)
-        steps = costs.compared_steps(faults, program) if is_ours else 0
+        steps = costs.counted(program) if is_ours else {}
+        faults += measures.Table("c").faults(steps) if steps else []
         if is_ours:
             costs.stacks(faults, program)
         by_all += without_detail(faults, program, tried[:: 1 if len(tried) < 1000 else 7])
@@ -100,6 +101,6 @@ def main(given):
         by_valgrind = under_valgrind(faults, program, made + huge)
         found, tried_sessions = sessions.faults("c.txt", LIBRARY=str(library), SHARED=str(shared))
         faults += found
-    counts = len(made) + len(huge), len(CALLS), by_all, from_rust, by_valgrind + some, randomly, steps, tried_sessions
+    counts = len(made) + len(huge), len(CALLS), by_all, from_rust, by_valgrind + some, randomly, len(steps), tried_sessions
     return findings.ended((fault[:600] for fault in faults), "%d cases of %d calls: %d calls from C, %d from Rust, "
                           "%d under valgrind, %d at random, the steps of %d, %d sessions" % counts)

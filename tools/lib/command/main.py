@@ -11,10 +11,6 @@ COMMANDS = "new update check test try ci bench measure dist install uninstall ed
 MODULES = {"try": "lib.command.trying", "list": "lib.command.listing", "rust": "lib.rust.command"}
 
 
-def interrupted(_number, _frame):
-    raise KeyboardInterrupt
-
-
 def module_of(command):
     return importlib.import_module(MODULES.get(command, "lib.command." + command))
 
@@ -35,7 +31,7 @@ def parser():
 def main(words):
     given = parser().parse_args(words)
     for number in (signal.SIGINT, signal.SIGTERM, signal.SIGHUP):
-        signal.signal(number, interrupted)
+        signal.signal(number, signal.default_int_handler)
     try:
         return module_of(given.command).main(given)
     except KeyboardInterrupt:

@@ -105,13 +105,9 @@ def types():
     yield from map(tuple_of, range(1, 13))
 
 
-def implementations():
-    texts = (re.sub(r"(?m)^ *//.*$", "", path.read_text()) for path in (TOP / "crates" / "ufmt_parse" / "src").rglob("*.rt"))
-    return {re.sub(r"\s+", " ", name) for text in texts for name in IMPLEMENTATION.findall(text)}
-
-
 def missing():
-    found = implementations()
+    texts = (re.sub(r"(?m)^ *//.*$", "", path.read_text()) for path in (TOP / "crates" / "ufmt_parse" / "src").rglob("*.rt"))
+    found = {re.sub(r"\s+", " ", name) for text in texts for name in IMPLEMENTATION.findall(text)}
     if len(found) < 60:
         yield "only %d implementations of uParse are found" % len(found)
     left = sorted(found - {one.implementation for one in types()})

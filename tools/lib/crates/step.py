@@ -46,12 +46,6 @@ def printers_in(text, module):
             yield trait[0]
 
 
-def printers():
-    """All of them, but for laws, which say what other calls print."""
-    paths = [path for crate in PRINTING for path in sources(TOP / "crates" / crate / "src", ("laws", "laws.rt", "tests", "tests.rt"))]
-    return {name for path in paths for name in printers_in(path.read_text(), path.stem)}
-
-
 def named_in(text):
     """The names of those that rows of the tests say: the texts before `=>` that are such a name."""
     for name in re.findall(r'(?m)^ *"([^"]*)" => "', text):
@@ -59,16 +53,12 @@ def named_in(text):
             yield name
 
 
-def make_room(room):
-    lines = (TOP / "crates.txt").read_text().splitlines()
-    (room / "crates.txt").write_text("".join(line + "\n" for line in lines if line.split(":")[0] in tests.LIBRARIES))
-    build.copied(TOP, room, tests.LIBRARIES, ("src", "specs", "proofs"))
-
-
 def missing_rows(files):
     """What prints a value of another type and has no row, and rows of what isn't there."""
-    text = "".join(files.values())
-    named, found = set(named_in(text)), printers()
+    # Laws say what other calls print.
+    paths = [path for crate in PRINTING for path in sources(TOP / "crates" / crate / "src", ("laws", "laws.rt", "tests", "tests.rt"))]
+    found = {name for path in paths for name in printers_in(path.read_text(), path.stem)}
+    named = set(named_in("".join(files.values())))
     for name in sorted(found - named):
         yield "%s: no row says how often %s prints a value" % (TESTS, name)
     for name in sorted(named - found):
@@ -86,7 +76,9 @@ def main(given):
     files["grammar"] = grammar.source(is_all)
     folders = [CRATES / "refused"] + [CRATES / "refused" / "more"] * is_all
     with running.room("macros") as room:
-        make_room(room)
+        lines = (TOP / "crates.txt").read_text().splitlines()
+        (room / "crates.txt").write_text("".join(line + "\n" for line in lines if line.split(":")[0] in tests.LIBRARIES))
+        build.copied(TOP, room, tests.LIBRARIES, ("src", "specs", "proofs"))
         crates = [tests.Tests(room, files)]
         crates += tests.refused(room, [path for folder in folders for path in sorted(folder.glob("*.txt"))])
         crates += tests.refused(room, sorted((CRATES / "refused" / "last").glob("*.txt")), "last")

@@ -70,9 +70,6 @@ class Run:
         self.around = min(steps, default=0)
         self.made = [(one, *call) for one, line in zip(texts, self.lines) for call in calls_of(line)]
 
-    def is_whole(self):
-        return len(self.lines) == len(self.texts) and len(self.counts) >= len(self.made)
-
     def calls(self):
         return [(*call, counts) for call, counts in zip(self.made, self.counts)]
 
@@ -112,7 +109,7 @@ def slow_faults(counter, program, run, small):
 
 
 def faults_of(run, rows):
-    if not run.is_whole():
+    if len(run.lines) != len(run.texts) or len(run.counts) < len(run.made):
         return ["%d lines and %d counts of %d texts" % (len(run.lines), len(run.counts), len(run.texts))], len(run.made)
     return list(measures.Table(MEASURED).faults(rows, is_whole=False)), len(run.made)
 

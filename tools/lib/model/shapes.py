@@ -3,9 +3,9 @@ from functools import partial
 
 from lib import data
 from lib.model.document import STRUCTS, Block, list_of, plain, quoted, tuple_of
+from lib.model.documents import PLACES
 from lib.model.reading import document_of
 
-PLACES = ("list", "set", "key", "value", "struct", "tuple", "unnamed")
 # The kind and the name of the block of a place, and what is before the value.
 BLOCKS = {"key": ("map", "", None), "value": ("map", "", "k"), "tuple": ("tuple", "N", None), "unnamed": ("tuple", "", None),
           "struct": ("struct", "S", "f"), "open struct": ("open struct", "S", "f")}

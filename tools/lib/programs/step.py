@@ -53,13 +53,6 @@ def conversions(cases):
             cases.judge("%s: %s stays" % (" ".join(row), name), cases.run(*row, text=log), 0, log)
 
 
-def runs_of_table(cases):
-    (cases.room / "folder").mkdir()
-    os.symlink("loop", cases.room / "loop")
-    (cases.room / "secret").touch(0o200)
-    cases.table("lines.txt", TEXTS)
-
-
 def terminals(cases):
     """A terminal is read to its first end of file, and isn't asked again while the next file is opened. One that goes away fails
     in the middle: the reason is said, and a line that had begun continues in the next file. Nor can one that went away be
@@ -90,8 +83,12 @@ def in_a_shell(cases, file):
 
 
 def lines(cases):
-    for part in (conversions, runs_of_table, terminals):
-        part(cases)
+    conversions(cases)
+    (cases.room / "folder").mkdir()
+    os.symlink("loop", cases.room / "loop")
+    (cases.room / "secret").touch(0o200)
+    cases.table("lines.txt", TEXTS)
+    terminals(cases)
     in_a_shell(cases, "lines.txt")
 
 

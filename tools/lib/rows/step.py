@@ -32,11 +32,6 @@ def wrong_dump(row):
     return [] if printed == row.cells[1] else [case(row.place, "%r by xxd" % printed, repr(row.cells[1]))]
 
 
-def wrong_lines(program, places):
-    """The faults of a run of the program on these texts, each of which has the place of its row."""
-    return step.wrong_lines(program, list(places), places.get)[0]
-
-
 def main(given):
     program = needs.built("probe_model", given.program)
     faults, places, count = [], {}, 0
@@ -46,9 +41,9 @@ def main(given):
             faults += wrong_dump(row)
         for text in asked(row, faults):
             places.setdefault(text, row.place)
-    pairs = list(places.items())
+    texts = list(places)
     with concurrent.futures.ProcessPoolExecutor() as pool:
-        jobs = [pool.submit(wrong_lines, program, dict(pairs[at : at + BATCH])) for at in range(0, len(pairs), BATCH)]
+        jobs = [pool.submit(step.wrong_lines, program, texts[at : at + BATCH], places.get) for at in range(0, len(texts), BATCH)]
         for job in jobs:
-            faults += job.result()
+            faults += job.result()[0]
     return ended(faults, "%d rows, %d texts" % (count, len(places)))
