@@ -51,7 +51,7 @@ def text_of(row):
     return data_of(row).decode()
 
 
-# ---- The tables of tools/data/rows, whose parts say what is asked of their rows, by a name of rows/questions.py and more words.
+# ---- The tables of tools/data/rows, whose parts say what is asked of their rows, by a name of rows/step.py and more words.
 
 # What can't stand in a cell, as a space at its end, is written as in a literal of Rust: `\n`, `\u{20}`, and a byte as `\xff`.
 ESCAPE = re.compile(r"\\(?:u\{([0-9a-f]+)\}|x([0-9a-f]{2})|(.))")

@@ -1,5 +1,4 @@
-"""What a step found, in one form: a line for each fault, as `file:line: what` or `case: wanted .., got ..`,
-and last a line of counts."""
+"""What a step found, in one form: a line for each fault, as `file:line: what` or `case: wanted .., got ..`, and last a line of counts."""
 # So many faults are printed.
 MOST = 50
 

@@ -97,8 +97,7 @@ QUIET = 3
 ASKED_AGAIN = 1
 # The status for want of memory.
 OUT_OF_MEMORY = 5
-# What a run is given, and with ample memory its status, its output and what is on standard error; how many allocations it can't
-# do without.
+# What a run is given, and with ample memory its status, its output and what is on standard error; how many allocations it can't do without.
 Case = namedtuple("Case", "program words text status output error allocations")
 
 

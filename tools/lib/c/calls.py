@@ -26,9 +26,8 @@ NUMBER_SIZE = 8
 SIZE_MAX = 2**64 - 1
 # The longest buffer with which a text is tried that is longer than any.
 FRONT = 64
-# A call and its arguments: bytes, numbers, and tuples for structs. It writes a text; or it returns a result and,
-# if that is said, a detail. One without a buffer only returns, or leaves a number. Of a text whose length is said, only the
-# front is.
+# A call and its arguments: bytes, numbers, and tuples for structs. It writes a text; or it returns a result and, if that is said, a detail.
+# One without a buffer only returns, or leaves a number. Of a text whose length is said, only the front is.
 Case = namedtuple("Case", "call arguments text result detail length number", defaults=(None, None, None, None, None))
 
 

@@ -9,7 +9,7 @@ import re
 import sys
 
 from lib import data, findings, measures, running
-from lib.bench import build, frames
+from lib.bench import build, stack
 from lib.c.calling import caller_in_c, here, request, run
 from lib.c.calls import CALLS, FRONT, Case, has_buffer
 from lib.c.cases import arguments, huge_options
@@ -93,7 +93,7 @@ def steps_of(program, name, asked):
 
 
 def stacks(faults, program):
-    code, bounds = frames.Frames(program), measures.Table("stack").of("from C")
+    code, bounds = stack.Frames(program), measures.Table("stack").of("from C")
     for name in CALLS:
         most, (bound, _) = code.most("ufmt_" + name), bounds.get(name, (0, 0))
         if most.size > bound or most.level:

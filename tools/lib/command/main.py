@@ -4,7 +4,7 @@ import importlib
 import signal
 import sys
 
-from lib import running
+from lib import needs, running
 
 # Each command is a module of this folder, by its own name or by another one, with the text of its help, `add_arguments` and `main`.
 COMMANDS = "new update check test try ci bench measure dist install uninstall edits clauses forms fields generate list rust".split()
@@ -13,6 +13,21 @@ MODULES = {"try": "lib.command.trying", "list": "lib.command.listing", "rust": "
 
 def module_of(command):
     return importlib.import_module(MODULES.get(command, "lib.command." + command))
+
+
+def add_names(parser, name, names, told, dest="names"):
+    """Any number of words, each of which must be one of these names."""
+
+    def known(word):
+        if word not in names:
+            raise argparse.ArgumentTypeError("there is no %s; there are %s" % (word, ", ".join(sorted(names))))
+        return word
+
+    parser.add_argument(dest, metavar=name, nargs="*", type=known, help=told)
+
+
+def add_jobs(parser, told):
+    parser.add_argument("--jobs", metavar="N", type=int, default=min(4, needs.processors()), help="how many %s side by side (%%(default)s)" % told)
 
 
 def parser():

@@ -11,7 +11,7 @@ built with nothing proved; `texts` and `logs` count the proved programs that `rt
 The status is 0 if each bound is in the band.
 """
 from lib import findings, measures, needs, running, top
-from lib.command.arguments import add_names
+from lib.command.main import add_names
 
 # What counts the rows of each in a folder, and may find faults; and what it needs.
 MEASURED = {"costs": ("lib.costs.step:measured", "rt cc valgrind"), "c": ("lib.c.costs:measured", "rt gcc valgrind"),

@@ -9,7 +9,7 @@ import sys
 from collections import namedtuple
 
 from lib import needs, running, steps, top
-from lib.command.arguments import add_jobs, add_names
+from lib.command.main import add_jobs, add_names
 from lib.running import say
 
 

@@ -38,8 +38,7 @@ def sum_of(path):
 
 
 class Kept:
-    """The file in this folder of crates. `sums` has each file's sum by its path below the folder, `lines` what each crate stands
-    on."""
+    """The file in this folder of crates. `sums` has each file's sum by its path below the folder, `lines` what each crate stands on."""
 
     def __init__(self, crates):
         self.path = crates / COPIED

@@ -1,10 +1,9 @@
 """Writes the tests of each form of each macro: every kind of piece in each place, and many numbers of fields,
 with and without the comma at the end. What is to be printed is written here, as core::fmt has it.
 
-Where the macros are called, `Result`, `Ok` and their like are names of other things, and what a macro names
-of the libraries has no name of its own. tools/data/crates/grammar has the file's head, the tests of enums,
-each kind of piece with its text, and the forms for each number of fields, where words in capitals stand for
-what depends on that number.
+Where the macros are called, `Result`, `Ok` and their like are names of other things, and what a macro names of the libraries has no name of
+its own. tools/data/crates/grammar has the file's head, the tests of enums, each kind of piece with its text, and the forms for each number
+of fields, where words in capitals stand for what depends on that number.
 """
 import re
 

@@ -13,7 +13,7 @@ import shutil
 import subprocess
 
 from lib import findings, measures, running
-from lib.bench import build, frames, tables
+from lib.bench import build, stack, tables
 from lib.data import DATA
 from lib.findings import case, ended
 from lib.floats import patterns
@@ -65,7 +65,7 @@ def past_bounds(program, counts):
     """A line for each call that takes more steps than its bound, and for each function that is past a bound of stack, where there
     is objdump."""
     past = list(measures.Table("floats").faults(counts)) if counts else []
-    known = frames.Frames(program) if shutil.which("objdump") else None
+    known = stack.Frames(program) if shutil.which("objdump") else None
     for name, (most, own) in measures.Table("stack").of("float").items() if known else ():
         function = "by_ufmt::" + name
         taken = known.most(function).size, known.frames[known.addresses[function]].size

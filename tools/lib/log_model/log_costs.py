@@ -1,9 +1,8 @@
 """What a run of ufmt_lines costs on logs of each shape, beside what was measured in the past:
 tools/data/measured/logs.txt (tools/lib/measures.py).
 
-Steps are counted on a log of 32 KiB, less those of a run on no log: with one step more for each pair of
-bytes, each byte would cost 16,384 steps more. Memory, reads and writes are those of a log of 512 KiB: most of
-them hold a line or a group.
+Steps are counted on a log of 32 KiB, less those of a run on no log: with one step more for each pair of bytes, each byte would cost 16,384
+steps more. Memory, reads and writes are those of a log of 512 KiB: most of them hold a line or a group.
 """
 from collections import namedtuple
 from concurrent.futures import ThreadPoolExecutor

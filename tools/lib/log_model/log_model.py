@@ -68,8 +68,7 @@ def start_of(mode, text, at, opening):
 
 
 def read_from(reader, text, start, is_alone=False):
-    """The document that begins here and where it ends. A reader looks back from a colon, for a quote: it sees nothing of what is
-    before."""
+    """The document that begins here and where it ends. A reader looks back from a colon, for a quote: it sees nothing of what is before."""
     if not is_alone and not text.startswith(":", start):
         return reader.document_at(text, start, 0)
     found = reader.document_at(text[start:], 0, 0)

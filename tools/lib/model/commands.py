@@ -23,8 +23,7 @@ Run = namedtuple("Run", "name program words data output", defaults=(None,))
 
 
 def conv_runs():
-    """Runs of ufmt_conv: on a list of each shape, on some shapes that are longer, and on lines of each
-    length."""
+    """Runs of ufmt_conv: on a list of each shape, on some shapes that are longer, and on lines of each length."""
     made = shapes.documents()
     few, many = (list_of(*(make(size) for make in made.values())) for size in (COUNTED_SIZE, 32 * COUNTED_SIZE))
     documents = {"a list of each shape": few, "a long list of each shape": many}
@@ -43,8 +42,7 @@ def conv_runs():
 
 
 def line_runs(is_plain):
-    """A run of ufmt_lines for each shape, on a group of lines, with its values in the other mode by the model
-    of logs."""
+    """A run of ufmt_lines for each shape, on a group of lines, with its values in the other mode by the model of logs."""
     name, mode = ("ufmt_lines --plain", "plain") if is_plain else ("ufmt_lines", "pretty")
     texts = {shape: (pretty if is_plain else plain)(make(4 * COUNTED_SIZE))
              for shape, make in {**shapes.documents(), **shapes.debug_documents()}.items()}
@@ -109,8 +107,7 @@ def faults_of(counter, programs, part):
 
 
 def short_reads():
-    """What is read in few bytes: of ufmt_conv one text, of ufmt_lines a line for each read, and a line or
-    group of all."""
+    """What is read in few bytes: of ufmt_conv one text, of ufmt_lines a line for each read, and a line or group of all."""
     yield Run("ufmt_conv pretty", "ufmt_conv", ("pretty",), plain(list_of(*["12345678"] * READS)).encode())
     for name, words in (("ufmt_lines", ()), ("ufmt_lines --plain", ("--plain",))):
         yield Run(name, "ufmt_lines", words, b"a line: 7\n" * READS)

@@ -70,8 +70,7 @@ class Counter:
         return Ended(ran.returncode, ran.stdout, ran.stderr, counts[0] if counts else None)
 
     def steps(self, arguments, data, name, seconds=None, most_read=None):
-        """Runs a program with valgrind, and returns the steps of each part that it counts. A read takes at most so many
-        bytes."""
+        """Runs a program with valgrind, and returns the steps of each part that it counts. A read takes at most so many bytes."""
         path = self.written(name, "steps")
         asked = {"COUNTS_READ": most_read} if most_read is not None else {}
         self.ran([self.valgrind, *CALLGRIND, "--callgrind-out-file=%s" % path, *arguments], data, name, "/dev/null", seconds, **asked)

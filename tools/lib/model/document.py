@@ -111,12 +111,11 @@ def depth_of(document):
 # A piece is noted as `t` if it should come by `write_str`, or as `c` if it should come by `write_char`; then its bytes, and a byte that
 # no text has. Only a name or a leaf can be an empty piece.
 #
-# A document is printed in these: a bracket or a name with which a block begins; ` {` of a struct and `(` of a tuple with the first
-# entry; in plain mode a space before a struct's first field and `, ` between entries; in pretty mode each line feed with the comma
-# before it, and each level of indentation; a field's name; `: `; a leaf; what comes before a closing bracket in plain mode, and the
-# bracket. Dots are `, ..` in plain mode, and `..` with its line feed in pretty mode; without fields they are one piece with the braces.
-# Of a value a text or a character in it is a quote, each escape, each stretch without escapes, which comes by `write_char` in a
-# character, and a quote.
+# A document is printed in these: a bracket or a name with which a block begins; ` {` of a struct and `(` of a tuple with the first entry;
+# in plain mode a space before a struct's first field and `, ` between entries; in pretty mode each line feed with the comma before it, and
+# each level of indentation; a field's name; `: `; a leaf; what comes before a closing bracket in plain mode, and the bracket. Dots are `,
+# ..` in plain mode, and `..` with its line feed in pretty mode; without fields they are one piece with the braces. Of a value a text or a
+# character in it is a quote, each escape, each stretch without escapes, which comes by `write_char` in a character, and a quote.
 #
 # A conversion writes each event of a scan in at most two pieces, which are not empty, as `converted` above has them: a leaf; `[]` or
 # `{}`; a block's name, and what opens the block, with the whole indentation of its first entry; a field's name, and `: `; `: ` after a

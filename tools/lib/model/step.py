@@ -1,10 +1,8 @@
-"""Makes random texts, passes each to every call of the library, and compares the results with those of a model, which shares no
-code with the project. Values that no text makes are printed by random options. What is compared also has the pieces that a writer
-is passed.
+"""Makes random texts, passes each to every call of the library, and compares the results with those of a model, which shares no code with
+the project. Values that no text makes are printed by random options. What is compared also has the pieces that a writer is passed.
 
-The built probe_model makes the calls, and the built ufmt_conv is run on some of the texts. The texts that come first fill each
-cell of the table of shapes (coverage.py): a cell that no text fills is a fault. With 3000 or more, each character there is comes in
-apostrophes too.
+The built probe_model makes the calls. The texts that come first fill each cell of the table of shapes (coverage.py): a cell that no text
+fills is a fault. With 3000 or more, each character there is comes in apostrophes too.
 
 Then each call is made by itself on a text of each shape, and its memory and its steps are compared with what was measured
 (costs.py); and so are runs of both programs (commands.py), which are also run on texts of 16 MiB and on a million lines.
@@ -20,10 +18,8 @@ from lib.model import asked, characters, commands, costs, counter, coverage, doc
 from lib.programs import cases
 from lib.top import TOP
 
-# How many bytes of texts a run of the program takes. ufmt_conv is run on one of so many texts.
+# How many bytes of texts a run of the program takes.
 BATCH_BYTES = 2_000_000
-CONVERTED_EACH = 40
-COMMANDS = ("lengths", "pretty", "plain")
 # So many random texts there are. From BULK on the run takes minutes, and has all texts that there are.
 COUNT, BULK = 1000, 3000
 
@@ -49,24 +45,6 @@ def wrong_lines(program, texts, name=shown):
         if line != wanted:
             faults.append(case(name(text), wanted, line))
     return faults, cells
-
-
-def wrong_outcomes(program, texts):
-    """The faults of runs of ufmt_conv on some of the texts, with each command."""
-    faults = []
-    for text in texts[::CONVERTED_EACH]:
-        for command in COMMANDS:
-            ran = cases.run([program, command], text)
-            given = ran.status, ran.output.decode(), ran.error.decode()
-            wanted = verdicts.outcome(command, text)
-            if given != wanted:
-                faults.append(case("%s of %s" % (command, shown(text)), str(wanted)[:200], str(given)[:200]))
-    return faults
-
-
-def judged(program, converter, texts):
-    faults, cells = wrong_lines(program, texts)
-    return faults + wrong_outcomes(converter, texts), cells
 
 
 def made(count, seed):
@@ -124,7 +102,7 @@ def main(given):
         meter = counter.Counter(room)
         costing = cost_jobs(pool, programs, meter)
         texts = batches(made(COUNT if given.count is None else given.count, given.seed))
-        for job in [pool.submit(judged, programs["probe_model"], programs["ufmt_conv"], batch) for batch in texts]:
+        for job in [pool.submit(wrong_lines, programs["probe_model"], batch) for batch in texts]:
             wrong, found = job.result()
             faults += wrong
             cells |= found

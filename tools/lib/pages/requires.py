@@ -10,7 +10,7 @@ from collections import namedtuple
 
 from lib.contracts.functions import public_functions
 from lib.findings import ended
-from lib.pages.items import PAGE, items_of, section
+from lib.pages.edits import PAGE, items_of, section
 from lib.top import TOP, libraries
 
 SECTION = "### What calls ask for"

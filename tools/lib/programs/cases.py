@@ -73,8 +73,7 @@ class Cases:
                 self.judge_row(part, row)
 
     def judge_row(self, part, row):
-        """Judges a run: the words, the text on standard input, the status, the output, the line on standard error, and what is
-        special."""
+        """Judges a run: the words, the text on standard input, the status, the output, the line on standard error, and what is special."""
         words, text, status, output, line, special = row + ["%", "%", ""][len(row) - 3 :]
         name, given = "%s: %s %s, of %s" % (part, words, special, text[:40]), dict(it.partition("=")[::2] for it in special.split())
         self.judge(name, self.run_row(self.arguments(words), self.filled(text), given), int(status), self.filled(output), self.filled(line))

@@ -54,9 +54,8 @@ def conversions(cases):
 
 
 def terminals(cases):
-    """A terminal is read to its first end of file, and isn't asked again while the next file is opened. One that goes away fails
-    in the middle: the reason is said, and a line that had begun continues in the next file. Nor can one that went away be
-    written."""
+    """A terminal is read to its first end of file, and isn't asked again while the next file is opened. One that goes away fails in the
+    middle: the reason is said, and a line that had begun continues in the next file. Nor can one that went away be written."""
     leader, follower = pty.openpty()
     os.write(leader, LONG + b"\x04")
     ran = cases.run("-", "none", source=follower)

@@ -92,8 +92,7 @@ class Reader:
         return next((name for name, one in self.public[crate] if (one.path, one.line) == (function.path, function.line)), function.name)
 
     def named(self, crate, place, also):
-        """The functions that the rest of a comment names: `name`, or `crate::name` of another crate, by the ends of their
-        paths."""
+        """The functions that the rest of a comment names: `name`, or `crate::name` of another crate, by the ends of their paths."""
         for told in re.findall(r"`([\w:]+)`", also or ""):
             first, _, rest = told.partition("::")
             other, name = (first, rest) if rest and first in self.public else (crate, told)

@@ -63,8 +63,7 @@ def with_uses(path):
 
 
 def test_files():
-    """The text of each file of the shared crates, and of the tests, which are below a folder `tests`, by its path in the
-    workspace."""
+    """The text of each file of the shared crates, and of the tests, which are below a folder `tests`, by its path in the workspace."""
     found = {}
     for crate in SHARED:
         folder = CRATES / crate / "src"

@@ -82,8 +82,7 @@ class Trial:
         return None if status else said
 
     def build(self, name, source, profile, features, target=HOST, **form):
-        """Builds this source over the package, with this in its manifest. Its result is the folder of what cargo made, or
-        None."""
+        """Builds this source over the package, with this in its manifest. Its result is the folder of what cargo made, or None."""
         folder = self.room / name
         folder.mkdir(exist_ok=True)
         (folder / "lib.rs").write_text(source)
@@ -100,8 +99,7 @@ class Trial:
     def panics(self, target):
         """No call's program has a symbol of `core::panicking` with `proved`. Without it most have: so the test finds them.
 
-        One program of all calls has what the programs of each have together. Only if it has such a symbol, each call is linked
-        alone.
+        One program of all calls has what the programs of each have together. Only if it has such a symbol, each call is linked alone.
         """
         source = (DATA / "calls" / "lib.rs").read_text()
         linker = linking.Linker(self.room, target)
@@ -133,8 +131,7 @@ class Trial:
                 self.faults.append(findings.most(name, bound, size, "bytes"))
 
     def rows_of_32_bits(self):
-        """The worked rows hold in a program without a C library, with tests of overflow, where this machine runs 32-bit
-        programs."""
+        """The worked rows hold in a program without a C library, with tests of overflow, where this machine runs 32-bit programs."""
         library = self.library("narrow", (DATA / "narrow" / "lib.rs").read_text(), "tested", "", NARROW_HOST)
         made = linking.Linker(self.room, NARROW_HOST).link(library, "_start") if library else None
         status = subprocess.run([made]).returncode if made else "that no program is linked with"

@@ -91,8 +91,7 @@ def code(text):
 
 # Each kind of decision, with what is added to the function's page, and what begins its body.
 KINDS = {kind: (page, code.replace("\\n", "\n")) for kind, page, code in rows("kinds", 3)}
-# The file, the name and the kind of each decision. Two are of structs whose fields a user sets, and whose invariant a proof
-# reads.
+# The file, the name and the kind of each decision. Two are of structs whose fields a user sets, and whose invariant a proof reads.
 DECISIONS = rows("decisions", 3)
 # A function with its page. A function of an impl has none.
 FUNCTION = r"(?m)((?:^ *///.*\n)+)((?: *(?:#\[|// ).*\n)*)^( *)(pub )?((?:const )?)(fn %s\b[^{;]*[{;])"
