@@ -5,7 +5,7 @@ The built probe_model makes the calls. The texts that come first fill each cell 
 fills is a fault. With 3000 or more, each character there is comes in apostrophes too.
 
 Then each call is made by itself on a text of each shape, and its memory and its steps are compared with what was measured
-(costs.py); and so are runs of both programs (commands.py), which are also run on texts of 16 MiB and on a million lines.
+(costs.py); and so are runs of both programs (commands.py).
 Memory is counted if there is a C compiler, and steps if there is valgrind too. With `--full` it only passes texts of 16 MiB, and one
 of 1,500,000 words, to every call of the library, in some minutes.
 """
@@ -61,8 +61,8 @@ def made(count, seed):
 
 
 def cost_jobs(pool, programs, meter):
-    """The jobs that count, and those that run the commands on large texts."""
-    jobs = [pool.submit(commands.large_faults, programs, number) for number in range(commands.LARGE_PARTS)]
+    """The jobs that count."""
+    jobs = []
     if meter.library is None:
         return jobs
     for is_counted in (True, False) if meter.valgrind else (False,):
@@ -95,7 +95,7 @@ def counted(meter, number):
 def main(given):
     programs = counter.programs_of(given.program)
     if given.full:
-        wrong, count = commands.run_faults(programs, commands.verdict_runs())
+        wrong, count = commands.large_faults(programs["probe_model"])
         return ended(wrong, "%d texts of 16 MiB" % count)
     faults, cells, costs_counted = [], set(), 0
     with running.room("texts") as room, concurrent.futures.ProcessPoolExecutor() as pool:
