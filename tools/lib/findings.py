@@ -16,6 +16,13 @@ def shown(data):
     return repr(data if len(data) <= 80 else data[:60] + b".." + data[-20:])
 
 
+def differences(wanted, got, name_of):
+    """A line for each key of two tables that doesn't stand for the same in both."""
+    for key in sorted({*wanted, *got}):
+        if wanted.get(key) != got.get(key):
+            yield case(name_of(key), wanted.get(key, "nothing"), got.get(key, "nothing"))
+
+
 def ended(faults, counts):
     """Prints the faults and the counts, and returns the status."""
     faults = list(faults)

@@ -32,6 +32,7 @@ TEST = re.compile(r"((?:// .*\n)*)#\[test\]\nfn (\w+)")
 RESULT = re.compile(r"^test tests::(\w+)::(\w+) \.\.\. (ok|FAILED)\n((?:    .*\n|\n)*)", re.M)
 KILLED = re.compile(r"    src/tests/\w+\.rt:\d+:\d+: the test was killed by signal 6 \(SIGABRT\)\n$")
 REFUSED = re.compile(r"const REFUSED: usize = ([\d_]+);")
+PASS, FAILURE = "a pass", "a failure with\n%s\n"
 TESTS = "#![tactic(auto)]\n\n//! Tests that x try macros runs.\n#[cfg(test)]\nmod tests;\n"
 
 
@@ -57,13 +58,13 @@ def read(folder):
 def wanted_in(module, text):
     for comment, name in TEST.findall(text):
         _, fails, message = "".join(line[3:] for line in comment.splitlines(True)).partition("fails:\n")
-        yield (module, name), message.rstrip("\n") if fails else None
+        yield (module, name), FAILURE % message.rstrip("\n") if fails else PASS
 
 
 def results_in(said):
     for module, name, verdict, lines in RESULT.findall(said):
         message = "\n".join(line[4:] for line in KILLED.sub("", lines).splitlines())
-        yield (module, name), message if verdict == "FAILED" else None
+        yield (module, name), FAILURE % message if verdict == "FAILED" else PASS
 
 
 class Tests:
@@ -77,7 +78,7 @@ class Tests:
         write(room, "tests", {"lib.rt": TESTS, "tests.rt": "//! All of them.\n" + modules, **written})
 
     def counts(self):
-        failing = sum(message is not None for message in self.wanted.values())
+        failing = sum(wanted != PASS for wanted in self.wanted.values())
         return len(self.wanted) - failing, failing
 
     def faults(self):
@@ -85,16 +86,7 @@ class Tests:
         given = dict(results_in(said))
         if not given:
             return [findings.case("the crate of tests", "results", "none:\n" + said)]
-        return [fault for test in sorted({*self.wanted, *given}) for fault in self.compare(test, given)]
-
-    def compare(self, test, given):
-        wanted, got = (told(its[test]) if test in its else "no such test" for its in (self.wanted, given))
-        if wanted != got:
-            yield findings.case("the test %s::%s" % test, wanted, got)
-
-
-def told(message):
-    return "a pass" if message is None else "a failure with\n%s\n" % message
+        return list(findings.differences(self.wanted, given, lambda test: "the test %s::%s" % test))
 
 
 # ---- Crates that must not compile.
@@ -143,20 +135,16 @@ class Refused:
         given = {}
         for line, message in ERROR.findall(said):
             given.setdefault(int(line), []).append(message)
-        found = [fault for line in sorted({*given, *self.lines}) for fault in self.compare(line, given.get(line, []))]
+        wanted = {line: snippet.messages for line, snippet in self.lines.items()}
+        found = list(findings.differences(*({line: "\n%s\n" % "\n".join(sorted(its)) for line, its in each.items()} for each in (wanted, given)), self.told))
         if not given:
             found.append(findings.case(self.name, "messages", "none:\n" + said))
         if MORE.search(said):
             found.append(findings.case(self.name, "as many messages as the compiler shows", "more"))
         return found
 
-    def compare(self, line, messages):
-        snippet = self.lines.get(line)
-        if snippet is None:
-            yield findings.case("line %d of %s" % (line, self.name), "no message", "\n".join(messages))
-        elif sorted(messages) != snippet.messages:
-            wanted, got = ("\n%s\n" % "\n".join(it) for it in (snippet.messages, messages or ["no message"]))
-            yield findings.case("%s: `%s`" % (snippet.place, snippet.code), wanted, got)
+    def told(self, line):
+        return "%s: `%s`" % (self.lines[line].place, self.lines[line].code) if line in self.lines else "line %d of %s" % (line, self.name)
 
 
 def refused(room, paths, name="refused"):
