@@ -18,9 +18,7 @@ from lib.model.document import Block, list_of, plain, pretty, quoted, tuple_of
 SIZES = (80, 160)
 # Of so many cases with huge options one is counted, in these buffers.
 HUGE_EACH, HUGE_ROOMS = 97, (None, FRONT, 4096)
-# What the rows of the table name, and what they are of each size.
-PIECES = {"escape": b'\x1b"', "space": b" ", "one": b"1", "word": b"word ", "then": b" word", "open": b"(a, ", "field": b"w: 1, ",
-          "struct": b'S { x: 1, y: "a", z: [1, 2] }', "structs": b'S { x: 1, y: "a", z: [1, 2] } '}
+# What the rows of the table name, as they are of each size.
 KINDS = {"letters": lambda size: b"a" * size, "escapes": lambda size: b'\n\x1b"' * size, "characters": lambda size: "\u20ac".encode() * size,
          "no UTF-8": lambda size: b"a" * size + b"\xff"}
 
@@ -46,11 +44,12 @@ def conversions(size):
 
 def tabled(size):
     """The calls of tools/data/c/sized.txt."""
-    texts = dict(PIECES)
+    tables = data.rows("c/sized.txt")
+    texts = {name: data.data_of(text) for name, text in tables.pop("pieces")}
     for number, text in enumerate(make(size) for make in KINDS.values()):
         quoted_text = quoted(text.decode(errors="replace")).encode()
         texts.update({"%d" % number: text, "%d-quoted" % number: quoted_text, "%d-lines" % number: text + b"\n" + b"b\n" * size})
-    for part, rows in data.rows("c/sized.txt").items():
+    for part, rows in tables.items():
         for (number, kind), (name, asked) in itertools.product(enumerate(KINDS if part == "each text" else [""]), rows):
             asked = asked.replace("SIZE", str(size)).replace("TWICE", str(2 * size)).replace("TEXT", str(number))
             call, *words = asked.split(" ")

@@ -31,12 +31,12 @@ def tuple_of(*values, name=""):
 
 # ---- The layout of blocks: what opens a block after its name, and what closes it.
 
-PLAIN_FRAMES = {"list": ("[", "]"), "set": ("{", "}"), "map": ("{", "}"), "tuple": ("(", ")"),
-                "struct": (" { ", " }"), "open struct": (" { ", ", .. }")}
-PRETTY_FRAMES = {"list": ("[\n", "]"), "set": ("{\n", "}"), "map": ("{\n", "}"), "tuple": ("(\n", ")"),
-                 "struct": (" {\n", "}"), "open struct": (" {\n", "}")}
 # The kinds of blocks with a name before each value.
 STRUCTS = ("struct", "open struct")
+OPENING = {"list": "[", "set": "{", "map": "{", "tuple": "(", "struct": " {", "open struct": " {"}
+CLOSING = {"list": "]", "set": "}", "map": "}", "tuple": ")", "struct": "}", "open struct": "}"}
+PLAIN_FRAMES = {kind: (mark + " " * (kind in STRUCTS), {"struct": " }", "open struct": ", .. }"}.get(kind, CLOSING[kind])) for kind, mark in OPENING.items()}
+PRETTY_FRAMES = {kind: (mark + "\n", CLOSING[kind]) for kind, mark in OPENING.items()}
 # What a block without entries has after its name.
 EMPTY = {"list": "[]", "map": "{}", "open struct": " { .. }"}
 
@@ -122,9 +122,6 @@ def depth_of(document):
 # key; what separates two entries, with the whole indentation of the second; and what closes a block, in pretty mode a comma, a line feed
 # and the whole indentation, and then the bracket. Dots come after what separates two entries, with what closes the block in the same way.
 END = b"\xff"
-# Blocks that begin with a bracket, and what closes each kind.
-OPENING = {"list": "[", "set": "{", "map": "{"}
-CLOSING = {"list": "]", "set": "}", "map": "}", "struct": "}", "open struct": "}", "tuple": ")"}
 # The end of an open struct in plain mode. A conversion writes it in two pieces, of which the first separates entries.
 PLAIN_DOTS = (", ..", " ", "}")
 
@@ -169,7 +166,8 @@ def groups(document, is_pretty, depth, out):
         out.append(document)
         return out
     kind, name, entries = document
-    has_name, is_struct = kind not in OPENING, kind in STRUCTS
+    is_struct = kind in STRUCTS
+    has_name = is_struct or kind == "tuple"
     if has_name:
         out.append((name,))
     if not entries:
@@ -177,7 +175,7 @@ def groups(document, is_pretty, depth, out):
         out += [(EMPTY[kind],)] if kind == "open struct" else [] if has_name else [(OPENING[kind], CLOSING[kind])]
         return out
     inner, outer = (INDENT,) * (depth + 1), (INDENT,) * depth
-    between = (OPENING.get(kind, " {" if is_struct else "("), *(("\n", *inner) if is_pretty else (" ",) * is_struct))
+    between = (OPENING[kind], *(("\n", *inner) if is_pretty else (" ",) * is_struct))
     for before, value in entries:
         out.append(between)
         between = (",\n", *inner) if is_pretty else (", ",)
