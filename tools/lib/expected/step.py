@@ -14,7 +14,7 @@ from collections import namedtuple
 from urllib.parse import unquote
 
 from lib import data, needs
-from lib.findings import case, ended
+from lib.findings import differences, ended
 from lib.model.reading import MODES, converted
 from lib.model.step import wrong_lines
 from lib.top import TOP
@@ -77,16 +77,11 @@ def wrong_tables(stored, listed):
 
 
 def main(_given):
-    stored, listed, whole = rows(), reasons(), []
-    faults = list(wrong_tables(stored, listed))
-    for name in CLASSES:
-        found = [outcomes(name, row) for row in stored]
-        whole.append(found.count(SAME))
-        for row, its in zip(stored, found):
-            wanted = listed.get((row.name, name), SAME)
-            if its != wanted:
-                why = "by its reason" if (row.name, name) in listed else "it has no reason"
-                faults.append(case("%s, %s" % (row.name, name), "%s, %s (%s)" % (*wanted, why), "%s, %s" % its))
+    stored, listed = rows(), reasons()
+    found = {(row.name, name): outcomes(name, row) for name in CLASSES for row in stored}
+    whole = [sum(its == SAME for (_, of), its in found.items() if of == name) for name in CLASSES]
+    wanted = {key: listed.get(key, SAME) for key in found}
+    faults = [*wrong_tables(stored, listed), *differences(wanted, found, lambda key: "%s, %s (%s reason)" % (*key, "by its" if key in listed else "without a"))]
     if 150 * whole[1] < LEAST_OF_150 * len(stored):
         faults.append("debug texts: %d rows both ways, and not at least %d of 150" % (whole[1], LEAST_OF_150))
     texts = list(dict.fromkeys(text.encode() for row in stored for text in (row.plain, row.pretty)))

@@ -7,12 +7,12 @@ import concurrent.futures
 import itertools
 import re
 import shutil
-import struct
 import subprocess
 
 from lib import data, needs
 from lib.data import rows_with_places
 from lib.findings import case, ended
+from lib.floats.patterns import bits_of
 from lib.model import floats, places, step, types
 from lib.model.document import END, Block, by_text, list_of, quoted, text_of, tuple_of, with_zeros
 from lib.model.reading import DEBUG, MODES, OTHER, PRINTERS, READERS, TOKEN, converted
@@ -44,7 +44,7 @@ def request_for(spec, kind, value):
         return request, text_of(in_column(request, by_text(value)))
     if kind in ("f32", "f64"):
         size = int(kind[1:])
-        bits = int.from_bytes(struct.pack({32: ">f", 64: ">d"}[size], float(value)), "big")
+        bits = bits_of(value, size)
         request = request._replace(payload=b"%d" % bits, pad_length=int(decimals or 0))
         if decimals:
             return request, floats.fixed(bits, size, int(decimals))
