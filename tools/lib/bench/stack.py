@@ -40,11 +40,6 @@ Most = namedtuple("Most", "size level path")
 Frame = namedtuple("Frame", "size whole calls jumps unknown")
 
 
-def symbols(program):
-    found = re.findall(r"(?m)^([0-9a-f]+) [tTwW] (.*)$", output_of(["nm", program]))
-    return {name: int(address, 16) for address, name in found}
-
-
 def code(program):
     """The lines of each function, by its address, and the name that stands there."""
     lines, names, its = {}, {}, []
@@ -83,7 +78,8 @@ class Frames:
         lines, self.names = code(program)
         self.frames = {start: frame(its, lines, start) for start, its in lines.items()
                        if not self.names[start].endswith("@plt")}
-        self.addresses, self.known, self.reach = symbols(program), {}, {}
+        symbols = re.findall(r"(?m)^([0-9a-f]+) [tTwW] (.*)$", output_of(["nm", program]))
+        self.addresses, self.known, self.reach = {name: int(address, 16) for address, name in symbols}, {}, {}
 
     def next_of(self, start):
         """What a function calls or continues as, each with the bytes before it."""

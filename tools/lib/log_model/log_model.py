@@ -4,7 +4,7 @@ A mode is the name of the texts that are written: "pretty", or "plain" for `--pl
 """
 import re
 
-from lib.model.document import STRUCTS, plain
+from lib.model.document import STRUCTS, decoded, encoded, plain
 from lib.model.reading import DEBUG, PRINTERS, READERS, PlainReader, PrettyReader
 
 # What reads the texts for each mode: those of the other one.
@@ -19,14 +19,6 @@ BRACKET = re.compile(r"[(\[{]")
 NAME_BYTE = re.compile(r"""[^\x00-\x1f\x7f "'(),\[\]{}]""")
 # The line of the first entry of a pretty block begins so.
 FIRST_LINE = "\n    "
-
-
-def decoded(log):
-    return log.decode("utf-8", "surrogateescape")
-
-
-def encoded(text):
-    return text.encode("utf-8", "surrogateescape")
 
 
 def name_start(text, at, end):

@@ -21,6 +21,14 @@ INDENT = "    "
 Block = namedtuple("Block", "kind name entries")
 
 
+def decoded(data):
+    return data.decode(errors="surrogateescape")
+
+
+def encoded(text):
+    return text.encode(errors="surrogateescape")
+
+
 def list_of(*values):
     return Block("list", "", [(None, value) for value in values])
 

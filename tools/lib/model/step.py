@@ -4,10 +4,9 @@ the project. Values that no text makes are printed by random options. What is co
 The built probe_model makes the calls. The texts that come first fill each cell of the table of shapes (coverage.py): a cell that no text
 fills is a fault. With 3000 or more, each character there is comes in apostrophes too.
 
-Then each call is made by itself on a text of each shape, and its memory and its steps are compared with what was measured
-(costs.py); and so are runs of both programs (commands.py).
-Memory is counted if there is a C compiler, and steps if there is valgrind too. With `--full` it only passes texts of 16 MiB, and one
-of 1,500,000 words, to every call of the library, in some minutes.
+Then each call is made by itself on a text of each shape, and its memory and its steps are compared with what was measured (costs.py); and
+so are runs of both programs (commands.py). Memory is counted if there is a C compiler, and steps if there is valgrind too. With `--full` it
+only passes texts of 16 MiB, and one of 1,500,000 words, to every call of the library, in some minutes.
 """
 import concurrent.futures
 import subprocess

@@ -2,8 +2,8 @@
 import string
 
 from lib.model import coverage, places, requests, types
-from lib.model.document import (DEEPEST, STRUCTS, by_text, converted as converted_pieces, depth_of, digest as digest_of, of_values, plain,
-                                pretty, printed, quoted, unquoted)
+from lib.model.document import (DEEPEST, STRUCTS, by_text, converted as converted_pieces, decoded, depth_of, digest as digest_of, of_values,
+                                plain, pretty, printed, quoted, unquoted)
 from lib.model.reading import DEBUG, MODES, NO_UTF8, OTHER, READERS, TOKEN, converted
 
 # How many fields of a struct are asked for, besides its last.
@@ -122,7 +122,7 @@ def verdict(data):
     """The line that the program prints of these bytes, and the cells of the table of coverage that they fill."""
     if data.startswith(requests.REQUEST_PREFIX):
         return requests.verdict(data), set()
-    text, halves, cells = data.decode(errors="surrogateescape"), [], set()
+    text, halves, cells = decoded(data), [], set()
     for mode in MODES:
         is_pretty = mode == "pretty"
         documents, judged = [READERS[mode, name].read(text) for name in ("token", "debug")], types.judged(data, is_pretty)
@@ -137,5 +137,5 @@ def outcome(command, data):
     if command == "lengths":
         lines = data.removesuffix(b"\n").split(b"\n") if data else []
         return 0, "[%s]\n" % ", ".join(str(len(line)) for line in lines), ""
-    other = converted(OTHER[command], "token", data.decode(errors="surrogateescape").removesuffix("\n"))
+    other = converted(OTHER[command], "token", decoded(data).removesuffix("\n"))
     return (1, "", "ufmt_conv: not a %s text\n" % OTHER[command]) if other is None else (0, other + "\n", "")

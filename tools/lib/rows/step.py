@@ -14,7 +14,7 @@ from lib.data import rows_with_places
 from lib.findings import case, ended
 from lib.floats.patterns import bits_of
 from lib.model import floats, places, step, types
-from lib.model.document import END, Block, by_text, list_of, quoted, text_of, tuple_of, with_zeros
+from lib.model.document import END, Block, by_text, decoded, encoded, list_of, quoted, text_of, tuple_of, with_zeros
 from lib.model.reading import DEBUG, MODES, OTHER, PRINTERS, READERS, TOKEN, converted
 from lib.model.requests import Request, dump, hexadecimal, in_column, joined, numbers, with_places
 from lib.model.verdicts import events, field_text, kinds, own_text, parts
@@ -125,10 +125,6 @@ VALUE = "a value"
 TYPES = {row[2:]: types.TYPES[row[0]] for row in data.parts("texts/types.txt")["types"]}
 
 
-def encoded(text):
-    return text.encode(errors="surrogateescape")
-
-
 def or_nothing(found):
     return "nothing" if found is None else found
 
@@ -141,10 +137,10 @@ def both_texts(words, cells):
 def stop(words, cells):
     """What is no text, with a bar where it stops to be one."""
     barred, reader = encoded(cells[0]), READERS[tuple(words)]
-    text = barred.replace(b"|", b"").decode(errors="surrogateescape")
+    text = decoded(barred.replace(b"|", b""))
     document, place = reader.read(text), reader.place(text)
     found = encoded(text)[:place] + b"|" + encoded(text)[place:] if document is None else b"a text"
-    yield text, cells[0], found.decode(errors="surrogateescape")
+    yield text, cells[0], decoded(found)
 
 
 def leaf(words, cells):
@@ -250,7 +246,7 @@ def asked(row, faults):
     for text, wanted, found in QUESTIONS[question](words, row.cells):
         if found != wanted:
             faults.append(case(row.place, repr(wanted), "%r by the model" % found))
-        yield text if isinstance(text, bytes) else text.encode(errors="surrogateescape")
+        yield text if isinstance(text, bytes) else encoded(text)
 
 
 def wrong_dump(row):
