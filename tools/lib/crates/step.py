@@ -136,7 +136,8 @@ class Refused:
         for line, message in ERROR.findall(said):
             given.setdefault(int(line), []).append(message)
         wanted = {line: snippet.messages for line, snippet in self.lines.items()}
-        found = list(findings.differences(*({line: "\n%s\n" % "\n".join(sorted(its)) for line, its in each.items()} for each in (wanted, given)), self.told))
+        shown = ({line: "\n%s\n" % "\n".join(sorted(its)) for line, its in each.items()} for each in (wanted, given))
+        found = list(findings.differences(*shown, self.told))
         if not given:
             found.append(findings.case(self.name, "messages", "none:\n" + said))
         if MORE.search(said):

@@ -81,7 +81,8 @@ def main(_given):
     found = {(row.name, name): outcomes(name, row) for name in CLASSES for row in stored}
     whole = [sum(its == SAME for (_, of), its in found.items() if of == name) for name in CLASSES]
     wanted = {key: listed.get(key, SAME) for key in found}
-    faults = [*wrong_tables(stored, listed), *differences(wanted, found, lambda key: "%s, %s (%s reason)" % (*key, "by its" if key in listed else "without a"))]
+    faults = list(wrong_tables(stored, listed))
+    faults += differences(wanted, found, lambda key: "%s, %s (%s reason)" % (*key, "by its" if key in listed else "without a"))
     if 150 * whole[1] < LEAST_OF_150 * len(stored):
         faults.append("debug texts: %d rows both ways, and not at least %d of 150" % (whole[1], LEAST_OF_150))
     texts = list(dict.fromkeys(text.encode() for row in stored for text in (row.plain, row.pretty)))

@@ -99,7 +99,8 @@ class Covering:
             named = [self.deep_named(kind, self.within(size)) for size in powers(512)]
             yield from named
             yield self.spine(lambda depth, named=named: list(named) if depth < DEEPEST else [], 1)
-        yield self.spine(lambda depth: [self.wide(self.random.choice(BLOCKS), self.within(size)) for size in powers(256)] if depth < DEEPEST else [], 1)
+        sizes = powers(256)
+        yield self.spine(lambda depth: [self.wide(self.random.choice(BLOCKS), self.within(size)) for size in sizes if depth < DEEPEST], 1)
         yield from map(self.keys, (1, 2, 3))
 
     def deep_named(self, kind, length):

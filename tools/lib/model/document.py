@@ -43,7 +43,8 @@ def tuple_of(*values, name=""):
 STRUCTS = ("struct", "open struct")
 OPENING = {"list": "[", "set": "{", "map": "{", "tuple": "(", "struct": " {", "open struct": " {"}
 CLOSING = {"list": "]", "set": "}", "map": "}", "tuple": ")", "struct": "}", "open struct": "}"}
-PLAIN_FRAMES = {kind: (mark + " " * (kind in STRUCTS), {"struct": " }", "open struct": ", .. }"}.get(kind, CLOSING[kind])) for kind, mark in OPENING.items()}
+PLAIN_CLOSING = {**CLOSING, "struct": " }", "open struct": ", .. }"}
+PLAIN_FRAMES = {kind: (mark + " " * (kind in STRUCTS), PLAIN_CLOSING[kind]) for kind, mark in OPENING.items()}
 PRETTY_FRAMES = {kind: (mark + "\n", CLOSING[kind]) for kind, mark in OPENING.items()}
 # What a block without entries has after its name.
 EMPTY = {"list": "[]", "map": "{}", "open struct": " { .. }"}
