@@ -11,18 +11,12 @@ type Lent<'a> = &'a Global;
 // Whether the value prints as the text.
 fn has_text<T: uDebug>(value: &T, text: &str) -> bool {
     let mut printed = [0; 64];
-    match debug_into(&mut printed, value) {
-        Ok(len) => printed.get(..len) == Some(text.as_bytes()),
-        Err(_) => false,
-    }
+    debug_into(&mut printed, value).is_ok_and(|len| printed.get(..len) == Some(text.as_bytes()))
 }
 
 // Whether a value is parsed with this allocator, and prints as the text.
 fn comes_back<'a, T: uParse<Lent<'a>>>(alloc: Lent<'a>, text: &str) -> bool {
-    match parse::<T, Lent<'a>>(alloc, text.as_bytes()) {
-        Ok(value) => has_text(&value, text),
-        Err(_) => false,
-    }
+    parse::<T, Lent<'a>>(alloc, text.as_bytes()).is_ok_and(|value| has_text(&value, text))
 }
 
 #[test]

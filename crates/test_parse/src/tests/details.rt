@@ -93,17 +93,12 @@ fn a_pretty_text_has_details_too(rt: HostRuntime) {
     let alloc = rt.alloc();
     let text = "Set {\n    channel: 3,\n    lever: -4,\n}".as_bytes();
     let mut table = Table::new(alloc);
-    if let Err(error) = parse_pretty::<Set, Global>(alloc, text) {
-        let placed = error.in_pretty_text_of::<Set, Global>(alloc, text);
-        put_rows!(table; plain(&Displayed(placed)) => "expected the field `level`, found `lever` at line 3 column 5";);
+    match parse_pretty::<Set, Global>(alloc, text) {
+        Ok(_) => table.put_nothing(),
+        Err(error) => table.plain(&Displayed(error.in_pretty_text_of::<Set, Global>(alloc, text))),
     }
+    table.wants("expected the field `level`, found `lever` at line 3 column 5");
     same(&rt, table.text(), Some(table.wanted()), "pretty");
-    same(
-        &rt,
-        table.text().map(str::is_empty),
-        Some(false),
-        "an error",
-    );
 }
 
 // Another text, another type, the other mode, and what no text has.
@@ -112,24 +107,19 @@ fn an_error_of_something_else_has_no_detail(rt: HostRuntime) {
     let alloc = rt.alloc();
     let text = "Set { chanel: 3, level: -4 }".as_bytes();
     if let Err(error) = parse::<Set, Global>(alloc, text) {
-        let detail = error
-            .in_text_of::<Set, Global>(alloc, b"Set { channel: 3 }")
-            .detail;
-        same(&rt, detail, Detail::Nothing, "another text");
-        let detail = error
-            .in_text_of::<Set, Global>(alloc, b"Set { channel: 3, level: -4 }")
-            .detail;
-        same(&rt, detail, Detail::Nothing, "a value's text");
+        for (case, other) in rows_of![
+            "another text" => "Set { channel: 3 }";
+            "a value's text" => "Set { channel: 3, level: -4 }";
+        ] {
+            let other = error.in_text_of::<Set, Global>(alloc, other.as_bytes());
+            same(&rt, other.detail, Detail::Nothing, case);
+        }
         let detail = error.in_text_of::<Order, Global>(alloc, text).detail;
         same(&rt, detail, Detail::Nothing, "another type");
         let detail = error.in_pretty_text_of::<Set, Global>(alloc, text).detail;
         same(&rt, detail, Detail::Nothing, "the other mode");
-        same(
-            &rt,
-            error.in_text_of::<Set, Global>(alloc, text).detail,
-            Detail::Field("channel"),
-            "itself",
-        );
+        let detail = error.in_text_of::<Set, Global>(alloc, text).detail;
+        same(&rt, detail, Detail::Field("channel"), "itself");
     }
     let error = ParseError::OutOfMemory.in_text_of::<Set, Global>(alloc, text);
     same(&rt, error, of_no_memory(), "no memory");

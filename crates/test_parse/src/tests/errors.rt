@@ -1,14 +1,10 @@
 //! Tests of how an error prints: what is expected, what is found, the line, the column, and the name of the field or the key
 //! before it. What errors of probe_model's types say is rows of tools/data/rows.
-use super::same;
+use super::{not_text, same};
 use test_rows::printed::Displayed;
 use test_rows::rows::Table;
 use test_rows::{put_rows, rows_of};
 use ufmt_parse::{Expected, ParseError, PlacedError, line_and_column};
-
-fn not_text(at: usize, expected: Expected) -> ParseError {
-    ParseError::NotText { at, expected }
-}
 
 #[test]
 fn an_error_prints_what_is_expected_and_its_place(rt: HostRuntime) {
@@ -73,12 +69,8 @@ fn each_place_has_its_words(rt: HostRuntime) {
         put_rows!(table; plain(&Displayed(placed)) => display;);
     }
     same(&rt, table.text(), Some(table.wanted()), "places");
-    same(
-        &rt,
-        line_and_column("µ€x".as_bytes(), 99),
-        (1, 4),
-        "past the end",
-    );
+    let place = line_and_column("µ€x".as_bytes(), 99);
+    same(&rt, place, (1, 4), "past the end");
 }
 
 // A name is UTF-8. What comes before it needn't be.
