@@ -47,6 +47,7 @@ fn an_error_names_what_is_expected(rt: HostRuntime) {
     for (text, display) in rows_of![
         "Switch { is_on: tru, next: None, is_lit: true }" => "expected `true` or `false`, found `tru` at line 1 column 17, after `is_on: `";
         "Switch { is_on: true, next: Some(256), is_lit: true }" => "expected a number from 0 to 255, found `256` at line 1 column 34";
+        "Switch { is_on: true, next: Nothing, is_lit: true }" => "expected a variant of `Option`, found `Nothing` at line 1 column 29, after `next: `";
         "Switch { is_on: true, next: Some(2), is_lit: yes }" => "expected `true` or `false`, found `yes` at line 1 column 46, after `is_lit: `";
     ] {
         put_rows!(table; plain(&Displayed(explain::<Switch>(alloc, text))) => display;);
@@ -64,7 +65,7 @@ fn an_error_names_what_is_expected(rt: HostRuntime) {
 }
 
 #[test]
-fn numbers_have_the_range_of_their_type(rt: HostRuntime) {
+fn types_of_std_have_details(rt: HostRuntime) {
     let alloc = rt.alloc();
     let mut table = Table::new(alloc);
     let text = "340282366920938463463374607431768211456";
@@ -81,6 +82,8 @@ fn numbers_have_the_range_of_their_type(rt: HostRuntime) {
         plain(&Displayed(explain::<i64>(alloc, "x"))) => "expected a number from -9223372036854775808 to 9223372036854775807, found `x` at line 1 column 1";
         plain(&Displayed(explain::<isize>(alloc, "x"))) => "expected a number from -9223372036854775808 to 9223372036854775807, found `x` at line 1 column 1";
         plain(&Displayed(explain::<i128>(alloc, "x"))) => "expected a number from -170141183460469231731687303715884105728 to 170141183460469231731687303715884105727, found `x` at line 1 column 1";
+        plain(&Displayed(explain::<Result<u8, bool>>(alloc, "Fine(1)"))) => "expected a variant of `Result`, found `Fine` at line 1 column 1";
+        plain(&Displayed(explain::<Result<u8, bool>>(alloc, "Err(1)"))) => "expected `true` or `false`, found `1` at line 1 column 5";
         plain(&Displayed(explain::<NonZeroU8>(alloc, "0"))) => "expected a number other than 0, found `0` at line 1 column 1";
         plain(&Displayed(explain::<NonZeroU8>(alloc, "256"))) => "expected a number from 0 to 255, found `256` at line 1 column 1";
         plain(&Displayed(explain::<char>(alloc, "x"))) => "expected a character in apostrophes, found `x` at line 1 column 1";
