@@ -62,7 +62,7 @@ def crate_of(path):
 def promised(pattern):
     """The files of the crates of this repository, but for tests. A user's crate may stand beside these."""
     ours = [path for path in sorted(CRATES.glob(pattern)) if is_ours(crate_of(path))]
-    return [path for path in ours if not {"tests", "tests.rt"} & set(path.parts)]
+    return [path for path in ours if not {"tests", "tests.rt"} & set(path.relative_to(CRATES).parts)]
 
 
 class Tree:
