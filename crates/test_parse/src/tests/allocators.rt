@@ -16,7 +16,10 @@ fn has_text<T: uDebug>(value: &T, text: &str) -> bool {
 
 // Whether a value is parsed with this allocator, and prints as the text.
 fn comes_back<'a, T: uParse<Lent<'a>>>(alloc: Lent<'a>, text: &str) -> bool {
-    parse::<T, Lent<'a>>(alloc, text.as_bytes()).is_ok_and(|value| has_text(&value, text))
+    match parse::<T, Lent<'a>>(alloc, text.as_bytes()) {
+        Ok(value) => has_text(&value, text),
+        Err(_) => false,
+    }
 }
 
 #[test]
