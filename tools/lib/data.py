@@ -4,7 +4,7 @@ A line `== NAME` begins a part, and a line that begins with `# ` tells of it. In
 digits, as everywhere in tools/data, and `%` alone is a text without a byte.
 """
 import re
-from typing import NamedTuple
+from collections import namedtuple
 from urllib.parse import unquote_to_bytes
 
 from lib.top import TOP
@@ -51,19 +51,13 @@ def text_of(row):
     return data_of(row).decode()
 
 
-# ---- The tables of tools/data/rows, whose parts say what is asked of their rows, by a name of rows/questions.py and more words.
+# ---- The tables of tools/data/rows, whose parts say what is asked of their rows, by a name of rows/step.py and more words.
 
 # What can't stand in a cell, as a space at its end, is written as in a literal of Rust: `\n`, `\u{20}`, and a byte as `\xff`.
 ESCAPE = re.compile(r"\\(?:u\{([0-9a-f]+)\}|x([0-9a-f]{2})|(.))")
-SHORT = {"n": "\n", "t": "\t", "r": "\r", "0": "\0"}
-
-
-class Row(NamedTuple):
-    """A row with its file and line, the words of its part, and its cells. A byte that isn't UTF-8 is a surrogate, as in the model."""
-
-    place: str
-    words: list
-    cells: list
+LETTERS = {"n": "\n", "t": "\t", "r": "\r", "0": "\0"}
+# A row with its file and line, the words of its part, and its cells. A byte that isn't UTF-8 is a surrogate, as in the model.
+Row = namedtuple("Row", "place words cells")
 
 
 def cell(written):
@@ -71,7 +65,7 @@ def cell(written):
         code, byte, letter = found.groups()
         if byte:
             return bytes([int(byte, 16)]).decode(errors="surrogateescape")
-        return chr(int(code, 16)) if code else SHORT.get(letter, letter)
+        return chr(int(code, 16)) if code else LETTERS.get(letter, letter)
 
     return ESCAPE.sub(decoded, written).encode(errors="surrogateescape").decode(errors="surrogateescape")
 

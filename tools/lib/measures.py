@@ -26,8 +26,7 @@ class Table:
     def __init__(self, name):
         self.path = DATA / (name + ".txt")
         self.told = self.path.relative_to(TOP)
-        lines = self.path.read_text().splitlines() if self.path.exists() else []
-        rows = (line.rpartition("\t") for line in lines if not line.startswith("#"))
+        rows = (line.rpartition("\t") for line in self.path.read_text().splitlines() if not line.startswith("#"))
         self.rows = {name: [int(count) for count in counts.split()] for name, _, counts in rows}
 
     def of(self, kind):
@@ -63,18 +62,9 @@ class Table:
                 if known is None or (not is_in if label.endswith(STEPS) else count != known):
                     yield findings.case("%s, %s" % (name, label), "%s by the table" % known, count)
 
-    def write(self, found, told):
-        """Writes the table again. `told` says what its counts are."""
-        rows = ["# %s\n" % told]
-        rows += ["%s\t%s\n" % (name, " ".join(str(count) for _, count in counts)) for name, counts in sorted(found.items())]
-        self.path.parent.mkdir(exist_ok=True)
-        self.path.write_text("".join(rows))
+    def write(self, found):
+        """Writes the rows again, below the first line, which says what the counts are."""
+        rows = ["%s\t%s" % (name, " ".join(str(count) for _, count in counts)) for name, counts in sorted(found.items())]
+        self.path.write_text("\n".join([self.path.read_text().split("\n")[0], *rows, ""]))
 
 
-def measured_again(name, found, told, is_written, faults=()):
-    """Writes a table again, or names each row whose bound left the band. Returns the status."""
-    table = Table(name)
-    if is_written:
-        table.write(found, told)
-    left = [] if is_written else table.left(found)
-    return findings.ended([*faults, *left], "%s: %d calls counted" % (name, len(found)))

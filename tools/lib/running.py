@@ -14,8 +14,7 @@ import sys
 import tempfile
 import time
 
-# How often to look, how often to say what is running, and how long a process may take to end: `rt ci` puts back what it set
-# aside.
+# How often to look, how often to say what is running, and how long a process may take to end: `rt ci` puts back what it set aside.
 LOOK, SAY, GRACE = 0.1, 60, 30
 # It is in the environment of a command for which another one says that it is running.
 INSIDE = "UFMT_X_INSIDE"
@@ -57,8 +56,7 @@ def begun(words, **how):
 
 
 def lines_of(process):
-    """The lines that a process prints on the pipe of its standard output, and None for each minute in which
-    none came."""
+    """The lines that a process prints on the pipe of its standard output, and None for each minute in which none came."""
     left, pipe = b"", process.stdout.fileno()
     while True:
         if not select.select([pipe], [], [], SAY)[0]:
@@ -86,8 +84,7 @@ def said(words, **how):
 
 
 def output_of(words, seconds=None, **how):
-    """What a command prints. If it fails, or takes longer, this one ends with what it said; what valgrind
-    said comes first."""
+    """What a command prints. If it fails, or takes longer, this one ends with what it said; what valgrind said comes first."""
     shown = " ".join(map(str, words))[:300]
     try:
         status, told = said(words, timeout=seconds, **how)
@@ -104,8 +101,7 @@ def say(line):
 
 
 def side_by_side(jobs, most):
-    """Runs these jobs, so many at a time, and yields each when it has ended. Once a minute it says which are
-    running."""
+    """Runs these jobs, so many at a time, and yields each when it has ended. Once a minute it says which are running."""
     with concurrent.futures.ThreadPoolExecutor(most) as pool:
         left = {pool.submit(job.run): job for job in jobs}
         try:

@@ -10,8 +10,8 @@ import os
 import re
 import signal
 import subprocess
+from collections import namedtuple
 from concurrent.futures import ThreadPoolExecutor
-from typing import NamedTuple
 
 from lib import findings, needs, running
 from lib.data import DATA
@@ -20,12 +20,7 @@ from lib.top import TOP, X
 MARK = "-- ended with"
 # A session that takes longer is ended.
 SECONDS = 1800
-
-
-class Command(NamedTuple):
-    place: str
-    text: list
-    printed: list
+Command = namedtuple("Command", "place text printed")
 
 
 def sessions_of(path):

@@ -4,25 +4,25 @@
 use example_parse::{Set, parse_command};
 use std::io::{self, BufRead};
 use ufmt::{Device, pieces, write_line};
-use ufmt_parse::ParseError;
 
 fn main(rt: HostRuntime) -> io::Result<()> {
     let mut line = String::new(rt.alloc());
     let mut input = io::BufReader::new(rt.alloc(), rt.reader())?;
     let _length = input.read_line(&mut line)?;
+    let text = line.trim_end().as_bytes();
     let mut output = Device::new(io::writer(&rt));
-    match parse_command(line.trim_end().as_bytes()) {
+    match parse_command(text) {
         Ok(Set { channel, level }) => {
             let line =
                 pieces!(text "channel ", debug channel, text " is set to ", debug level, text "\n");
             write_line(&mut output, &line)
         }
-        Err(ParseError::NotText { at, expected }) => {
+        Err(error) => {
+            let reason = error.in_text_of::<Set, ()>((), text);
             write_line(
                 &mut output,
-                &pieces!(text "not a setting: expected ", display expected, text " at byte ", debug at, text "\n"),
+                &pieces!(text "not a setting: ", display reason, text "\n"),
             )
         }
-        Err(ParseError::OutOfMemory) => Err(io::Error::from(io::ErrorKind::OutOfMemory)),
     }
 }

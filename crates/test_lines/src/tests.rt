@@ -2,6 +2,7 @@
 //! rustc prints too, where pieces end, what a failing writer leaves, and that each call can succeed.
 mod asserts;
 mod columns;
+mod counting;
 mod cursors;
 mod cuts;
 mod decimals;

@@ -19,15 +19,13 @@ macro_rules! all_read {
 mod allocators;
 mod by_parsers;
 mod decimals;
+mod details;
 mod enums;
 mod errors;
 mod field_counts;
 mod field_kinds;
-mod found;
 mod laws;
 mod names;
-mod names_before;
-mod places;
 mod round_trips;
 mod std_types;
 mod structs;
@@ -37,11 +35,15 @@ use std::alloc::{AllocError, Global};
 use std::fmt::Debug;
 use std::process::Abort;
 use ufmt::{plain_text, pretty_text};
-use ufmt_parse::{ParseError, parse, parse_pretty, uParse};
+use ufmt_parse::{Expected, ParseError, parse, parse_pretty, uParse};
 
 // Checking one `assert_eq!` takes as long as checking twenty calls, so tests call this function instead.
 pub fn same<T: PartialEq + Debug + Drop>(rt: &impl Abort, given: T, wanted: T, case: &str) {
     assert_eq!(rt; given, wanted, "{case}");
+}
+
+pub fn not_text(at: usize, expected: Expected) -> ParseError {
+    ParseError::NotText { at, expected }
 }
 
 // Returns the first text that isn't parsed as it should be. Each text of `taken` should come back, as `comes_back` says. Each
@@ -67,19 +69,14 @@ pub fn first_wrong<'a, T: uParse<Global>>(
 
 // Whether the plain text is parsed, and the value, printed pretty and parsed again, has the same plain text.
 fn comes_back<T: uParse<Global>>(alloc: Global, text: &str) -> bool {
-    let Ok(value) = parse::<T, Global>(alloc, text.as_bytes()) else {
-        return false;
-    };
-    let Ok(pretty) = pretty_text(alloc, &value) else {
-        return false;
-    };
-    let Ok(value) = parse_pretty::<T, Global>(alloc, pretty.as_bytes()) else {
-        return false;
-    };
-    match plain_text(alloc, &value) {
-        Ok(printed) => printed.as_str() == text,
-        Err(_) => false,
-    }
+    again::<T>(alloc, text).is_some_and(|printed| printed.as_str() == text)
+}
+
+fn again<T: uParse<Global>>(alloc: Global, text: &str) -> Option<String> {
+    let value = parse::<T, Global>(alloc, text.as_bytes()).ok()?;
+    let pretty = pretty_text(alloc, &value).ok()?;
+    let value = parse_pretty::<T, Global>(alloc, pretty.as_bytes()).ok()?;
+    plain_text(alloc, &value).ok()
 }
 
 // Returns the first text whose outcome isn't the one beside it. An outcome is the place where the text stops fitting, with

@@ -1,8 +1,9 @@
 //! Values that a row prints, by `uDebug` or by another call.
 ghost use Rattle.std.specs.Prelude.{◌<◌};
 
+use ufmt::pieces::InColumn;
 use ufmt::{
-    Align, Column, Decimal, Formatter, HexOptions, Radix, uDebug, uDisplay, uDisplayHex,
+    Align, Column, Decimal, Formatter, HexOptions, Line, Radix, uDebug, uDisplay, uDisplayHex,
     uDisplayRadix, uDisplayZeros, uWrite,
 };
 
@@ -24,6 +25,10 @@ pub const BITS: HexOptions = HexOptions {
 
 pub fn column(align: Align, fill: char, width: usize) -> Column {
     Column { width, align, fill }
+}
+
+pub fn in_column<M>(mark: M, column: Column) -> InColumn<M> {
+    InColumn { mark, column }
 }
 
 pub fn decimal(value: i64, places: u8) -> Decimal {
@@ -48,6 +53,16 @@ pub struct Displayed<T>(pub T);
 impl<T: uDisplay> Printed for Displayed<T> {
     fn print<W: uWrite>(&self, f: &mut Formatter<W>) -> Result<(), W::Error> {
         self.0.fmt(f)
+    }
+}
+
+/// Prints a line, in either mode.
+#[derive(Drop)]
+pub struct PrintedLine<L>(pub L);
+
+impl<L: Line> Printed for PrintedLine<L> {
+    fn print<W: uWrite>(&self, f: &mut Formatter<W>) -> Result<(), W::Error> {
+        self.0.print(f)
     }
 }
 

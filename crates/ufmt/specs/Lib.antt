@@ -23,6 +23,7 @@ pub use Rattle.ufmt_core.specs.FloatText
 pub use Rattle.ufmt_core.specs.Formatter
 pub use Rattle.ufmt_core.specs.Layout
 pub use Rattle.ufmt_core.specs.Quoted
+pub use Rattle.ufmt_core.specs.Ranges
 pub use Rattle.ufmt_core.specs.Shift
 pub use Rattle.ufmt_core.specs.ValueDocuments
 pub use Rattle.ufmt_core.specs.Writes

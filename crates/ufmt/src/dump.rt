@@ -1,4 +1,4 @@
-//! Hexadecimal dumps of bytes, as `xxd` prints them.
+//! Hexadecimal dumps of bytes.
 ghost use Rattle.std.specs.Prelude.{◌≡◌, ◌+◌, ◌-◌, ◌*◌, ◌/◌, ◌^◌, ◌<◌, ◌≤◌, ◌==◌, ◌++◌, ◌∷◌, if◌then◌else◌, length, map, replicate, is_ok};
 ghost use Rattle.ufmt_core.specs.Bytes.{space};
 ghost use Rattle.ufmt_core.specs.Writes.{Writes};

@@ -25,7 +25,7 @@ pub trait uDisplayFixed {
         W: uWrite,
         ensures { Prints W.seen f.old (fixed_text self.now decimals) (is_ok result) f.new };
 
-    /// Returns how many characters the float's text has less than this width.
+    /// Returns how many characters the float's text lacks up to this width.
     fn missing_fixed(&self, decimals: usize, width: usize) -> usize
         ensures { result ≡ width - char_count (fixed_text self.now decimals) };
 }
@@ -82,7 +82,7 @@ impl<T: uDisplayFixed> uDisplayFixed for &mut T {
     }
 }
 
-/// A float with a number of decimals, as a value: for a field, or an item. `Fixed { value: 2.5, decimals: 2 }`
+/// A float with a number of decimals, as a value, for use in a field or a list. `Fixed { value: 2.5, decimals: 2 }`
 /// prints `2.50`.
 #[derive(Clone, Copy, Debug, PartialEq, Drop)]
 pub struct Fixed<T> {

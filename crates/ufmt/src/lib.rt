@@ -1,6 +1,6 @@
 #![tactic(auto, using(ufmt_core::specs::Formatter::lays_out))]
 
-//! Formatting without `core::fmt`. A user names this crate only: it has all of `ufmt_core` too.
+//! Formatting without `core::fmt`. This is the only crate that a user needs: it re-exports `ufmt_core`.
 
 mod column;
 mod cut;

@@ -63,7 +63,7 @@ impl<'a> Truncating<'a> {
         self.is_cut
     }
 
-    /// Returns how many more bytes are taken: after a cut none.
+    /// Returns how many more bytes fit, or 0 after a cut.
     pub fn remaining(&self) -> usize
         ensures count { result ≡ remaining_count self.now }
         ensures whole { has_cut self.now ≡ false

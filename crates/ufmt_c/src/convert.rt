@@ -19,8 +19,8 @@ use ufmt_scan::valid_up_to;
 // isn't a text, with the place in `detail`. `ufmt_unquote` undoes `ufmt_quote`, and `ufmt_unquote_debug` reads
 // each escape of Rust, too. Where they fail, they say how much of the input is right. Also: `ufmt_is_text`,
 // `ufmt_unquote`, `ufmt_unquote_debug`.
-// Promise (programs): If bytes aren't UTF-8, a call from C says how many at the front are. Such bytes and
-// meaningless options change nothing. Also: `ufmt_quote`.
+// Promise (programs): If bytes aren't UTF-8, a call from C says how many at the front are. For such bytes
+// and for meaningless options the buffer stays as it was. Also: `ufmt_quote`.
 /// Writes the text in the mode `to` of the documents of the class with this text in the other mode. Returns
 /// `BAD_OPTION` if there is no such class or mode, and else `NO_TEXT` only if no document of the class has
 /// it. Then `detail` becomes the number of bytes at the input's front that were read before the piece that

@@ -186,7 +186,7 @@ impl<N: StructName> Tree<N> {
     }
 
     /// Returns what is between the quotes of a leaf, with its escapes decoded, if the leaf is one text or
-    /// character in quotes, spelled as `uDebug` does. Returns `None` of any other leaf, as `1.5`, `b"x"`,
+    /// character in quotes, spelled as `uDebug` does. Returns `None` for any other leaf, such as `1.5`, `b"x"`,
     /// `"a".."b"` and `"\u{301}"`, and of a block. Fails only if memory runs out.
     pub fn unquoted(&self, alloc: Global) -> Result<Option<String>, AllocError>
         ensures { IfOk result (λ outcome. Unquotes (tree_document N.shown self.now) outcome) }

@@ -156,12 +156,11 @@ FoundPlain Good text f s make t d u = FoundEntries Good text [] ⊥ f s make t d
 
 pub plain_whole : {A : Type 0} {Good : A → Type 0} {text : A → List ℕ} {f : Frame} {s : Setting} {make : Rest A → Document} {t : List ℕ} {d : Document} {u : List ℕ}
     → (h : FoundPlain Good text f s make t d u) → lead f (inside s) Zero ++ t ≡ block_tail f s Zero (map text (h.first ∷ h.others)) ++ u
-plain_whole {text = text} {f = f} {s = s} {t = t} {u = u} h = go h.in_dots h.may h.whole
-  where
-    go : (b : Bool) → MayEnd ⊥ b → lead f (inside s) Zero ++ t ≡ rest_text f s [] Zero (map text (h.first ∷ h.others)) b ++ u
-        → lead f (inside s) Zero ++ t ≡ block_tail f s Zero (map text (h.first ∷ h.others)) ++ u
-    go false may whole = whole ∙ ap (λ w. w ++ u) (rest_text-false f s [] Zero (map text (h.first ∷ h.others)))
-    go true may whole = absurd may
+plain_whole {text = text} {f = f} {s = s} {t = t} {u = u} h = (elim h.in_dots as (λ b. MayEnd ⊥ b → lead f (inside s) Zero ++ t ≡ rest_text f s [] Zero (map text (h.first ∷ h.others)) b ++ u
+    → lead f (inside s) Zero ++ t ≡ block_tail f s Zero (map text (h.first ∷ h.others)) ++ u) [
+      | false ↦ λ may whole. whole ∙ ap (λ w. w ++ u) (rest_text-false f s [] Zero (map text (h.first ∷ h.others)))
+      | true ↦ λ may whole. absurd may
+    ]) h.may h.whole
 
 first_whole : (start t v text after left u : List ℕ) → t ≡ text ++ v → v ≡ after ++ (left ++ u) → start ++ t ≡ (start ++ (text ++ (after ++ left))) ++ u
 first_whole start t v text after left u a b = rw (a, b) (sym (entry_assoc start text after left u))

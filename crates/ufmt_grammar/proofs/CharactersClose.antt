@@ -1,16 +1,16 @@
 -- A character between apostrophes is found closed, however it is spelled: so each token document's characters are quotes of a debug document.
-use Rattle.std.proofs.Common.{◌≡◌, ◌⊎◌, inl, inr, refl, sym, ap, ◌∙◌, ℕ, ◌+◌, ◌/◌, ◌%◌, ◌<◌, ◌≤◌, ◌==◌, ◌||◌, nat_lt, cond, Bool, true, false, List, [], ◌∷◌, ◌++◌, codes, append-nil, append_assoc, encode_utf8, arith}
+use Rattle.std.proofs.Common.{◌≡◌, ◌⊎◌, inl, inr, refl, sym, ap, ◌∙◌, ℕ, ◌+◌, ◌/◌, ◌%◌, ◌<◌, ◌≤◌, ◌==◌, nat_lt, Bool, true, false, List, [], ◌∷◌, ◌++◌, codes, append-nil, append_assoc, encode_utf8, arith, ◌||◌}
 use borrow.Author.Tests.{ltb-true}
 use lib.Utf8.{encode, next}
 use Rattle.std.specs.Prelude.{unwrap_or}
 use Rattle.std.specs.Char.{digit_char}
 use Rattle.std.specs.Str.{encode_utf8_all}
-use Rattle.std.proofs.lemmas.Bool.{cases_lt}
+use Rattle.std.proofs.lemmas.Bool.{cases_lt, cases_Bool}
 use Rattle.std.proofs.lemmas.Bool.Decides.{nat_tests}
 use Rattle.std.proofs.lemmas.Str.{encode_ascii}
 use Rattle.ufmt_core.proofs.QuotedBytes.{escape-past_ascii}
 use Rattle.ufmt_core.proofs.QuotedCharacters.{escaped_all-bytes}
-use Rattle.ufmt_core.specs.Bytes.{apostrophe, backslash, closing_brace, opening_brace}
+use Rattle.ufmt_core.specs.Bytes.{apostrophe, backslash, closing_brace}
 use Rattle.ufmt_core.specs.Quoted.{escape, escaped, escaped_byte, escaped_bytes, hex_digits}
 use Rattle.ufmt_grammar.specs.Leaves.{begins_with, is_character_closed, is_continuation, is_control, is_escape_byte, past}
 use Rattle.ufmt_grammar.proofs.QuotedDecoded.{each_row}
@@ -26,12 +26,7 @@ digits_past b true short low = rw (short, digit_is_escape_byte b (ltb-true b 16 
 digits_past b false short low = rw (short, digit_is_escape_byte (b / 16) (omega arith), digit_is_escape_byte (b % 16) (omega arith)) refl
 
 plain_closes : (b : ℕ) → is_control b ≡ false → (b == backslash || b == apostrophe) ≡ false → is_character_closed (b ∷ apostrophe ∷ []) ≡ true
-plain_closes b no_control itself = go (b == backslash) (b == apostrophe) refl refl itself
-  where
-    go : (escapes same : Bool) → (b == backslash) ≡ escapes → (b == apostrophe) ≡ same → escapes || same ≡ false → is_character_closed (b ∷ apostrophe ∷ []) ≡ true
-    go true same e f h = absurd (cc)
-    go false true e f h = absurd (cc)
-    go false false e f h = rw (e, f, no_control) refl
+plain_closes b no_control itself = grind (arith, nat_tests)
 
 byte_closes : (b : ℕ) → is_character_closed (escaped_byte apostrophe b ++ (apostrophe ∷ [])) ≡ true
 byte_closes b = each_row apostrophe b (λ n e. is_character_closed (e ++ (apostrophe ∷ [])) ≡ true) refl refl refl refl itself
@@ -70,7 +65,12 @@ three_more_close c = one_more (c / 4096) (next (c / 64) ∷ next c ∷ apostroph
 
 encoded_closes : (c : ℕ) → 128 ≤ c → is_character_closed (encode_utf8 c ++ (apostrophe ∷ [])) ≡ true
 unfolding encode
-encoded_closes c high = go (nat_lt c 128) refl (nat_lt c 2048) (nat_lt c 65536)
+encoded_closes c high =
+    let long : nat_lt c 128 ≡ false = grind (arith, nat_tests) in
+    elim (cases_Bool (nat_lt c 2048)) [
+      | inl less ↦ rw (long, less) two
+      | inr more ↦ elim (cases_Bool (nat_lt c 65536)) [ inl less ↦ rw (long, more, less) three | inr most ↦ rw (long, more, most) four ]
+    ]
   where
     two : is_character_closed ((192 + c / 64) ∷ next c ∷ apostrophe ∷ []) ≡ true
     two = leads (192 + c / 64) (next c ∷ apostrophe ∷ []) (omega arith) (one_more_closes c)
@@ -80,14 +80,6 @@ encoded_closes c high = go (nat_lt c 128) refl (nat_lt c 2048) (nat_lt c 65536)
 
     four : is_character_closed ((240 + c / 262144) ∷ next (c / 4096) ∷ next (c / 64) ∷ next c ∷ apostrophe ∷ []) ≡ true
     four = leads (240 + c / 262144) (next (c / 4096) ∷ next (c / 64) ∷ next c ∷ apostrophe ∷ []) (omega arith) (three_more_close c)
-
-    go : (x : Bool) → nat_lt c 128 ≡ x → (y z : Bool)
-        → is_character_closed (cond x (c ∷ []) (cond y ((192 + c / 64) ∷ next c ∷ []) (cond z ((224 + c / 4096) ∷ next (c / 64) ∷ next c ∷ []) ((240 + c / 262144) ∷ next (c / 4096) ∷ next (c / 64) ∷ next c ∷ [])))
-        ++ (apostrophe ∷ [])) ≡ true
-    go true one y z = absurd (omega (arith, ltb-true c 128 one))
-    go false one true z = two
-    go false one false true = three
-    go false one false false = four
 
 -- ---- any character
 

@@ -1,5 +1,6 @@
 -- Names and leaves of each class: how they begin, that each is read, and that only they are read as names and leaves.
-use Rattle.std.proofs.Common.{◌≡◌, ◌≢◌, ◌⊎◌, inl, inr, refl, ap, sym, ◌∙◌, subst, ℕ, ◌==◌, ◌&&◌, not, Bool, true, false, cond, List, [], ◌∷◌, ◌++◌, Option, Some, None, codes, append_assoc, eqb-true, arith}
+use Rattle.std.proofs.Common.{◌≡◌, ◌≢◌, inl, inr, refl, ap, sym, ◌∙◌, subst, ℕ, ◌==◌, ◌&&◌, not, true, false, List, [], ◌∷◌, ◌++◌, Option, Some, None, codes, append_assoc, eqb-true, arith}
+use Rattle.std.proofs.lemmas.Bool.{cases_Bool, false_from_ne_true, not-true}
 use Rattle.std.specs.Prelude.{⊤}
 use Rattle.std.specs.Str.{is_utf8}
 use Rattle.std.proofs.lemmas.Str.{IsUtf8-from_ascii, is_utf8-from_IsUtf8}
@@ -16,7 +17,7 @@ use Rattle.ufmt_grammar.proofs.Parsing.{chosen_from, same_parts, strip_found}
 use Rattle.ufmt_grammar.proofs.QuotedComplete.{read_quoted-complete}
 use Rattle.ufmt_grammar.proofs.QuotedSound.{read_quoted-sound}
 use Rattle.ufmt_grammar.proofs.ReadingWords.{StopsWord, each_closer, each_ender, no_ender, ender_closes, follower_stops, words_whole, word_of_bytes, word_of-append, after_word-append, word_bytes}
-use Rattle.ufmt_grammar.proofs.DebugLeaves.{StopsLeaf, follower_stops_leaf, follower_unspaced, leaf_from-append, after_leaf-append, leaves_whole, last_is_outside, front_ends_leaf, leaf_no_ender, some_begun}
+use Rattle.ufmt_grammar.proofs.DebugLeaves.{StopsLeaf, both, follower_stops_leaf, follower_unspaced, leaf_from-append, after_leaf-append, leaves_whole, last_is_outside, front_ends_leaf, leaf_no_ender, some_begun}
 
 -- the text has a first byte, which is no comma and no closing bracket
 pub record Begins (text : List ℕ) : Type 0 where
@@ -33,13 +34,12 @@ word_begins [] h = absurd h
 word_begins (c ∷ w) h = record { first = c; tail = w; is = refl; no_ender = no_ender is_word_byte refl refl refl refl c h.0 }
 
 token_begins : (text : List ℕ) → IsTokenLeaf text → Begins text
-token_begins text h = go h.shape
-  where
-    go : IsWord text ⊎ IsSymbol text → Begins text
-    go (inl w) = word_begins text w
-    go (inr (inl e)) = record { first = opening_parenthesis; tail = codes ")"; is = e; no_ender = refl }
-    go (inr (inr (inl of_text))) = record { first = quotation_mark; tail = escaped_all quotation_mark of_text.0 ++ (quotation_mark ∷ []); is = of_text.2; no_ender = refl }
-    go (inr (inr (inr of_char))) = record { first = apostrophe; tail = escaped_all apostrophe (of_char.0 ∷ []) ++ (apostrophe ∷ []); is = of_char.2; no_ender = refl }
+token_begins text h = elim h.shape [
+  | inl w ↦ word_begins text w
+  | inr (inl e) ↦ record { first = opening_parenthesis; tail = codes ")"; is = e; no_ender = refl }
+  | inr (inr (inl of_text)) ↦ record { first = quotation_mark; tail = escaped_all quotation_mark of_text.0 ++ (quotation_mark ∷ []); is = of_text.2; no_ender = refl }
+  | inr (inr (inr of_char)) ↦ record { first = apostrophe; tail = escaped_all apostrophe (of_char.0 ∷ []) ++ (apostrophe ∷ []); is = of_char.2; no_ender = refl }
+]
 
 debug_begins : (text : List ℕ) → IsDebugLeaf text → Begins text
 debug_begins [] h = absurd (h.some refl)
@@ -55,11 +55,7 @@ leaf_begins Debug text h = debug_begins text h
 
 -- so it begins with no given one of these
 pub begins_no : {t : List ℕ} → Begins t → (c : ℕ) → is_ender c ≡ true → begins_with c t ≡ false
-begins_no {t} b c ends = ap (begins_with c) b.is ∙ go (b.first == c) refl
-  where
-    go : (same : Bool) → (b.first == c) ≡ same → (b.first == c) ≡ false
-    go false e = e
-    go true e = let ender = subst (λ x. is_ender x ≡ true) (sym (eqb-true b.first c e)) ends in let none = b.no_ender in absurd (cc)
+begins_no {t} b c ends = ap (begins_with c) b.is ∙ false_from_ne_true (b.first == c) (λ e. let none = subst (λ x. is_ender x ≡ false) (eqb-true b.first c e) b.no_ender in cc (ends, none))
 
 pub name_some : (class : Class) → IsName class [] → ⊥
 name_some Token h = h
@@ -185,10 +181,6 @@ bytes_are_word : (w : List ℕ) → IsWordOrEmpty w → w ≢ [] → IsWord w
 bytes_are_word [] h some = absurd (some refl)
 bytes_are_word (c ∷ w) h some = h
 
-both : (a b : Bool) → a && b ≡ true → (a ≡ true) × (b ≡ true)
-both true b h = (refl, h)
-both false b h = absurd (cc)
-
 pub front_is : (class : Class) (t : List ℕ) → IsFrontOf class (front_of class t)
 front_is Token t = record {
   leaf = λ some whole. record { shape = inl (bytes_are_word (word_of t) (word_of_bytes t) some) };
@@ -198,7 +190,7 @@ front_is Debug t = record {
   leaf = λ some whole. text some whole;
   name = λ some whole name.
       let parts = both (has_name_bytes front) (not (ends_in_colon front)) name in
-      record { whole = text some whole; bytes = parts.0; ends = ends (ends_in_colon front) refl parts.1 };
+      record { whole = text some whole; bytes = parts.0; ends = not-true (ends_in_colon front) parts.1 };
 }
   where
     front : List ℕ
@@ -208,10 +200,6 @@ front_is Debug t = record {
     text some whole =
         let parts = both (is_outside (last_place beginning front)) (is_utf8 front) whole in
         record { some = some; pieces = front_ends_leaf beginning t parts.0; utf8 = parts.1 }
-
-    ends : (b : Bool) → ends_in_colon front ≡ b → not (ends_in_colon front) ≡ true → ends_in_colon front ≡ false
-    ends false e h = e
-    ends true e h = absurd (cc)
 
 pub nothing_is_whole : (class : Class) → is_whole class [] ≡ true
 nothing_is_whole Token = refl
@@ -230,15 +218,13 @@ read_name_complete class w u h stops =
 
 if_name_sound : (class : Class) (a b w u : List ℕ) → IsFrontOf class a → if_name class a b ≡ Some (w, u) → IsName class w × (a ++ b ≡ w ++ u)
 if_name_sound class [] b w u front h = absurd (cc)
-if_name_sound class (c ∷ a) b w u front h = go (is_whole class (c ∷ a)) (is_name class (c ∷ a)) refl refl h
-  where
-    go : (whole name : Bool) → is_whole class (c ∷ a) ≡ whole → is_name class (c ∷ a) ≡ name
-        → cond {A = Option (List ℕ × List ℕ)} (whole && name) (Some (c ∷ a, b)) None ≡ Some (w, u) → IsName class w × (c ∷ (a ++ b) ≡ w ++ u)
-    go true true e f h =
-        let parts = same_parts {A = List ℕ} {B = List ℕ} (c ∷ a, b) (w, u) h in
-        (subst (IsName class) parts.0 (front.name (λ none. absurd (cc)) e f), cc)
-    go true false e f h = absurd (cc)
-    go false name e f h = absurd (cc)
+if_name_sound class (c ∷ a) b w u front h = elim (cases_Bool (is_whole class (c ∷ a) && is_name class (c ∷ a))) [
+  | inl e ↦
+      let is = both (is_whole class (c ∷ a)) (is_name class (c ∷ a)) e in
+      let parts = same_parts {A = List ℕ} {B = List ℕ} (c ∷ a, b) (w, u) (rw e at h) in
+      (subst (IsName class) parts.0 (front.name (λ none. absurd (cc)) is.0 is.1), cc)
+  | inr e ↦ let none = rw e at h in absurd (cc)
+]
 
 pub read_name_sound : (class : Class) (t w u : List ℕ) → read_name class t ≡ Some (w, u) → IsName class w × (t ≡ w ++ u)
 read_name_sound class t w u h =
@@ -298,11 +284,10 @@ only_name class s p (c ∷ w) u some follows = rw (
 -- a symbol of a token document is read, whatever follows it
 pub read_symbol_complete : (text u : List ℕ) → IsSymbol text → read_symbol Token (text ++ u) ≡ Some (text, u)
 read_symbol_complete text u (inl unit) = rw unit refl
-read_symbol_complete text u (inr quoted) = go quoted (read_quoted-complete text u quoted)
-  where
-    go : IsQuoted text → read_quoted (text ++ u) ≡ Some (text, u) → read_symbol Token (text ++ u) ≡ Some (text, u)
-    go (inl of_text) reads = rw of_text.2 (ap (λ t. read_quoted (t ++ u)) (sym of_text.2) ∙ reads ∙ ap (λ t. Some (t, u)) of_text.2)
-    go (inr of_char) reads = rw of_char.2 (ap (λ t. read_quoted (t ++ u)) (sym of_char.2) ∙ reads ∙ ap (λ t. Some (t, u)) of_char.2)
+read_symbol_complete text u (inr quoted) = let reads = read_quoted-complete text u quoted in elim quoted [
+  | inl of_text ↦ rw of_text.2 (ap (λ t. read_quoted (t ++ u)) (sym of_text.2) ∙ reads ∙ ap (λ t. Some (t, u)) of_text.2)
+  | inr of_char ↦ rw of_char.2 (ap (λ t. read_quoted (t ++ u)) (sym of_char.2) ∙ reads ∙ ap (λ t. Some (t, u)) of_char.2)
+]
 
 -- reading a text that begins with a symbol tries `read_symbol` first
 symbol_first : (s : Setting) (p : Parse Document) (text u : List ℕ) → IsSymbol text
@@ -312,23 +297,17 @@ symbol_first s p text u (inr (inl of_text)) = rw of_text.2 refl
 symbol_first s p text u (inr (inr of_char)) = rw of_char.2 refl
 
 token_complete : (s : Setting) (p : Parse Document) (text u : List ℕ) → IsTokenLeaf text → IsFollower u → read_with Token s p (text ++ u) ≡ Some (leaf text, u)
-token_complete s p text u h follows = go h.shape
-  where
-    go : IsWord text ⊎ IsSymbol text → read_with Token s p (text ++ u) ≡ Some (leaf text, u)
-    go (inl w) = at_name Token s p text u w (follower_stops u follows) ∙ only_name Token s p text u (λ none. absurd (subst IsWord none w)) follows
-    go (inr symbol) = symbol_first s p text u symbol
-        ∙ ap (λ o. choose o (λ x. Some (leaf x.0, x.1)) (read_unnamed s p (text ++ u))) (read_symbol_complete text u symbol)
+token_complete s p text u h follows = elim h.shape [
+  | inl w ↦ at_name Token s p text u w (follower_stops u follows) ∙ only_name Token s p text u (λ none. absurd (subst IsWord none w)) follows
+  | inr symbol ↦ symbol_first s p text u symbol ∙ ap (λ o. choose o (λ x. Some (leaf x.0, x.1)) (read_unnamed s p (text ++ u))) (read_symbol_complete text u symbol)
+]
 
 debug_complete : (s : Setting) (p : Parse Document) (text u : List ℕ) → IsDebugLeaf text → IsDebugFollower u
     → read_with Debug s p (text ++ u) ≡ Some (leaf text, u)
 debug_complete s p [] u h follows = absurd (h.some refl)
 debug_complete s p (c ∷ text) u h follows =
     let fronts = text_fronts (c ∷ text) u h (follower_stops_leaf u follows) (λ ends. follower_unspaced u follows) in
-    rw (fronts.front, fronts.after) (rw fronts.whole (go (is_name Debug (c ∷ text))))
-  where
-    go : (b : Bool) → cond b (read_named Debug s p (c ∷ text) u) (Some (leaf (c ∷ text), u)) ≡ Some (leaf (c ∷ text), u)
-    go true = only_name Debug s p (c ∷ text) u h.some follows
-    go false = refl
+    rw (fronts.front, fronts.after) (rw fronts.whole (elim (cases_Bool (is_name Debug (c ∷ text))) [ inl name ↦ rw name (only_name Debug s p (c ∷ text) u h.some follows) | inr other ↦ rw other refl ]))
 
 pub leaf_complete : (class : Class) (s : Setting) (p : Parse Document) (text u : List ℕ) → IsLeaf class text → MayFollow class u
     → read_with class s p (text ++ u) ≡ Some (leaf text, u)
@@ -362,10 +341,9 @@ pub symbol_is_leaf : (class : Class) (t text u : List ℕ) → read_symbol class
 symbol_is_leaf Token t text u h =
     let found = read_symbol_sound t text u h in
     (record { shape = inr found.0 }, found.1)
-symbol_is_leaf Debug t text u h = go (strip (codes "()") t) refl h
-  where
-    go : (o : Option (List ℕ)) → strip (codes "()") t ≡ o → choose {B = Option (List ℕ × List ℕ)} o (λ v. Some (codes "()", v)) None ≡ Some (text, u) → IsLeaf Debug text × (t ≡ text ++ u)
-    go None e h = absurd (cc)
-    go (Some v) e h =
-        let parts = same_parts {A = List ℕ} {B = List ℕ} (codes "()", v) (text, u) h in
-        (subst IsDebugLeaf parts.0 (unit_leaf Debug), strip_found (codes "()") t v e ∙ ap (λ w. codes "()" ++ w) parts.1 ∙ ap (λ w. w ++ u) parts.0)
+symbol_is_leaf Debug t text u h = elim (chosen_from {B = Option (List ℕ × List ℕ)} (strip (codes "()") t) (λ v. Some (codes "()", v)) None (Some (text, u)) h) [
+  | inl unit ↦
+      let parts = same_parts {A = List ℕ} {B = List ℕ} (codes "()", unit.0) (text, u) unit.2 in
+      (subst IsDebugLeaf parts.0 (unit_leaf Debug), strip_found (codes "()") t unit.0 unit.1 ∙ ap (λ w. codes "()" ++ w) parts.1 ∙ ap (λ w. w ++ u) parts.0)
+  | inr none ↦ absurd (cc)
+]

@@ -11,7 +11,7 @@ use Rattle.ufmt_core.specs.Bytes.{apostrophe, backslash, closing_brace, colon, o
 use Rattle.ufmt_core.specs.Quoted.{IsQuote, escaped_byte, escaped_bytes, hex_digits, quoted}
 use Rattle.ufmt_core.specs.Document.{Document, leaf, joined, list_of, set_of, map_of, struct_of, non_exhaustive_of, tuple_of, pretty_part, Documents, no_documents, first_document, Pairs, no_pairs, first_pair, Fields, no_fields, first_field}
 use Rattle.ufmt_grammar.specs.Token.{Token, Debug, IsWord, IsWordOrEmpty, OrEmpty, IsName, IsLeaf, IsBuilt, AreBuilt, PairsAreBuilt, FieldsAreBuilt}
-use Rattle.ufmt_grammar.specs.Leaves.{is_word_byte, is_debug_byte, is_control, is_in_word, has_name_bytes, ends_in_colon, opens_quotes, beginning, outside, after_quotes, between, after_backslash, place_after, EndsLeaf, IsSymbol, IsTokenLeaf, IsDebugLeaf, IsDebugWord}
+use Rattle.ufmt_grammar.specs.Leaves.{is_word_byte, is_debug_byte, is_control, is_in_word, has_name_bytes, ends_in_colon, opens_quotes, beginning, outside, after_quotes, between, after_backslash, place_after, EndsLeaf, IsTokenLeaf, IsDebugLeaf, IsDebugWord}
 use Rattle.ufmt_grammar.specs.ReadingLaws.{TokensAreDebug}
 use Rattle.ufmt_grammar.proofs.CharactersClose.{bytes_close}
 use Rattle.ufmt_grammar.proofs.ClassLeaves.{unit_leaf}
@@ -95,11 +95,7 @@ module _ (q : ℕ) (quote : IsQuote q) where
 
   -- a backslash takes the next byte with it
   escape_ends : (x : ℕ) (t : List ℕ) → (is_control x || nat_le 128 x) ≡ false → EndsLeaf (between q) t → EndsLeaf (between q) (backslash ∷ x ∷ t)
-  escape_ends x t plain rest = (after_backslash q, go quote, (between q, rw plain refl, rest))
-    where
-      go : IsQuote q → place_after (between q) backslash (x ∷ t) ≡ Some (after_backslash q)
-      go (inl e) = rw e refl
-      go (inr e) = rw e refl
+  escape_ends x t plain rest = (after_backslash q, elim quote [ inl e ↦ rw e refl | inr e ↦ rw e refl ], (between q, rw plain refl, rest))
 
   -- a property of each quote holds of this one
   of_quote : (P : ℕ → Type 0) → P quotation_mark → P apostrophe → P q
@@ -163,13 +159,12 @@ module _ (q : ℕ) (quote : IsQuote q) where
 -- ---- documents
 
 leaf_is_debug : (text : List ℕ) → IsTokenLeaf text → IsLeaf Debug text
-leaf_is_debug text h = go h.shape
-  where
-    go : IsWord text ⊎ IsSymbol text → IsLeaf Debug text
-    go (inl w) = word_is_text text w
-    go (inr (inl unit)) = subst IsDebugLeaf (sym unit) (unit_leaf Debug)
-    go (inr (inr (inl of_text))) = subst IsDebugLeaf (sym of_text.2) (quoted_is_text quotation_mark (inl refl) of_text.0 of_text.1 refl)
-    go (inr (inr (inr of_char))) = subst IsDebugLeaf (sym of_char.2) (quoted_is_text apostrophe (inr refl) (of_char.0 ∷ []) (rw of_char.1 refl) (bytes_close of_char.0))
+leaf_is_debug text h = elim h.shape [
+  | inl w ↦ word_is_text text w
+  | inr (inl unit) ↦ subst IsDebugLeaf (sym unit) (unit_leaf Debug)
+  | inr (inr (inl of_text)) ↦ subst IsDebugLeaf (sym of_text.2) (quoted_is_text quotation_mark (inl refl) of_text.0 of_text.1 refl)
+  | inr (inr (inr of_char)) ↦ subst IsDebugLeaf (sym of_char.2) (quoted_is_text apostrophe (inr refl) (of_char.0 ∷ []) (rw of_char.1 refl) (bytes_close of_char.0))
+]
 
 name_is_debug : (w : List ℕ) → OrEmpty (IsName Token) w → OrEmpty (IsName Debug) w
 name_is_debug [] h = tt

@@ -1,8 +1,9 @@
 -- In each frame, the ending of a block differs from another entry, and an empty block from a block with entries.
-use Rattle.std.proofs.Common.{◌≡◌, ◌≢◌, refl, ap, sym, ◌∙◌, ℕ, zero, suc, ◌≤◌, ◌+◌, min, ◌==◌, Bool, true, false, List, [], ◌∷◌, ◌++◌, None, codes, eqb-true, arith}
+use Rattle.std.proofs.Common.{◌≡◌, ◌≢◌, refl, ap, sym, ◌∙◌, ℕ, zero, suc, ◌≤◌, ◌+◌, min, ◌==◌, true, false, List, [], ◌∷◌, ◌++◌, None, codes, eqb-true, arith}
+use Rattle.std.proofs.lemmas.Bool.{false_from_ne_true}
 use Rattle.std.specs.Prelude.{⊤}
 use Rattle.ufmt_core.specs.Bytes.{closing_brace, closing_bracket, closing_parenthesis, colon, comma, line_feed, space}
-use Rattle.ufmt_core.specs.Layout.{frame, setting, inside, entry_depth, indentation, new_line, lead, ending, trail, next, block_tail}
+use Rattle.ufmt_core.specs.Layout.{frame, setting, inside, indentation, new_line, lead, ending, trail, next, block_tail}
 use Rattle.ufmt_core.specs.declared.layout.Mode.{Mode}
 use Rattle.ufmt_core.specs.declared.layout.Mode.TheVariants.{Plain, Pretty}
 use Rattle.ufmt_core.specs.declared.layout.Setting.{Setting}
@@ -27,25 +28,13 @@ abbrev pub Fits : Setting → ℕ → Type 0
 Fits s n = FitsAt s.mode s.depth n
 
 pub fits_inside : (s : Setting) (n : ℕ) → Fits s (suc n) → Fits (inside s) n
-fits_inside s n h = go s.mode s.depth h
-  where
-    go : (mode : Mode) (k : ℕ) → FitsAt mode k (suc n) → FitsAt mode (entry_depth mode k) n
-    go Plain k h = tt
-    go Pretty k h = omega arith
+fits_inside s n h = grind arith
 
 pub fits_less : (s : Setting) (m n : ℕ) → m ≤ n → Fits s n → Fits s m
-fits_less s m n less h = go s.mode s.depth h
-  where
-    go : (mode : Mode) (k : ℕ) → FitsAt mode k n → FitsAt mode k m
-    go Plain k h = tt
-    go Pretty k h = omega (arith, less)
+fits_less s m n less h = grind arith
 
 ender_differs : (c b : ℕ) → is_ender c ≡ true → is_ender b ≡ false → (c == b) ≡ false
-ender_differs c b hc hb = go (c == b) refl
-  where
-    go : (same : Bool) → (c == b) ≡ same → (c == b) ≡ false
-    go false e = e
-    go true e = let same = eqb-true c b e in absurd (cc)
+ender_differs c b hc hb = false_from_ne_true (c == b) (λ e. let same = eqb-true c b e in cc)
 
 -- a text that begins with no ender is not stripped of one
 pub ender_begins_none : (c : ℕ) (w : List ℕ) → is_ender c ≡ true → {t : List ℕ} → Begins t → strip (c ∷ w) t ≡ None
@@ -134,16 +123,13 @@ colon_no_space a b = λ e. absurd (cc)
 colon_no_line_feed : (a b : List ℕ) → colon ∷ a ≢ line_feed ∷ b
 colon_no_line_feed a b = λ e. absurd (cc)
 
+after_name : (name v : List ℕ) → IsName Debug name → Begins v → after_front Debug (name ++ (colon ∷ space ∷ v)) ≡ colon ∷ space ∷ v
+after_name name v h begins = (name_fronts Debug name (colon ∷ space ∷ v) h (follower_ends_front Debug (colon ∷ space ∷ v) (colon_follows Debug v begins))).after
+
 -- after a name, a colon and a space come, and no dots
 no_dots_at : (mode : Mode) (k : ℕ) (name v u : List ℕ) → IsName Debug name → Begins v → name ++ (colon ∷ space ∷ v) ≢ last_dots (setting mode k) ++ u
-no_dots_at mode k name v u h begins = λ same. go mode (ap (after_front Debug) same)
-  where
-    after : after_front Debug (name ++ (colon ∷ space ∷ v)) ≡ colon ∷ space ∷ v
-    after = (name_fronts Debug name (colon ∷ space ∷ v) h (follower_ends_front Debug (colon ∷ space ∷ v) (colon_follows Debug v begins))).after
-
-    go : (mode : Mode) → after_front Debug (name ++ (colon ∷ space ∷ v)) ≡ after_front Debug (last_dots (setting mode k) ++ u) → ⊥
-    go Plain other = colon_no_space (space ∷ v) (closing_brace ∷ u) (sym after ∙ other)
-    go Pretty other = colon_no_line_feed (space ∷ v) _ (sym after ∙ other)
+no_dots_at Plain k name v u h begins = λ same. colon_no_space (space ∷ v) (closing_brace ∷ u) (sym (after_name name v h begins) ∙ ap (after_front Debug) same)
+no_dots_at Pretty k name v u h begins = λ same. colon_no_line_feed (space ∷ v) _ (sym (after_name name v h begins) ∙ ap (after_front Debug) same)
 
 -- no field begins with dots
 pub name_no_dots : (class : Class) (s : Setting) (name v : List ℕ) → IsName class name → Begins v → strip_dots class s (name ++ (colon ∷ space ∷ v)) ≡ None
@@ -154,11 +140,9 @@ name_no_dots Debug s name v h begins = strip_of_none (last_dots s) (name ++ (col
 pub field_no_only_dots : (class : Class) (s : Setting) (name v : List ℕ) → IsName class name → Begins v
     → strip_only_dots class (lead (frame s.mode Struct) (inside s) Zero ++ (name ++ (colon ∷ space ∷ v))) ≡ None
 field_no_only_dots Token s name v h begins = refl
-field_no_only_dots Debug s name v h begins = go s.mode
-  where
-    go : (mode : Mode) → strip (codes " { .. }") (lead (frame mode Struct) (inside (setting mode s.depth)) Zero ++ (name ++ (colon ∷ space ∷ v))) ≡ None
-    go Plain = name_no_dots Debug (setting Plain 0) name v h begins
-    go Pretty = refl
+field_no_only_dots Debug s name v h begins =
+    elim s.mode as (λ mode. strip (codes " { .. }") (lead (frame mode Struct) (inside (setting mode s.depth)) Zero ++ (name ++ (colon ∷ space ∷ v))) ≡ None)
+    [ Plain ↦ name_no_dots Debug (setting Plain 0) name v h begins | Pretty ↦ refl ]
 
 -- where structs may end in dots, they are stripped
 pub dots_stripped : (class : Class) (s : Setting) → MayEndInDots class → StripsDots class (strip_dots class s) (last_dots s) true

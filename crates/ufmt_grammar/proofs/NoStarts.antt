@@ -1,5 +1,7 @@
 -- A list and a tuple of a debug document don't begin as a leaf does that begins with an address or a word in brackets.
-use Rattle.std.proofs.Common.{◌≡◌, ◌∙◌, inl, inr, refl, ap, sym, subst, ℕ, ◌==◌, ◌&&◌, Bool, true, false, cond, List, [], ◌∷◌, ◌++◌, Some, append_assoc, eqb-true}
+use Rattle.std.proofs.Common.{◌≡◌, ◌∙◌, inl, inr, refl, ap, sym, subst, ℕ, ◌==◌, Bool, true, false, List, [], ◌∷◌, ◌++◌, Some, append_assoc, eqb-true, arith}
+use Rattle.std.proofs.lemmas.Bool.Decides.{nat_tests}
+use Rattle.std.proofs.lemmas.Bool.{cases_Bool, false_from_ne_true}
 use Rattle.ufmt_core.specs.Bytes.{closing_bracket, closing_parenthesis, opening_bracket, opening_parenthesis}
 use Rattle.ufmt_core.specs.Document.{Document, leaf, joined, list_of, set_of, map_of, struct_of, non_exhaustive_of, tuple_of, pretty_part, no_documents, first_document, no_fields, first_field}
 use Rattle.ufmt_core.specs.Layout.{frame, inside, layout, new_line, setting, trail, block_tail}
@@ -9,9 +11,9 @@ use Rattle.ufmt_core.specs.declared.layout.Setting.{Setting}
 use Rattle.ufmt_core.specs.declared.layout.Kind.TheVariants.{Brackets, Unnamed}
 use Rattle.ufmt_core.specs.declared.layout.Count.TheVariants.{One}
 use Rattle.ufmt_grammar.specs.Token.{Class, Token, Debug, IsName, IsBuilt, MayFollow}
-use Rattle.ufmt_grammar.specs.Leaves.{is_ender, is_debug_byte, is_name_byte, begins_with, past, is_word_closed, is_port, is_address_closed, Place, beginning, outside, in_word, in_address, place_outside, place_after, EndsLeaf, IsDebugFollower}
+use Rattle.ufmt_grammar.specs.Leaves.{is_ender, is_debug_byte, is_name_byte, begins_with, past, is_word_closed, is_port, is_address_closed, Place, beginning, outside, place_outside, place_after, EndsLeaf, IsDebugFollower}
 use Rattle.ufmt_grammar.proofs.ReadingWords.{each_ender}
-use Rattle.ufmt_grammar.proofs.DebugLeaves.{OutsideStep, each_quote, opening_is_quote, outside_step, at_beginning, leaf_no_ender}
+use Rattle.ufmt_grammar.proofs.DebugLeaves.{each_quote, opening_is_quote, outside_step, at_beginning, leaf_no_ender}
 use Rattle.ufmt_grammar.proofs.ClassLeaves.{IsNoAddress, IsNoWord, name_some}
 
 -- bytes that a name may have, and what is looked for past them: it begins with a closing bracket
@@ -20,11 +22,7 @@ pub record IsSearch (is : ℕ → Bool) (found : List ℕ → Bool) : Type 0 whe
   pub none : (c : ℕ) (t : List ℕ) → is_ender c ≡ false → found (c ∷ t) ≡ false
 
 no_ender_is : (c k : ℕ) → is_ender k ≡ true → is_ender c ≡ false → (c == k) ≡ false
-no_ender_is c k ends other = go (c == k) refl
-  where
-    go : (same : Bool) → (c == k) ≡ same → (c == k) ≡ false
-    go false e = e
-    go true e = let is = subst (λ b. is_ender b ≡ false) (eqb-true c k e) other in absurd (cc (ends, is))
+no_ender_is c k ends other = false_from_ne_true (c == k) (λ e. let is = subst (λ b. is_ender b ≡ false) (eqb-true c k e) other in cc (ends, is))
 
 word_search : IsSearch is_debug_byte (begins_with closing_parenthesis)
 word_search = record { named = λ c h. rw h refl; none = λ c t other. no_ender_is c closing_parenthesis refl other }
@@ -39,51 +37,41 @@ port_search = record { named = λ c h. h; none = no_port }
 
 -- a byte of a name stays outside of quotes
 pub name_step : (c : ℕ) (t : List ℕ) (next : Place) → is_name_byte c ≡ true → place_outside c t ≡ Some next → next ≡ outside
-name_step c t next named h = go (outside_step c t next h)
-  where
-    go : OutsideStep c t next → next ≡ outside
-    go (inl step) = step.1
-    go (inr (inl step)) = let none = each_quote (λ b. is_name_byte b ≡ false) refl refl c (opening_is_quote c t step.0) in absurd (cc (none, named))
-    go (inr (inr (inl step))) = step.2
-    go (inr (inr (inr step))) = let opens = subst (λ b. is_name_byte b ≡ true) step.0 named in absurd (cc)
+name_step c t next named h = elim (outside_step c t next h) [
+  | inl step ↦ step.1
+  | inr (inl step) ↦ let none = each_quote (λ b. is_name_byte b ≡ false) refl refl c (opening_is_quote c t step.0) in absurd (cc (none, named))
+  | inr (inr (inl step)) ↦ step.2
+  | inr (inr (inr step)) ↦ let opens = subst (λ b. is_name_byte b ≡ true) step.0 named in absurd (cc)
+]
 
 -- at a leaf's start too
 pub name_begins : (c : ℕ) (t : List ℕ) → is_name_byte c ≡ true → place_after beginning c t ≡ place_outside c t
-name_begins c t named = go (c == opening_parenthesis) (c == opening_bracket) refl refl
-  where
-    go : (parenthesis bracket : Bool) → (c == opening_parenthesis) ≡ parenthesis → (c == opening_bracket) ≡ bracket
-        → cond (parenthesis && is_word_closed t) (Some in_word) (cond (bracket && is_address_closed t) (Some in_address) (place_outside c t)) ≡ place_outside c t
-    go true bracket e f = let is = subst (λ b. is_name_byte b ≡ true) (eqb-true c opening_parenthesis e) named in absurd (cc)
-    go false true e f = let is = subst (λ b. is_name_byte b ≡ true) (eqb-true c opening_bracket f) named in absurd (cc)
-    go false false e f = refl
+name_begins c t named =
+    let no_parenthesis : (c == opening_parenthesis) ≡ false = grind (arith, nat_tests) in
+    let no_bracket : (c == opening_bracket) ≡ false = grind (arith, nat_tests) in
+    rw (no_parenthesis, no_bracket) refl
 
 module _ (is : ℕ → Bool) (found : List ℕ → Bool) (search : IsSearch is found) where
   -- what isn't found after a leaf isn't found past its first bytes
   leaf_past : (w r : List ℕ) → EndsLeaf outside w → found (past is r) ≡ false → found (past is (w ++ r)) ≡ false
   leaf_past [] r h none = none
-  leaf_past (c ∷ w) r h none = go (is c) refl (λ ends. leaf_past w r ends none)
-    where
-      go : (b : Bool) → is c ≡ b → (EndsLeaf outside w → found (past is (w ++ r)) ≡ false) → found (cond b (past is (w ++ r)) (c ∷ (w ++ r))) ≡ false
-      go true e more = more (subst (λ p. EndsLeaf p w) (name_step c w h.0 (search.named c e) h.1) h.2)
-      go false e more = search.none c (w ++ r) (leaf_no_ender c w h.0 (at_beginning c w h.0 h.1))
+  leaf_past (c ∷ w) r h none = elim (cases_Bool (is c)) [
+    | inl e ↦ rw e (leaf_past w r (subst (λ p. EndsLeaf p w) (name_step c w h.0 (search.named c e) h.1) h.2) none)
+    | inr e ↦ rw e (search.none c (w ++ r) (leaf_no_ender c w h.0 (at_beginning c w h.0 h.1)))
+  ]
 
   whole_past : (w r : List ℕ) → EndsLeaf beginning w → found (past is r) ≡ false → found (past is (w ++ r)) ≡ false
   whole_past [] r h none = none
-  whole_past (c ∷ w) r h none = go (is c) refl
-    where
-      go : (b : Bool) → is c ≡ b → found (cond b (past is (w ++ r)) (c ∷ (w ++ r))) ≡ false
-      go true e =
-          let step : place_outside c w ≡ Some h.0 = sym (name_begins c w (search.named c e)) ∙ h.1 in
-          leaf_past w r (subst (λ p. EndsLeaf p w) (name_step c w h.0 (search.named c e) step) h.2) none
-      go false e = search.none c (w ++ r) (leaf_no_ender c w h.0 h.1)
+  whole_past (c ∷ w) r h none = elim (cases_Bool (is c)) [
+    | inl e ↦
+        let step : place_outside c w ≡ Some h.0 = sym (name_begins c w (search.named c e)) ∙ h.1 in
+        rw e (leaf_past w r (subst (λ p. EndsLeaf p w) (name_step c w h.0 (search.named c e) step) h.2) none)
+    | inr e ↦ rw e (search.none c (w ++ r) (leaf_no_ender c w h.0 h.1))
+  ]
 
   -- a byte that no name has, and no closing bracket
   other_first : (c : ℕ) (t : List ℕ) → is_name_byte c ≡ false → is_ender c ≡ false → found (past is (c ∷ t)) ≡ false
-  other_first c t no_name no_ender = go (is c) refl
-    where
-      go : (b : Bool) → is c ≡ b → found (cond b (past is t) (c ∷ t)) ≡ false
-      go true e = let named = search.named c e in absurd (cc (named, no_name))
-      go false e = search.none c t no_ender
+  other_first c t no_name no_ender = let none = false_from_ne_true (is c) (λ e. let named = search.named c e in cc (named, no_name)) in rw none (search.none c t no_ender)
 
   named_past : (name text r : List ℕ) → IsName Debug name → found (past is (text ++ r)) ≡ false → found (past is ((name ++ text) ++ r)) ≡ false
   named_past name text r h none = ap (λ t. found (past is t)) (append_assoc name text r) ∙ whole_past name (text ++ r) h.whole.pieces none
@@ -122,19 +110,11 @@ follower_no_port (c ∷ b ∷ u) (inr (inr h)) = rw h.0 refl
 
 pub address_by_port : (t : List ℕ) → is_port (past is_name_byte t) ≡ false → is_address_closed t ≡ false
 address_by_port [] h = refl
-address_by_port (c ∷ t) h = go (is_name_byte c) h
-  where
-    go : (named : Bool) → is_port (cond named (past is_name_byte t) (c ∷ t)) ≡ false → named && is_port (past is_name_byte t) ≡ false
-    go true k = k
-    go false k = refl
+address_by_port (c ∷ t) h = elim (cases_Bool (is_name_byte c)) [ inl named ↦ rw named (rw named at h) | inr other ↦ rw other refl ]
 
 pub word_by_end : (t : List ℕ) → begins_with closing_parenthesis (past is_debug_byte t) ≡ false → is_word_closed t ≡ false
 word_by_end [] h = refl
-word_by_end (c ∷ t) h = go (is_debug_byte c) h
-  where
-    go : (word : Bool) → begins_with closing_parenthesis (cond word (past is_debug_byte t) (c ∷ t)) ≡ false → word && begins_with closing_parenthesis (past is_debug_byte t) ≡ false
-    go true k = k
-    go false k = refl
+word_by_end (c ∷ t) h = elim (cases_Bool (is_debug_byte c)) [ inl word ↦ rw word (rw word at h) | inr other ↦ rw other refl ]
 
 -- after a document's text
 list_by : (i : Setting) (d : Document) (rest u : List ℕ) → IsBuilt Debug d → is_port (past is_name_byte (rest ++ u)) ≡ false → is_address_closed ((layout i d ++ rest) ++ u) ≡ false

@@ -28,11 +28,7 @@ pub strip_of_front : (text t u : List ℕ) → t ≡ text ++ u → strip text t 
 strip_of_front text t u h = rw h (strip_joined text u)
 
 pub strip_of_none : (text t : List ℕ) → ((u : List ℕ) → t ≢ text ++ u) → strip text t ≡ None
-strip_of_none text t differs = go (strip text t) refl
-  where
-    go : (o : Option (List ℕ)) → strip text t ≡ o → strip text t ≡ None
-    go None e = e
-    go (Some u) e = absurd (differs u (strip_found text t u e))
+strip_of_none text t differs = (elim (strip text t) as (λ o. strip text t ≡ o → o ≡ None) [ None ↦ λ e. refl | Some u ↦ λ e. absurd (differs u (strip_found text t u e)) ]) refl
 
 -- one byte of `strip-append`
 strip_two : (same : Bool) (a b t : List ℕ) → strip (a ++ b) t ≡ option_and_then (strip b) (strip a t)

@@ -1,5 +1,5 @@
 -- The spelling of a byte between quotes is decoded to that byte, whatever follows it.
-use Rattle.std.proofs.Common.{◌≡◌, ◌⊎◌, inl, inr, refl, sym, ap, subst, ◌∙◌, ℕ, ◌+◌, ◌*◌, ◌/◌, ◌%◌, ◌<◌, ◌==◌, ◌||◌, nat_lt, Bool, true, false, List, [], ◌∷◌, ◌++◌, codes, eqb-true, arith}
+use Rattle.std.proofs.Common.{◌≡◌, ◌⊎◌, inl, inr, refl, sym, subst, ◌∙◌, ℕ, ◌+◌, ◌*◌, ◌/◌, ◌%◌, ◌<◌, ◌==◌, nat_lt, Bool, true, false, List, [], ◌∷◌, ◌++◌, codes, eqb-true, arith, ◌||◌}
 use borrow.Author.Tests.{ltb-true}
 use Rattle.std.specs.Char.{digit_char, digit_value}
 use Rattle.std.proofs.lemmas.Str.{digit_value-digit_char}
@@ -19,18 +19,10 @@ two_digits b low = rw (digit_value-digit_char (b / 16) (omega arith), digit_valu
 -- a property of each row of `escape`, and of a byte that is written as itself, holds of each spelling
 module _ (q b : ℕ) where
   one_of : (b == backslash || b == q) ≡ true → (b ≡ backslash) ⊎ (b ≡ q)
-  one_of h = go (b == backslash) refl
-    where
-      go : (first : Bool) → (b == backslash) ≡ first → (b ≡ backslash) ⊎ (b ≡ q)
-      go true e = inl (eqb-true b backslash e)
-      go false e = inr (eqb-true b q (sym (ap (λ x. x || b == q) e) ∙ h))
+  one_of h = grind (arith, nat_tests)
 
   pub no_backslash : (b == backslash || b == q) ≡ false → (b == backslash) ≡ false
-  no_backslash h = go (b == backslash) refl
-    where
-      go : (first : Bool) → (b == backslash) ≡ first → (b == backslash) ≡ false
-      go true e = let both = sym (ap (λ x. x || b == q) e) ∙ h in absurd (cc)
-      go false e = e
+  no_backslash h = grind (arith, nat_tests)
 
   control_low : (nat_lt b 32 || b == 127) ≡ true → b < 128
   control_low h = grind (arith, nat_tests)
@@ -59,11 +51,7 @@ module _ (q b : ℕ) (t : List ℕ) (quote : IsQuote q) where
   -- the row that writes the byte itself after a backslash
   decoded-itself : (b ≡ backslash) ⊎ (b ≡ q) → decoded (backslash ∷ b ∷ t) ≡ b
   decoded-itself (inl e) = rw e refl
-  decoded-itself (inr e) = go quote
-    where
-      go : IsQuote q → decoded (backslash ∷ b ∷ t) ≡ b
-      go (inl h) = rw (e ∙ h) refl
-      go (inr h) = rw (e ∙ h) refl
+  decoded-itself (inr e) = elim quote [ inl h ↦ rw (e ∙ h) refl | inr h ↦ rw (e ∙ h) refl ]
 
   -- the row that writes the byte in hexadecimal, with one digit or with two
   decoded-braces : (short : Bool) → nat_lt b 16 ≡ short → b < 128 → decoded (codes "\\u{" ++ ((hex_digits b ++ codes "}") ++ t)) ≡ b

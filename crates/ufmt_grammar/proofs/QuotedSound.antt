@@ -1,5 +1,6 @@
 -- What is read as a quoted leaf is one, and it is the front of the text.
 use Rattle.std.proofs.Common.{◌≡◌, ◌⊎◌, inl, inr, refl, sym, ap, ◌∙◌, ℕ, zero, suc, ◌==◌, ◌&&◌, Bool, true, false, List, [], ◌∷◌, ◌++◌, length, Option, Some, None, option_and_then, append_assoc, eqb-true, arith}
+use Rattle.std.proofs.lemmas.Bool.{cases_Bool}
 use Rattle.std.specs.Option.{option_or}
 use Rattle.std.specs.Str.{all_scalars, chars, is_utf8}
 use Rattle.std.proofs.lemmas.Str.{IsUtf8-from_is_utf8, encodes-chars, scalars-chars}
@@ -47,11 +48,10 @@ read_inside-sound q (suc n) t bs u h =
 -- a result of `if_right` came from bytes that pass the test
 pub right_from : (test : List ℕ → Bool) (q : ℕ) (bs u text v : List ℕ) → if_right test q bs u ≡ Some (text, v) → (test bs ≡ true)
     × (quoted q (chars bs) ≡ text) × (u ≡ v)
-right_from test q bs u text v h = go (test bs) refl
-  where
-    go : (right : Bool) → test bs ≡ right → (test bs ≡ true) × (quoted q (chars bs) ≡ text) × (u ≡ v)
-    go true e = let parts = same_parts {A = List ℕ} {B = List ℕ} (quoted q (chars bs), u) (text, v) (sym (rw e refl) ∙ h) in (e, parts.0, parts.1)
-    go false e = let none : ◌≡◌ {A = Option (List ℕ × List ℕ)} None (Some (text, v)) = sym (rw e refl) ∙ h in absurd (cc)
+right_from test q bs u text v h = elim (cases_Bool (test bs)) [
+  | inl e ↦ let parts = same_parts {A = List ℕ} {B = List ℕ} (quoted q (chars bs), u) (text, v) (rw e at h) in (e, parts.0, parts.1)
+  | inr e ↦ let none = rw e at h in absurd (cc)
+]
 
 -- the front of `t` is the spelling of bytes that pass the test, between two of these quotes
 pub record IsBetween (q : ℕ) (test : List ℕ → Bool) (t text u : List ℕ) : Type 0 where

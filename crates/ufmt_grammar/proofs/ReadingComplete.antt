@@ -330,11 +330,8 @@ module _ (class : Class) where
   pretty_no_address k (leaf text) u = tt
   pretty_no_address k (joined ds) u = tt
   pretty_no_address k (list_of no_documents) u = tt
-  pretty_no_address k (list_of (first_document d ds)) u = go class
-    where
-      go : (class : Class) → IsNoAddress class (block_tail (frame Pretty Brackets) (setting Pretty k) Zero (texts (inside (setting Pretty k)) (first_document d ds)) ++ u)
-      go Token = tt
-      go Debug = refl
+  pretty_no_address k (list_of (first_document d ds)) u =
+      elim class as (λ class. IsNoAddress class (block_tail (frame Pretty Brackets) (setting Pretty k) Zero (texts (inside (setting Pretty k)) (first_document d ds)) ++ u)) [ Token ↦ tt | Debug ↦ refl ]
   pretty_no_address k (set_of ds) u = tt
   pretty_no_address k (map_of ps) u = tt
   pretty_no_address k (struct_of name fs) u = tt

@@ -1,12 +1,13 @@
 -- Reading is sound: it gives a document of the class in normal form, and the document's text and the rest make up the text that was read.
-use Rattle.std.proofs.Common.{◌≡◌, ◌≢◌, ◌⊎◌, inl, inr, refl, ap, sym, ◌∙◌, subst, subst₂, ℕ, zero, suc, ◌<◌, ◌≤◌, List, [], ◌∷◌, ◌++◌, map, Bool, true, false, cond, Option, Some, None, codes, append_assoc, arith}
+use Rattle.std.proofs.Common.{◌≡◌, ◌≢◌, inl, inr, refl, ap, sym, ◌∙◌, subst, subst₂, ℕ, zero, suc, ◌<◌, ◌≤◌, List, [], ◌∷◌, ◌++◌, map, Bool, true, false, Option, Some, None, codes, append_assoc, arith}
+use Rattle.std.proofs.lemmas.Bool.{cases_Bool}
 use Rattle.ufmt_core.specs.Document.{Document, leaf, list_of, set_of, map_of, struct_of, non_exhaustive_of, tuple_of, no_documents, no_pairs, no_fields, documents, fields_of, nest, nest_fields}
 use Rattle.ufmt_core.specs.Layout.{frame, tuple_kind, inside, lead, block_tail, layout, texts, field_texts}
 use Rattle.ufmt_core.specs.declared.layout.Setting.{Setting}
 use Rattle.ufmt_core.specs.declared.layout.Kind.TheVariants.{Brackets, Braces, Struct, Tuple, Unnamed}
 use Rattle.ufmt_core.specs.declared.layout.Count.TheVariants.{Zero}
 use Rattle.ufmt_grammar.specs.Token.{Class, Token, Debug, MayEndInDots, OrEmpty, IsName, IsLeaf, IsBuilt, FieldsAreBuilt, normal, normal_fields}
-use Rattle.ufmt_grammar.specs.Reading.{Parse, choose, strip, no_dots, strip_dots, strip_only_dots, last_dots, list_with, set_with, map_with, tuple_with, struct_with, front_of, after_front, is_whole, is_name, read_name, read_symbol, read_value, read_pair, read_block, read_list, read_map, read_set, read_map_or_set, read_braced_entries, read_braces, read_tuple, read_struct, read_unnamed, read_without_name, read_named, read_by_front, read_with, read}
+use Rattle.ufmt_grammar.specs.Reading.{Parse, strip, no_dots, strip_dots, strip_only_dots, last_dots, list_with, set_with, map_with, tuple_with, struct_with, front_of, after_front, is_whole, is_name, read_name, read_symbol, read_value, read_pair, read_list, read_map_or_set, read_braces, read_tuple, read_struct, read_unnamed, read_without_name, read_named, read_by_front, read_with, read}
 use Rattle.ufmt_grammar.proofs.Parsing.{same_parts, strip_found, led_from, chosen_from}
 use Rattle.ufmt_grammar.proofs.ClassLeaves.{IsFrontOf, name_leaf, front_is, fronts_whole, read_name_sound, symbol_is_leaf}
 use Rattle.ufmt_core.proofs.Printing.{texts-documents, pair_texts-pairs_of, field_texts-fields_of}
@@ -156,66 +157,57 @@ module _ (class : Class) where
   -- what is read as a list is one
   read_list_sound : (s : Setting) (p : Parse Document) (n : ℕ) → Finds p (IsNormalBelow class n) (layout (inside s))
       → (t v : List ℕ) (d : Document) (u : List ℕ) → t ≡ codes "[" ++ v → read_list s p v ≡ Some (d, u) → Found s n t d u
-  read_list_sound s p n finds t v d u front h = go (chosen_from (strip ((frame s.mode Brackets).closing Zero) v) _ _ (Some (d, u)) h)
-    where
-      go : ((w : List ℕ) × (strip ((frame s.mode Brackets).closing Zero) v ≡ Some w) × (given (list_of no_documents) w ≡ given d u))
-          ⊎ ((strip ((frame s.mode Brackets).closing Zero) v ≡ None)
-          × (read_block p no_dots (frame s.mode Brackets) s list_with v ≡ Some (d, u))) → Found s n t d u
-      go (inl k) = found_same (list_of no_documents) d k.0 u
-          (record {
-            tokens = tt;
-            nests = omega arith;
-            is_normal = refl;
-            whole = front
-                ∙ ap (λ w. codes "[" ++ w) (strip_found ((frame s.mode Brackets).closing Zero) v k.0 k.1);
-          }) k.2
-      go (inr k) =
-          let after = led_from _ (strip (lead (frame s.mode Brackets) (inside s) Zero) v) (d, u) k.1 in
-          list_found s n t after.0 d u (front ∙ ap (λ w. codes "[" ++ w) (strip_found (lead (frame s.mode Brackets) (inside s) Zero) v after.0 after.1))
-          (read_entries_sound p (IsNormalBelow class n) (layout (inside s)) no_dots [] ⊥ (frame s.mode Brackets) s list_with finds strips_no_dots after.0 d u after.2)
+  read_list_sound s p n finds t v d u front h = elim (chosen_from (strip ((frame s.mode Brackets).closing Zero) v) _ _ (Some (d, u)) h) [
+    | inl k ↦ found_same (list_of no_documents) d k.0 u
+        (record {
+          tokens = tt;
+          nests = omega arith;
+          is_normal = refl;
+          whole = front ∙ ap (λ w. codes "[" ++ w) (strip_found ((frame s.mode Brackets).closing Zero) v k.0 k.1);
+        }) k.2
+    | inr k ↦
+        let after = led_from _ (strip (lead (frame s.mode Brackets) (inside s) Zero) v) (d, u) k.1 in
+        list_found s n t after.0 d u (front ∙ ap (λ w. codes "[" ++ w) (strip_found (lead (frame s.mode Brackets) (inside s) Zero) v after.0 after.1))
+        (read_entries_sound p (IsNormalBelow class n) (layout (inside s)) no_dots [] ⊥ (frame s.mode Brackets) s list_with finds strips_no_dots after.0 d u after.2)
+  ]
 
   -- what is read in braces after a first document is a map or a set
   read_map_or_set_sound : (s : Setting) (p : Parse Document) (n : ℕ) → Finds p (IsNormalBelow class n) (layout (inside s))
       → (t v w : List ℕ) (first d : Document) (u : List ℕ) → t ≡ codes "{" ++ (lead (frame s.mode Braces) (inside s) Zero ++ v)
       → IsNormalBelow class n first → v ≡ layout (inside s) first ++ w → read_map_or_set s p first w ≡ Some (d, u) → Found s n t d u
-  read_map_or_set_sound s p n finds t v w first d u front good whole h = go (chosen_from (strip (codes ": ") w) _ _ (Some (d, u)) h)
-    where
-      go : ((x : List ℕ) × (strip (codes ": ") w ≡ Some x) × (read_map s p first w ≡ Some (d, u)))
-          ⊎ ((strip (codes ": ") w ≡ None) × (read_set s p first w ≡ Some (d, u))) → Found s n t d u
-      go (inl k) =
-          let pair_read = led_from _ (read_value p first w) (d, u) k.2 in
-          let value = read_value_sound p (IsNormalBelow class n) (layout (inside s)) finds first w pair_read.0.0 pair_read.0.1 pair_read.1 in
-          let pair_good : IsGoodPair (IsNormalBelow class n) (IsNormalBelow class n) pair_read.0.0 = subst (IsGoodPair (IsNormalBelow class n) (IsNormalBelow class n)) value.1 (good, value.2) in
-          let pair_whole : v ≡ keyed_text (layout (inside s)) (layout (inside s)) pair_read.0.0 ++ pair_read.0.1 = subst (λ y. v ≡ keyed_text (layout (inside s)) (layout (inside s)) y ++ pair_read.0.1) value.1 (whole ∙ ap (λ z. layout (inside s) first ++ z) value.3 ∙ sym (append_assoc (layout (inside s) first) (codes ": " ++ layout (inside s) value.0) pair_read.0.1)) in
-          map_found s n t v d u front (with_first pair_read.0.0 v pair_read.0.1 pair_good pair_whole
-          (read_after_first_sound (read_pair p p) (IsGoodPair (IsNormalBelow class n) (IsNormalBelow class n))
-          (keyed_text (layout (inside s)) (layout (inside s))) no_dots [] ⊥ (frame s.mode Braces) s map_with
-          (read_pair_finds p p (IsNormalBelow class n) (IsNormalBelow class n) (layout (inside s))
-          (layout (inside s)) finds finds) strips_no_dots pair_read.0.0 pair_read.0.1 d u pair_read.2))
-      go (inr k) = set_found s n t v d u front (with_first first v w good whole
-          (read_after_first_sound p (IsNormalBelow class n) (layout (inside s)) no_dots [] ⊥ (frame s.mode Braces) s set_with finds strips_no_dots first w d u k.1))
+  read_map_or_set_sound s p n finds t v w first d u front good whole h = elim (chosen_from (strip (codes ": ") w) _ _ (Some (d, u)) h) [
+    | inl k ↦
+        let pair_read = led_from _ (read_value p first w) (d, u) k.2 in
+        let value = read_value_sound p (IsNormalBelow class n) (layout (inside s)) finds first w pair_read.0.0 pair_read.0.1 pair_read.1 in
+        let pair_good : IsGoodPair (IsNormalBelow class n) (IsNormalBelow class n) pair_read.0.0 = subst (IsGoodPair (IsNormalBelow class n) (IsNormalBelow class n)) value.1 (good, value.2) in
+        let pair_whole : v ≡ keyed_text (layout (inside s)) (layout (inside s)) pair_read.0.0 ++ pair_read.0.1 = subst (λ y. v ≡ keyed_text (layout (inside s)) (layout (inside s)) y ++ pair_read.0.1) value.1 (whole ∙ ap (λ z. layout (inside s) first ++ z) value.3 ∙ sym (append_assoc (layout (inside s) first) (codes ": " ++ layout (inside s) value.0) pair_read.0.1)) in
+        map_found s n t v d u front (with_first pair_read.0.0 v pair_read.0.1 pair_good pair_whole
+        (read_after_first_sound (read_pair p p) (IsGoodPair (IsNormalBelow class n) (IsNormalBelow class n))
+        (keyed_text (layout (inside s)) (layout (inside s))) no_dots [] ⊥ (frame s.mode Braces) s map_with
+        (read_pair_finds p p (IsNormalBelow class n) (IsNormalBelow class n) (layout (inside s))
+        (layout (inside s)) finds finds) strips_no_dots pair_read.0.0 pair_read.0.1 d u pair_read.2))
+    | inr k ↦ set_found s n t v d u front (with_first first v w good whole
+        (read_after_first_sound p (IsNormalBelow class n) (layout (inside s)) no_dots [] ⊥ (frame s.mode Braces) s set_with finds strips_no_dots first w d u k.1))
+  ]
 
   -- what is read as a map or a set is one
   read_braces_sound : (s : Setting) (p : Parse Document) (n : ℕ) → Finds p (IsNormalBelow class n) (layout (inside s))
       → (t v : List ℕ) (d : Document) (u : List ℕ) → t ≡ codes "{" ++ v → read_braces s p v ≡ Some (d, u) → Found s n t d u
-  read_braces_sound s p n finds t v d u front h = go (chosen_from (strip ((frame s.mode Braces).closing Zero) v) _ _ (Some (d, u)) h)
-    where
-      go : ((w : List ℕ) × (strip ((frame s.mode Braces).closing Zero) v ≡ Some w) × (given (map_of no_pairs) w ≡ given d u))
-          ⊎ ((strip ((frame s.mode Braces).closing Zero) v ≡ None) × (read_braced_entries s p v ≡ Some (d, u))) → Found s n t d u
-      go (inl k) = found_same (map_of no_pairs) d k.0 u
-          (record {
-            tokens = tt;
-            nests = omega arith;
-            is_normal = refl;
-            whole = front
-                ∙ ap (λ w. codes "{" ++ w) (strip_found ((frame s.mode Braces).closing Zero) v k.0 k.1);
-          }) k.2
-      go (inr k) =
-          let after = led_from _ (strip (lead (frame s.mode Braces) (inside s) Zero) v) (d, u) k.1 in
-          let first = led_from _ (p after.0) (d, u) after.2 in
-          read_map_or_set_sound s p n finds t after.0 first.0.1 first.0.0 d u
-          (front ∙ ap (λ w. codes "{" ++ w) (strip_found (lead (frame s.mode Braces) (inside s) Zero) v after.0 after.1))
-          (finds.good after.0 first.0.0 first.0.1 first.1) (finds.whole after.0 first.0.0 first.0.1 first.1) first.2
+  read_braces_sound s p n finds t v d u front h = elim (chosen_from (strip ((frame s.mode Braces).closing Zero) v) _ _ (Some (d, u)) h) [
+    | inl k ↦ found_same (map_of no_pairs) d k.0 u
+        (record {
+          tokens = tt;
+          nests = omega arith;
+          is_normal = refl;
+          whole = front ∙ ap (λ w. codes "{" ++ w) (strip_found ((frame s.mode Braces).closing Zero) v k.0 k.1);
+        }) k.2
+    | inr k ↦
+        let after = led_from _ (strip (lead (frame s.mode Braces) (inside s) Zero) v) (d, u) k.1 in
+        let first = led_from _ (p after.0) (d, u) after.2 in
+        read_map_or_set_sound s p n finds t after.0 first.0.1 first.0.0 d u
+        (front ∙ ap (λ w. codes "{" ++ w) (strip_found (lead (frame s.mode Braces) (inside s) Zero) v after.0 after.1))
+        (finds.good after.0 first.0.0 first.0.1 first.1) (finds.whole after.0 first.0.0 first.0.1 first.1) first.2
+  ]
 
   -- what is read as a tuple is one
   read_tuple_sound : (s : Setting) (p : Parse Document) (n : ℕ) → Finds p (IsNormalBelow class n) (layout (inside s))
@@ -253,72 +245,49 @@ module _ (class : Class) where
   -- what is read after a word is a tuple, a struct or a leaf
   read_named_sound : (s : Setting) (p : Parse Document) (n : ℕ) → Finds p (IsNormalBelow class n) (layout (inside s))
       → (name t v : List ℕ) (d : Document) (u : List ℕ) → IsName class name → OrEmpty (IsName class) name → t ≡ name ++ v → read_named class s p name v ≡ Some (d, u) → Found s n t d u
-  read_named_sound s p n finds name t v d u word bytes front h =
-      go (chosen_from (strip (lead (frame s.mode (tuple_kind name)) (inside s) Zero) v) _ _ (Some (d, u)) h)
-    where
-      without_dots : ((w : List ℕ) × (strip (lead (frame s.mode Struct) (inside s) Zero) v ≡ Some w)
-          × (read_struct class s p name w ≡ Some (d, u)))
-          ⊎ ((strip (lead (frame s.mode Struct) (inside s) Zero) v ≡ None) × (given (leaf name) v ≡ given d u)) → Found s n t d u
-      without_dots (inl k) = read_struct_sound s p n finds name t v k.0 d u word front k.1 k.2
-      without_dots (inr k) = found_same (leaf name) d v u (leaf_found name v (name_leaf class name word) front) k.1
-
-      without_tuple : ((w : List ℕ) × (strip_only_dots class v ≡ Some w) × (given (non_exhaustive_of name no_fields) w ≡ given d u))
-          ⊎ ((strip_only_dots class v ≡ None)
-          × (choose (strip (lead (frame s.mode Struct) (inside s) Zero) v) (read_struct class s p name) (given (leaf name) v) ≡ Some (d, u))) → Found s n t d u
-      without_tuple (inl k) = found_same (non_exhaustive_of name no_fields) d k.0 u (only_dots_found s n name t v k.0 word front k.1) k.2
-      without_tuple (inr k) = without_dots (chosen_from (strip (lead (frame s.mode Struct) (inside s) Zero) v) (read_struct class s p name)
-          (given (leaf name) v) (Some (d, u)) k.1)
-
-      go : ((w : List ℕ) × (strip (lead (frame s.mode (tuple_kind name)) (inside s) Zero) v ≡ Some w) × (read_tuple s p name w ≡ Some (d, u)))
-          ⊎ ((strip (lead (frame s.mode (tuple_kind name)) (inside s) Zero) v ≡ None)
-          × (choose (strip_only_dots class v) (λ w. given (non_exhaustive_of name no_fields) w)
-          (choose (strip (lead (frame s.mode Struct) (inside s) Zero) v) (read_struct class s p name) (given (leaf name) v)) ≡ Some (d, u))) → Found s n t d u
-      go (inl k) = read_tuple_sound s p n finds name t v k.0 d u bytes front k.1 k.2
-      go (inr k) = without_tuple (chosen_from (strip_only_dots class v) (λ w. given (non_exhaustive_of name no_fields) w)
-          (choose (strip (lead (frame s.mode Struct) (inside s) Zero) v) (read_struct class s p name) (given (leaf name) v)) (Some (d, u)) k.1)
+  read_named_sound s p n finds name t v d u word bytes front h = elim (chosen_from (strip (lead (frame s.mode (tuple_kind name)) (inside s) Zero) v) _ _ (Some (d, u)) h) [
+    | inl k ↦ read_tuple_sound s p n finds name t v k.0 d u bytes front k.1 k.2
+    | inr k ↦ elim (chosen_from (strip_only_dots class v) _ _ (Some (d, u)) k.1) [
+      | inl k ↦ found_same (non_exhaustive_of name no_fields) d k.0 u (only_dots_found s n name t v k.0 word front k.1) k.2
+      | inr k ↦ elim (chosen_from (strip (lead (frame s.mode Struct) (inside s) Zero) v) _ _ (Some (d, u)) k.1) [
+        | inl k ↦ read_struct_sound s p n finds name t v k.0 d u word front k.1 k.2
+        | inr k ↦ found_same (leaf name) d v u (leaf_found name v (name_leaf class name word) front) k.1
+      ]
+    ]
+  ]
 
   -- what is read without a word at the front is a list, a set, a map, a leaf or a tuple without a name
   read_without_name_sound : (s : Setting) (p : Parse Document) (n : ℕ) → Finds p (IsNormalBelow class n) (layout (inside s))
       → (t : List ℕ) (d : Document) (u : List ℕ) → read_without_name class s p t ≡ Some (d, u) → Found s n t d u
-  read_without_name_sound s p n finds t d u h = in_brackets (chosen_from (strip (codes "[") t) (read_list s p) _ (Some (d, u)) h)
-    where
-      in_parentheses : ((x : List ℕ × List ℕ) × (read_symbol class t ≡ Some x) × (given (leaf x.0) x.1 ≡ given d u))
-          ⊎ ((read_symbol class t ≡ None) × (read_unnamed s p t ≡ Some (d, u))) → Found s n t d u
-      in_parentheses (inl k) =
-          let found = symbol_is_leaf class t k.0.0 k.0.1 k.1 in
-          found_same (leaf k.0.0) d k.0.1 u (leaf_found k.0.0 k.0.1 found.0 found.1) k.2
-      in_parentheses (inr k) =
-          let after = led_from _ (strip (lead (frame s.mode Unnamed) (inside s) Zero) t) (d, u) k.1 in
-          read_tuple_sound s p n finds [] t t after.0 d u tt refl after.1 after.2
-
-      braces : ((v : List ℕ) × (strip (codes "{") t ≡ Some v) × (read_braces s p v ≡ Some (d, u)))
-          ⊎ ((strip (codes "{") t ≡ None) × (choose (read_symbol class t) (λ x. given (leaf x.0) x.1) (read_unnamed s p t) ≡ Some (d, u))) → Found s n t d u
-      braces (inl k) = read_braces_sound s p n finds t k.0 d u (strip_found (codes "{") t k.0 k.1) k.2
-      braces (inr k) = in_parentheses (chosen_from (read_symbol class t) (λ x. given (leaf x.0) x.1) (read_unnamed s p t) (Some (d, u)) k.1)
-
-      in_brackets : ((v : List ℕ) × (strip (codes "[") t ≡ Some v) × (read_list s p v ≡ Some (d, u)))
-          ⊎ ((strip (codes "[") t ≡ None) × (choose (strip (codes "{") t) (read_braces s p)
-          (choose (read_symbol class t) (λ x. given (leaf x.0) x.1) (read_unnamed s p t)) ≡ Some (d, u))) → Found s n t d u
-      in_brackets (inl k) = read_list_sound s p n finds t k.0 d u (strip_found (codes "[") t k.0 k.1) k.2
-      in_brackets (inr k) = braces (chosen_from (strip (codes "{") t) (read_braces s p)
-          (choose (read_symbol class t) (λ x. given (leaf x.0) x.1) (read_unnamed s p t)) (Some (d, u)) k.1)
+  read_without_name_sound s p n finds t d u h = elim (chosen_from (strip (codes "[") t) (read_list s p) _ (Some (d, u)) h) [
+    | inl k ↦ read_list_sound s p n finds t k.0 d u (strip_found (codes "[") t k.0 k.1) k.2
+    | inr k ↦ elim (chosen_from (strip (codes "{") t) (read_braces s p) _ (Some (d, u)) k.1) [
+      | inl k ↦ read_braces_sound s p n finds t k.0 d u (strip_found (codes "{") t k.0 k.1) k.2
+      | inr k ↦ elim (chosen_from (read_symbol class t) (λ x. given (leaf x.0) x.1) (read_unnamed s p t) (Some (d, u)) k.1) [
+        | inl k ↦
+            let found = symbol_is_leaf class t k.0.0 k.0.1 k.1 in
+            found_same (leaf k.0.0) d k.0.1 u (leaf_found k.0.0 k.0.1 found.0 found.1) k.2
+        | inr k ↦
+            let after = led_from _ (strip (lead (frame s.mode Unnamed) (inside s) Zero) t) (d, u) k.1 in
+            read_tuple_sound s p n finds [] t t after.0 d u tt refl after.1 after.2
+      ]
+    ]
+  ]
 
   -- what is read is found, whatever the longest leaf at the front is
   read_by_front_sound : (s : Setting) (p : Parse Document) (n : ℕ) → Finds p (IsNormalBelow class n) (layout (inside s))
       → (t front v : List ℕ) (d : Document) (u : List ℕ) → IsFrontOf class front → t ≡ front ++ v → read_by_front class s p t front v ≡ Some (d, u) → Found s n t d u
   read_by_front_sound s p n finds t [] v d u is whole h = read_without_name_sound s p n finds t d u h
-  read_by_front_sound s p n finds t (c ∷ front) v d u is whole h = go (is_whole class (c ∷ front)) (is_name class (c ∷ front)) refl refl h
+  read_by_front_sound s p n finds t (c ∷ front) v d u is whole h = elim (cases_Bool (is_whole class (c ∷ front))) [
+    | inl e ↦ elim (cases_Bool (is_name class (c ∷ front))) [
+      | inl f ↦ let word = is.name some e f in read_named_sound s p n finds (c ∷ front) t v d u word word whole (rw (e, f) at h)
+      | inr f ↦ found_same (leaf (c ∷ front)) d v u (leaf_found (c ∷ front) v (is.leaf some e) whole) (rw (e, f) at h)
+    ]
+    | inr e ↦ let none = rw e at h in absurd (cc)
+  ]
     where
       some : c ∷ front ≢ []
       some none = absurd (cc)
-
-      go : (ends name : Bool) → is_whole class (c ∷ front) ≡ ends → is_name class (c ∷ front) ≡ name
-          → cond ends (cond name (read_named class s p (c ∷ front) v) (given (leaf (c ∷ front)) v)) None ≡ Some (d, u) → Found s n t d u
-      go true true e f k =
-          let word = is.name some e f in
-          read_named_sound s p n finds (c ∷ front) t v d u word word whole k
-      go true false e f k = found_same (leaf (c ∷ front)) d v u (leaf_found (c ∷ front) v (is.leaf some e) whole) k
-      go false name e f k = absurd (cc)
 
   -- reading a document is sound if reading its entries is sound
   read_with_sound : (s : Setting) (p : Parse Document) (n : ℕ) → Finds p (IsNormalBelow class n) (layout (inside s))

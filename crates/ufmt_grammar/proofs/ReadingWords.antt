@@ -1,5 +1,7 @@
 -- Words and what follows them: word bytes, closers, and the longest word at the front of a text.
-use Rattle.std.proofs.Common.{◌≡◌, inl, inr, refl, ap, sym, subst, ℕ, ◌==◌, ◌||◌, Bool, true, false, cond, List, [], ◌∷◌, ◌++◌, eqb-true}
+use Rattle.std.proofs.Common.{◌≡◌, inl, inr, refl, ap, ℕ, Bool, true, false, cond, List, [], ◌∷◌, ◌++◌, arith}
+use Rattle.std.proofs.lemmas.Bool.Decides.{nat_tests}
+use Rattle.std.proofs.lemmas.Bool.{cases_Bool, false_from_ne_true}
 use Rattle.std.specs.Prelude.{⊤}
 use Rattle.ufmt_core.specs.Bytes.{closing_brace, closing_bracket, closing_parenthesis, colon, comma}
 use Rattle.ufmt_grammar.specs.Leaves.{is_word_byte, IsWordOrEmpty, IsWord, is_closer, is_ender, IsFollower}
@@ -7,40 +9,15 @@ use Rattle.ufmt_grammar.specs.Reading.{word_of, after_word}
 
 -- a property of each of the five closers holds of every closer
 pub each_closer : (P : ℕ → Type 0) → P comma → P colon → P closing_bracket → P closing_parenthesis → P closing_brace → (c : ℕ) → is_closer c ≡ true → P c
-each_closer P of_comma of_colon of_bracket of_parenthesis of_brace c h = go (c == comma) (c == colon) (c == closing_bracket) (c == closing_parenthesis) (c == closing_brace) refl refl refl refl refl h
-  where
-    at : (k : ℕ) → (c == k) ≡ true → P k → P c
-    at k e p = subst P (sym (eqb-true c k e)) p
-
-    go : (a b d e f : Bool) → (c == comma) ≡ a → (c == colon) ≡ b → (c == closing_bracket) ≡ d → (c == closing_parenthesis) ≡ e → (c == closing_brace) ≡ f → (a || b || d || e || f) ≡ true → P c
-    go true b d e f ha hb hd he hf k = at comma ha of_comma
-    go false true d e f ha hb hd he hf k = at colon hb of_colon
-    go false false true e f ha hb hd he hf k = at closing_bracket hd of_bracket
-    go false false false true f ha hb hd he hf k = at closing_parenthesis he of_parenthesis
-    go false false false false true ha hb hd he hf k = at closing_brace hf of_brace
-    go false false false false false ha hb hd he hf k = absurd (cc)
+each_closer P of_comma of_colon of_bracket of_parenthesis of_brace c h = grind (arith, nat_tests)
 
 -- a property of a comma and of each closing bracket holds of every ender
 pub each_ender : (P : ℕ → Type 0) → P comma → P closing_bracket → P closing_parenthesis → P closing_brace → (c : ℕ) → is_ender c ≡ true → P c
-each_ender P of_comma of_bracket of_parenthesis of_brace c h = go (c == comma) (c == closing_bracket) (c == closing_parenthesis) (c == closing_brace) refl refl refl refl h
-  where
-    at : (k : ℕ) → (c == k) ≡ true → P k → P c
-    at k e p = subst P (sym (eqb-true c k e)) p
-
-    go : (a b d e : Bool) → (c == comma) ≡ a → (c == closing_bracket) ≡ b → (c == closing_parenthesis) ≡ d → (c == closing_brace) ≡ e → (a || b || d || e) ≡ true → P c
-    go true b d e ha hb hd he k = at comma ha of_comma
-    go false true d e ha hb hd he k = at closing_bracket hb of_bracket
-    go false false true e ha hb hd he k = at closing_parenthesis hd of_parenthesis
-    go false false false true ha hb hd he k = at closing_brace he of_brace
-    go false false false false ha hb hd he k = absurd (cc)
+each_ender P of_comma of_bracket of_parenthesis of_brace c h = grind (arith, nat_tests)
 
 -- a byte with a property that no ender has is no ender
 pub no_ender : (f : ℕ → Bool) → f comma ≡ false → f closing_bracket ≡ false → f closing_parenthesis ≡ false → f closing_brace ≡ false → (c : ℕ) → f c ≡ true → is_ender c ≡ false
-no_ender f comma bracket parenthesis brace c h = go (is_ender c) refl
-  where
-    go : (b : Bool) → is_ender c ≡ b → is_ender c ≡ false
-    go false e = e
-    go true e = let none = each_ender (λ b. f b ≡ false) comma bracket parenthesis brace c e in absurd (cc)
+no_ender f comma bracket parenthesis brace c h = false_from_ne_true (is_ender c) (λ e. let none = each_ender (λ b. f b ≡ false) comma bracket parenthesis brace c e in cc (none, h))
 
 pub ender_closes : (c : ℕ) → is_ender c ≡ true → is_closer c ≡ true
 ender_closes c h = each_ender (λ b. is_closer b ≡ true) refl refl refl refl c h
@@ -61,19 +38,11 @@ follower_stops (c ∷ b ∷ u) (inr h) = rw h.0 refl
 
 pub words_whole : (t : List ℕ) → t ≡ word_of t ++ after_word t
 words_whole [] = refl
-words_whole (c ∷ t) = go (is_word_byte c) (words_whole t)
-  where
-    go : (b : Bool) → t ≡ word_of t ++ after_word t → c ∷ t ≡ cond b (c ∷ word_of t) [] ++ cond b (after_word t) (c ∷ t)
-    go true e = ap (λ u. c ∷ u) e
-    go false e = refl
+words_whole (c ∷ t) = elim (is_word_byte c) as (λ b. c ∷ t ≡ cond b (c ∷ word_of t) [] ++ cond b (after_word t) (c ∷ t)) [ true ↦ ap (λ u. c ∷ u) (words_whole t) | false ↦ refl ]
 
 pub word_of_bytes : (t : List ℕ) → IsWordOrEmpty (word_of t)
 word_of_bytes [] = tt
-word_of_bytes (c ∷ t) = go (is_word_byte c) refl (word_of_bytes t)
-  where
-    go : (b : Bool) → is_word_byte c ≡ b → IsWordOrEmpty (word_of t) → IsWordOrEmpty (cond b (c ∷ word_of t) [])
-    go true e h = (e, h)
-    go false e h = tt
+word_of_bytes (c ∷ t) = elim (cases_Bool (is_word_byte c)) [ inl e ↦ rw e (e, word_of_bytes t) | inr e ↦ rw e tt ]
 
 pub word_of-append : (w u : List ℕ) → IsWordOrEmpty w → StopsWord u → word_of (w ++ u) ≡ w
 word_of-append [] [] h stops = refl

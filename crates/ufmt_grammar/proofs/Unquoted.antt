@@ -1,10 +1,10 @@
 -- An unquoted leaf can be read again exactly if it is a word or `()`.
-use Rattle.std.proofs.Common.{◌⊎◌, inl, inr, ℕ, List}
+use Rattle.std.proofs.Common.{inl, inr, ℕ, List}
 use Rattle.std.specs.Prelude.{⊤}
 use Rattle.ufmt_core.specs.Document.{Document, leaf, joined, list_of, set_of, map_of, struct_of, non_exhaustive_of, tuple_of, pretty_part, Documents, no_documents, first_document, Pairs, no_pairs, first_pair, Fields, no_fields, first_field}
 use Rattle.ufmt_core.specs.Quoted.{IsQuoted}
 use Rattle.ufmt_core.specs.EachText.{EachText, EachTextOfEntries, EachTextOfPairs, EachTextOfFields}
-use Rattle.ufmt_grammar.specs.Token.{IsWord, IsSymbol, IsBuiltFrom, AreBuiltFrom, PairsAreBuiltFrom, FieldsAreBuiltFrom, IsTokenLeaf, IsUnquotedLeaf}
+use Rattle.ufmt_grammar.specs.Token.{IsWord, IsBuiltFrom, AreBuiltFrom, PairsAreBuiltFrom, FieldsAreBuiltFrom, IsTokenLeaf, IsUnquotedLeaf}
 use Rattle.ufmt_grammar.specs.UnquotedLaws.{UnquotedAsBefore}
 
 -- leaves that are P and Q are R, whatever names are, and whether or not structs may end in dots
@@ -35,12 +35,7 @@ module _ (N M P Q R : List ℕ → Type 0) (D : Type 0) (both : (text : List ℕ
     FieldsAreBuiltFrom-both (first_field name value fs) h k = (h.0, IsBuiltFrom-both value h.1 k.1, FieldsAreBuiltFrom-both fs h.2 k.2)
 
 unquoted : (text : List ℕ) → IsTokenLeaf text → ¬ (IsQuoted text) → IsUnquotedLeaf text
-unquoted text h no_quotes = go h.shape
-  where
-    go : IsWord text ⊎ IsSymbol text → IsUnquotedLeaf text
-    go (inl word) = inl word
-    go (inr (inl unit)) = inr unit
-    go (inr (inr quoted)) = absurd (no_quotes quoted)
+unquoted text h no_quotes = elim h.shape [ inl word ↦ inl word | inr (inl unit) ↦ inr unit | inr (inr quoted) ↦ absurd (no_quotes quoted) ]
 
 token : (text : List ℕ) → IsUnquotedLeaf text → ¬ (IsQuoted text) → IsTokenLeaf text
 token text (inl word) no_quotes = record { shape = inl word }

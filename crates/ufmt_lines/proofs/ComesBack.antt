@@ -1,5 +1,5 @@
 -- A text that stays as it is made plain comes back after it is made pretty and then plain.
-use Rattle.std.proofs.Common.{◌≡◌, ◌⊎◌, inl, inr, ◌∙◌, refl, ap, sym, subst, ℕ, zero, suc, ◌+◌, ◌≤◌, ◌==◌, ◌&&◌, ◌||◌, Bool, true, false, List, [], ◌∷◌, ◌++◌, append_assoc, Option, Some, None, drop, take, length, length-append, eqb-true, arith}
+use Rattle.std.proofs.Common.{◌≡◌, inl, inr, ◌∙◌, refl, ap, sym, subst, ℕ, zero, suc, ◌+◌, ◌≤◌, ◌==◌, ◌&&◌, ◌||◌, Bool, true, false, List, [], ◌∷◌, ◌++◌, append_assoc, Option, Some, None, drop, take, length, length-append, eqb-true, arith}
 use Rattle.std.proofs.lemmas.List.{take-append-drop}
 use Rattle.std.specs.Prelude.{nat_le}
 use Rattle.ufmt.specs.Bytes.{opening_brace}
@@ -80,16 +80,10 @@ module _ (limit : ℕ) where
 
     -- so such a bracket stays
     pub bracket_back : Back made (w ++ text) → Back (z ++ k ∷ made) (z ++ k ∷ (w ++ text))
-    bracket_back back = λ m long. go m long
-      where
-        size : length (z ++ k ∷ made) ≡ length z + suc (length made)
-        size = length-append z (k ∷ made)
-
-        go : (m : ℕ) → length (z ++ k ∷ made) ≤ m → convert (plain_with limit) m (z ++ k ∷ made) ≡ z ++ k ∷ (w ++ text)
-        go zero long = let all = size in absurd (omega (arith, all, long))
-        go (suc m) long =
-            let all = size in
-            no_value (plain_with limit) m z k made none opens (no_pretty_value _ refl) ∙ ap (λ t. z ++ k ∷ t) (back m (omega (arith, all, long)))
+    bracket_back back zero long = let all = length-append z (k ∷ made) in absurd (omega (arith, all, long))
+    bracket_back back (suc m) long =
+        let all = length-append z (k ∷ made) in
+        no_value (plain_with limit) m z k made none opens (no_pretty_value _ refl) ∙ ap (λ t. z ++ k ∷ t) (back m (omega (arith, all, long)))
 
   -- ---- bytes that stay
 
@@ -112,19 +106,17 @@ module _ (limit : ℕ) where
     pub part_back : (most : ℕ) (y : List ℕ) → length y ≤ most → Still limit ((y ++ c ∷ []) ++ text) → Back ((y ++ c ∷ []) ++ after) ((y ++ c ∷ []) ++ text)
     part_back zero [] within still = last_back [] tt still (is_opening c) refl
     part_back zero (b ∷ y) within still = absurd (omega (arith, within))
-    part_back (suc most) y within still = go (first_bracket y) (part_back most)
-      where
-        go : Without is_opening y ⊎ FirstBracket y → ((t : List ℕ) → length t ≤ most → Still limit ((t ++ c ∷ []) ++ text) → Back ((t ++ c ∷ []) ++ after) ((t ++ c ∷ []) ++ text))
-            → Back ((y ++ c ∷ []) ++ after) ((y ++ c ∷ []) ++ text)
-        go (inl none) more = last_back y none still (is_opening c) refl
-        go (inr f) more =
-            let long = ap length f.is ∙ length-append f.before (f.bracket ∷ f.after) in
-            let cut : (t : List ℕ) → (y ++ c ∷ []) ++ t ≡ f.before ++ f.bracket ∷ ((f.after ++ c ∷ []) ++ t) = λ t. ap (λ u. (u ++ c ∷ []) ++ t) f.is ∙ cut_assoc limit f.before f.bracket f.after (c ∷ []) t in
-            let whole = subst (Still limit) (cut text) still in
-            let rest = (still_at limit f.before f.bracket ((f.after ++ c ∷ []) ++ text) f.none f.opens whole).1 in
-            subst (λ t. Back t ((y ++ c ∷ []) ++ text)) (sym (cut after))
-            (subst (Back (f.before ++ f.bracket ∷ ((f.after ++ c ∷ []) ++ after))) (sym (cut text))
-            (bracket_back n f.before f.bracket (f.after ++ c ∷ []) text f.none f.opens whole (more f.after (omega (arith, long, within)) rest)))
+    part_back (suc most) y within still = elim (first_bracket y) [
+      | inl none ↦ last_back y none still (is_opening c) refl
+      | inr f ↦
+          let long = ap length f.is ∙ length-append f.before (f.bracket ∷ f.after) in
+          let cut : (t : List ℕ) → (y ++ c ∷ []) ++ t ≡ f.before ++ f.bracket ∷ ((f.after ++ c ∷ []) ++ t) = λ t. ap (λ u. (u ++ c ∷ []) ++ t) f.is ∙ cut_assoc limit f.before f.bracket f.after (c ∷ []) t in
+          let whole = subst (Still limit) (cut text) still in
+          let rest = (still_at limit f.before f.bracket ((f.after ++ c ∷ []) ++ text) f.none f.opens whole).1 in
+          subst (λ t. Back t ((y ++ c ∷ []) ++ text)) (sym (cut after))
+          (subst (Back (f.before ++ f.bracket ∷ ((f.after ++ c ∷ []) ++ after))) (sym (cut text))
+          (bracket_back n f.before f.bracket (f.after ++ c ∷ []) text f.none f.opens whole (part_back most f.after (omega (arith, long, within)) rest)))
+    ]
 
   -- ---- values
 
@@ -214,15 +206,12 @@ module _ (limit : ℕ) where
 
       -- a value that is made pretty comes back
       changed_back : Back later rest → Back (y ++ (pretty ++ later)) (z ++ k ∷ r)
-      changed_back back = subst (λ t. Back t (z ++ k ∷ r)) (sym made_is) (λ m long. go m long)
+      changed_back back = subst (λ t. Back t (z ++ k ∷ r)) (sym made_is) value
         where
-          size : length (z ++ k ∷ lines) ≡ length z + suc (length lines)
-          size = length-append z (k ∷ lines)
-
-          go : (m : ℕ) → length (z ++ k ∷ lines) ≤ m → convert (plain_with limit) m (z ++ k ∷ lines) ≡ z ++ k ∷ r
-          go zero long = let all = size in absurd (omega (arith, all, long))
-          go (suc m) long =
-              let all = size in
+          value : Back (z ++ k ∷ lines) (z ++ k ∷ r)
+          value zero long = let all = length-append z (k ∷ lines) in absurd (omega (arith, all, long))
+          value (suc m) long =
+              let all = length-append z (k ∷ lines) in
               let parts = length-append (first_line b) later in
               value_step (plain_with limit) m z k lines none opens d later pretty_there
               ∙ ap (λ s. take s z ++ (plain ++ convert (plain_with limit) m later)) same_start
@@ -252,11 +241,10 @@ module _ (limit : ℕ) where
   comes_back : (n : ℕ) (text : List ℕ) → Still limit text → Back (convert (pretty_with limit) n text) text
   unfolding convert_from
   comes_back zero text still = λ m long. still_same limit m text still
-  comes_back (suc n) text still = go (first_bracket text) (comes_back n)
-    where
-      go : Without is_opening text ⊎ FirstBracket text → ((t : List ℕ) → Still limit t → Back (convert (pretty_with limit) n t) t) → Back (convert (pretty_with limit) (suc n) text) text
-      go (inl none) more = subst (λ t. Back t text) (sym (no_bracket (pretty_with limit) (suc n) text none)) (λ m long. still_same limit m text still)
-      go (inr f) more = subst (λ t. Back (convert (pretty_with limit) (suc n) t) t) (sym f.is) (at_bracket n more f.before f.bracket f.after f.none f.opens (subst (Still limit) f.is still) (value_from Pretty (from_bracket Pretty f.before f.bracket f.after)) refl)
+  comes_back (suc n) text still = elim (first_bracket text) [
+    | inl none ↦ subst (λ t. Back t text) (sym (no_bracket (pretty_with limit) (suc n) text none)) (λ m long. still_same limit m text still)
+    | inr f ↦ subst (λ t. Back (convert (pretty_with limit) (suc n) t) t) (sym f.is) (at_bracket n (comes_back n) f.before f.bracket f.after f.none f.opens (subst (Still limit) f.is still) (value_from Pretty (from_bracket Pretty f.before f.bracket f.after)) refl)
+  ]
 
 -- the law
 pub plain_texts_come_back : PlainTextsComeBack

@@ -1,5 +1,5 @@
 -- What a text is converted to, from its first bracket on: with nothing known of the bytes before the text.
-use Rattle.std.proofs.Common.{◌≡◌, ◌⊎◌, inl, inr, ◌∙◌, refl, ap, sym, subst, ℕ, zero, suc, ◌+◌, ◌-◌, ◌<◌, ◌≤◌, true, List, [], ◌∷◌, ◌++◌, append_assoc, Option, Some, None, drop, take, length, length-append, length-drop, arith}
+use Rattle.std.proofs.Common.{◌≡◌, inl, inr, ◌∙◌, refl, ap, sym, subst, ℕ, zero, suc, ◌+◌, ◌-◌, ◌<◌, ◌≤◌, true, List, [], ◌∷◌, ◌++◌, append_assoc, Option, Some, None, drop, take, length, length-append, length-drop, arith}
 use Rattle.std.proofs.Math.Seq.{drop-append_seam, take-append-add, take-append_seam}
 use Rattle.std.proofs.lemmas.List.{drop-append-le, length-take-le, take-append-drop, take-append-le}
 use Rattle.ufmt.specs.Document.{Document}
@@ -9,7 +9,7 @@ use Rattle.ufmt_grammar.proofs.ReadingSound.{Found, read_sound}
 use Rattle.ufmt_grammar.proofs.ReadingTurns.{read_takes}
 use Rattle.ufmt_grammar.specs.declared.class.Class.TheVariants.{Debug}
 use Rattle.ufmt_lines.proofs.Conversions.{bracket_stays, rest_stays, value_ends}
-use Rattle.ufmt_values.proofs.FirstBrackets.{FirstBracket, Without, before_first, before_none, first_bracket}
+use Rattle.ufmt_values.proofs.FirstBrackets.{Without, before_first, before_none, first_bracket}
 use Rattle.ufmt_values.proofs.FoundValues.{value_read}
 use Rattle.ufmt_lines.proofs.Rests.{rest_converted}
 use Rattle.ufmt_lines.proofs.ValueStarts.{from_bracket, start_after, start_is, start_within}
@@ -146,12 +146,11 @@ module _ (conversion : Conversion) where
   enough zero n (c ∷ text) first second = absurd (omega (arith, first))
   enough (suc m) zero [] first second = no_bracket (suc m) [] tt ∙ sym (no_bracket zero [] tt)
   enough (suc m) zero (c ∷ text) first second = absurd (omega (arith, second))
-  enough (suc m) (suc n) text first second = go (first_bracket text) (enough m n)
-    where
-      go : Without is_opening text ⊎ FirstBracket text → ((t : List ℕ) → length t ≤ m → length t ≤ n → convert m t ≡ convert n t) → convert (suc m) text ≡ convert (suc n) text
-      go (inl none) more = no_bracket (suc m) text none ∙ sym (no_bracket (suc n) text none)
-      go (inr f) more =
-          let size = ap length f.is in
-          ap (convert (suc m)) f.is
-          ∙ enough_at m n f.before f.bracket f.after f.none f.opens (λ t less. more t (omega (arith, size, first, less)) (omega (arith, size, second, less))) _ refl
-          ∙ ap (convert (suc n)) (sym f.is)
+  enough (suc m) (suc n) text first second = elim (first_bracket text) [
+    | inl none ↦ no_bracket (suc m) text none ∙ sym (no_bracket (suc n) text none)
+    | inr f ↦
+        let size = ap length f.is in
+        ap (convert (suc m)) f.is
+        ∙ enough_at m n f.before f.bracket f.after f.none f.opens (λ t less. enough m n t (omega (arith, size, first, less)) (omega (arith, size, second, less))) _ refl
+        ∙ ap (convert (suc n)) (sym f.is)
+  ]

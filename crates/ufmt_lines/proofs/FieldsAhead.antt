@@ -1,5 +1,7 @@
 -- Whether a field is at the front of a text: what follows the first bracket doesn't count.
 use Rattle.std.proofs.Common.{◌≡◌, inl, inr, ◌∙◌, refl, ap, sym, subst, ℕ, ◌==◌, ◌&&◌, Bool, true, false, cond, List, [], ◌∷◌, ◌++◌, Option, Some, None, codes, append_assoc, drop, is_some, eqb-true}
+use Rattle.std.proofs.lemmas.Bool.{cases_Bool, false_from_ne_true}
+use Rattle.std.proofs.lemmas.Option.{cond_some}
 use Rattle.ufmt.specs.Bytes.{closing_brace, colon, space}
 use Rattle.ufmt.specs.Document.{Document}
 use Rattle.ufmt.specs.Layout.{layout}
@@ -10,12 +12,13 @@ use Rattle.ufmt_core.specs.declared.layout.Setting.{Setting}
 use Rattle.ufmt_grammar.proofs.ClassLeaves.{follower_ends_front, read_name_complete, read_name_sound, text_fronts}
 use Rattle.ufmt_grammar.proofs.DebugLeaves.{both, follower_stops_leaf, follower_unspaced}
 use Rattle.ufmt_grammar.proofs.NoStarts.{name_begins, name_step}
-use Rattle.ufmt_grammar.proofs.Parsing.{same_parts, strip_found}
+use Rattle.ufmt_grammar.proofs.Parsing.{strip_found}
 use Rattle.ufmt_grammar.specs.Reading.{after_front, after_leaf, choose, front_of, if_name, is_name, is_whole, leaf_from, read_name, strip}
 use Rattle.ufmt_grammar.specs.declared.class.Class.TheVariants.{Debug}
 use Rattle.ufmt_values.proofs.FirstBrackets.{Without, front_before, passes_not, without_append}
 use Rattle.ufmt_lines.proofs.FoundValues.{some_from}
 use Rattle.ufmt_lines.proofs.Heads.{leaf_or_head}
+use Rattle.ufmt_values.proofs.FoundValues.{cases_option}
 use Rattle.ufmt_values.proofs.NameBrackets.{name_without_openings}
 use Rattle.ufmt_values.specs.Values.{is_in_struct}
 use Rattle.ufmt_scan.specs.Fronts.{begins_with_field}
@@ -43,12 +46,12 @@ outside_front : (w u : List ℕ) → has_name_bytes w ≡ true → leaf_from out
 outside_front [] u named is = absurd (cc)
 outside_front (c ∷ w) u named is =
     let parts = both (is_name_byte c) (has_name_bytes w) named in
-    go parts.0 (outside_front w u parts.1) (place_outside c (w ++ (colon ∷ space ∷ closing_brace ∷ u))) refl is
-  where
-    go : is_name_byte c ≡ true → (leaf_from outside (w ++ (colon ∷ space ∷ closing_brace ∷ u)) ≡ w → ⊥) → (o : Option Place) → place_outside c (w ++ (colon ∷ space ∷ closing_brace ∷ u)) ≡ o
-        → choose o (λ next. c ∷ leaf_from next (w ++ (colon ∷ space ∷ closing_brace ∷ u))) [] ≡ c ∷ w → ⊥
-    go byte more None e k = absurd (cc)
-    go byte more (Some next) e k = more (subst (λ p. leaf_from p (w ++ (colon ∷ space ∷ closing_brace ∷ u)) ≡ w) (name_step c (w ++ (colon ∷ space ∷ closing_brace ∷ u)) next byte e) (ap (drop 1) k))
+    let t = w ++ (colon ∷ space ∷ closing_brace ∷ u) in
+    let leaf = λ (o : Option Place). choose o (λ next. c ∷ leaf_from next t) [] in
+    elim (cases_option (place_outside c t)) [
+      | inl none ↦ let empty : [] ≡ c ∷ w = ap leaf (sym none) ∙ is in absurd (cc)
+      | inr (next, some) ↦ outside_front w u parts.1 (subst (λ p. leaf_from p t ≡ w) (name_step c t next parts.0 some) (ap (drop 1) (ap leaf (sym some) ∙ is)))
+    ]
 
 -- the same of a whole leaf
 beginning_front : (w u : List ℕ) → has_name_bytes w ≡ true → leaf_from beginning (w ++ (colon ∷ space ∷ closing_brace ∷ u)) ≡ w → ⊥
@@ -60,39 +63,31 @@ beginning_front (c ∷ w) u named is =
 -- a name that is read is the longest leaf at the front
 name_is_front : (front rest : List ℕ) (x : List ℕ × List ℕ) → if_name Debug front rest ≡ Some x → front ≡ x.0
 name_is_front [] rest x h = absurd (cc)
-name_is_front (c ∷ front) rest x h = go (is_whole Debug (c ∷ front) && is_name Debug (c ∷ front)) h
-  where
-    go : (b : Bool) → cond {A = Option (List ℕ × List ℕ)} b (Some (c ∷ front, rest)) None ≡ Some x → c ∷ front ≡ x.0
-    go true k = (same_parts {A = List ℕ} {B = List ℕ} (c ∷ front, rest) x k).0
-    go false k = absurd (cc)
+name_is_front (c ∷ front) rest x h = ap (λ (y : List ℕ × List ℕ). y.0) (cond_some (is_whole Debug (c ∷ front) && is_name Debug (c ∷ front)) (c ∷ front, rest) x h).1
 
 -- so no closing brace comes after the space of a field
 no_brace_after : (w r : List ℕ) → has_name_bytes w ≡ true → leaf_from beginning (w ++ (colon ∷ space ∷ r)) ≡ w → begins_with closing_brace r ≡ false
 no_brace_after w [] named is = refl
-no_brace_after w (c ∷ u) named is = go (c == closing_brace) refl
-  where
-    go : (b : Bool) → (c == closing_brace) ≡ b → (c == closing_brace) ≡ false
-    go false e = e
-    go true e = absurd (beginning_front w u named (subst (λ b. leaf_from beginning (w ++ (colon ∷ space ∷ b ∷ u)) ≡ w) (eqb-true c closing_brace e) is))
+no_brace_after w (c ∷ u) named is =
+    false_from_ne_true (c == closing_brace) (λ e. beginning_front w u named (subst (λ b. leaf_from beginning (w ++ (colon ∷ space ∷ b ∷ u)) ≡ w) (eqb-true c closing_brace e) is))
 
 -- a field that is found is there
 pub field_found : (t : List ℕ) → begins_with_field Debug t ≡ true → Field t
-field_found t h = go (read_name Debug t) refl h
-  where
-    go : (o : Option (List ℕ × List ℕ)) → read_name Debug t ≡ o → choose o has_colon false ≡ true → Field t
-    go None e k = absurd (cc)
-    go (Some x) e k =
-        let word = read_name_sound Debug t x.0 x.1 e in
-        let rest = some_from (strip (codes ": ") x.1) k in
-        let whole : t ≡ x.0 ++ (colon ∷ space ∷ rest.0) = word.1 ∙ ap (λ u. x.0 ++ u) (strip_found (codes ": ") x.1 rest.0 rest.1) in
-        let front : leaf_from beginning t ≡ x.0 = name_is_front (front_of Debug t) (after_front Debug t) x e in
-        record {
-          name = x.0;
-          rest = rest.0;
-          named = word.0;
-          is = whole;
-          unclosed = no_brace_after x.0 rest.0 word.0.bytes (subst (λ u. leaf_from beginning u ≡ x.0) whole front);
-        }
+field_found t h = elim (cases_option (read_name Debug t)) [
+  | inl none ↦ let never : false ≡ true = ap (λ o. choose o has_colon false) (sym none) ∙ h in absurd (cc)
+  | inr (x, is) ↦
+      let word = read_name_sound Debug t x.0 x.1 is in
+      let rest = some_from (strip (codes ": ") x.1) (ap (λ o. choose o has_colon false) (sym is) ∙ h) in
+      let whole : t ≡ x.0 ++ (colon ∷ space ∷ rest.0) = word.1 ∙ ap (λ u. x.0 ++ u) (strip_found (codes ": ") x.1 rest.0 rest.1) in
+      let front : leaf_from beginning t ≡ x.0 = name_is_front (front_of Debug t) (after_front Debug t) x is in
+      record {
+        name = x.0;
+        rest = rest.0;
+        named = word.0;
+        is = whole;
+        unclosed = no_brace_after x.0 rest.0 word.0.bytes (subst (λ u. leaf_from beginning u ≡ x.0) whole front);
+      }
+]
 
 -- ---- what follows a bracket
 
@@ -129,17 +124,13 @@ field_by_front z c r v opens = same_answer _ _ (field_kept z c r v opens) (field
 stripped_by_front : (p z : List ℕ) (c : ℕ) (r v : List ℕ) → Without is_opening p → is_opening c ≡ true
     → choose (strip p (z ++ c ∷ r)) (begins_with_field Debug) false ≡ choose (strip p (z ++ c ∷ v)) (begins_with_field Debug) false
 stripped_by_front [] z c r v none opens = field_by_front z c r v opens
-stripped_by_front (b ∷ p) [] c r v none opens = go (b == c) refl
-  where
-    go : (same : Bool) → (b == c) ≡ same → choose (strip (b ∷ p) (c ∷ r)) (begins_with_field Debug) false ≡ choose (strip (b ∷ p) (c ∷ v)) (begins_with_field Debug) false
-    go true e = absurd (passes_not is_opening c b opens none.0 (sym (eqb-true b c e)))
-    go false e = ap (λ s. choose (cond s (strip p r) None) (begins_with_field Debug) false) e ∙ sym (ap (λ s. choose (cond s (strip p v) None) (begins_with_field Debug) false) e)
-stripped_by_front (b ∷ p) (a ∷ z) c r v none opens = go (b == a) (stripped_by_front p z c r v none.1 opens)
-  where
-    go : (same : Bool) → choose (strip p (z ++ c ∷ r)) (begins_with_field Debug) false ≡ choose (strip p (z ++ c ∷ v)) (begins_with_field Debug) false
-        → choose (cond same (strip p (z ++ c ∷ r)) None) (begins_with_field Debug) false ≡ choose (cond same (strip p (z ++ c ∷ v)) None) (begins_with_field Debug) false
-    go true more = more
-    go false more = refl
+stripped_by_front (b ∷ p) [] c r v none opens =
+    let other : (b == c) ≡ false = false_from_ne_true (b == c) (λ same. passes_not is_opening c b opens none.0 (sym (eqb-true b c same))) in
+    rw other refl
+stripped_by_front (b ∷ p) (a ∷ z) c r v none opens = elim (cases_Bool (b == a)) [
+  | inl is ↦ rw is (stripped_by_front p z c r v none.1 opens)
+  | inr is ↦ rw is refl
+]
 
 -- so it is with the line of a field in a pretty struct
 pub struct_by_front : (z : List ℕ) (c : ℕ) (r v : List ℕ) → is_opening c ≡ true → is_in_struct Plain (z ++ c ∷ r) ≡ is_in_struct Plain (z ++ c ∷ v)
@@ -155,11 +146,7 @@ leaf_field (c ∷ t) u h follows =
     ap (λ w. choose (if_name Debug w (after_leaf beginning ((c ∷ t) ++ u))) has_colon false) fronts.front
     ∙ ap (λ v. choose (if_name Debug (c ∷ t) v) has_colon false) fronts.after
     ∙ ap (λ b. choose (cond {A = Option (List ℕ × List ℕ)} (b && is_name Debug (c ∷ t)) (Some (c ∷ t, u)) None) has_colon false) fronts.whole
-    ∙ go (is_name Debug (c ∷ t))
-  where
-    go : (b : Bool) → choose (cond {A = Option (List ℕ × List ℕ)} b (Some (c ∷ t, u)) None) has_colon false ≡ (b && is_some (strip (codes ": ") u))
-    go true = refl
-    go false = refl
+    ∙ (elim (is_name Debug (c ∷ t)) as (λ b. choose (cond {A = Option (List ℕ × List ℕ)} b (Some (c ∷ t, u)) None) has_colon false ≡ (b && is_some (strip (codes ": ") u))) [ true ↦ refl | false ↦ refl ])
 
 module _ (i j : Setting) (u v : List ℕ) (first : IsDebugFollower u) (second : IsDebugFollower v) (same : is_some (strip (codes ": ") u) ≡ is_some (strip (codes ": ") v)) where
   -- a document's text is a field's name before a colon in both modes, or in none

@@ -1,13 +1,12 @@
 -- Where a group ends, a text may be cut.
 use Rattle.std.proofs.Common.{◌≡◌, ◌≢◌, ◌⊎◌, inl, inr, ◌∙◌, refl, ap, sym, subst, ℕ, zero, suc, ◌+◌, ◌-◌, ◌<◌, ◌≤◌, ◌==◌, ◌&&◌, Bool, true, false, cond, List, [], ◌∷◌, ◌++◌, append_assoc, append-nil, drop, take, get_or, length, length-append, length-drop, eqb-true, arith}
 use Rattle.std.proofs.Math.Seq.{get_or-append_seam}
-use Rattle.std.proofs.lemmas.Bool.{true≢false}
-use Rattle.std.proofs.lemmas.Bool.Decides.{nat_tests}
+use Rattle.std.proofs.lemmas.Bool.{cases_Bool, cases_lt, true≢false}
 use Rattle.std.proofs.lemmas.List.{get_or-append-add, get_or-drop, length-take-le, take-append-drop}
 use Rattle.std.proofs.lemmas.List.Elements.{All-head, All-tail}
-use Rattle.std.specs.Prelude.{nat_le, nat_lt}
 use Rattle.ufmt.specs.Bytes.{line_feed, opening_brace, space}
 use Rattle.ufmt.specs.Leaves.{begins_with, is_ender, is_name_byte, is_opening}
+use Rattle.ufmt_values.proofs.LastWords.{run_begins, run_on}
 use Rattle.ufmt_values.proofs.NameBrackets.{name_no_ender, opening_no_ender}
 use Rattle.ufmt_lines.proofs.LineEnds.{front_in_line, front_indented, opens_long, rest_ended, word_within}
 use Rattle.ufmt_lines.proofs.PlainCuts.{BeginsAnew, Parts, Turns}
@@ -24,42 +23,24 @@ use Rattle.ufmt_values.specs.Values.{run_start}
 -- the byte before a run is no name's
 before_run : (text : List ℕ) (end l : ℕ) → run_start text 0 end ≡ suc l → is_name_byte (get_or text l 0) ≡ false
 before_run text zero l is = absurd (omega (arith, is))
-before_run text (suc n) l is = go (is_name_byte (get_or text n 0)) refl (ap (λ b. cond (b && is_name_byte (get_or text n 0)) (run_start text 0 n) (suc n)) low) (before_run text n l)
-  where
-    low : nat_le 0 n ≡ true
-    low = grind (arith, nat_tests)
-
-    go : (b : Bool) → is_name_byte (get_or text n 0) ≡ b → run_start text 0 (suc n) ≡ cond (is_name_byte (get_or text n 0)) (run_start text 0 n) (suc n)
-        → (run_start text 0 n ≡ suc l → is_name_byte (get_or text l 0) ≡ false) → is_name_byte (get_or text l 0) ≡ false
-    go true named step more = more (sym (step ∙ ap (λ b. cond b (run_start text 0 n) (suc n)) named) ∙ is)
-    go false named step more =
-        let here : suc n ≡ suc l = sym (step ∙ ap (λ b. cond b (run_start text 0 n) (suc n)) named) ∙ is in
-        let same : l ≡ n = omega (arith, here) in
-        ap (λ i. is_name_byte (get_or text i 0)) same ∙ named
+before_run text (suc n) l is = elim (cases_Bool (is_name_byte (get_or text n 0))) [
+  | inl named ↦ before_run text n l (sym (run_on text n named) ∙ is)
+  | inr other ↦
+      let here : suc n ≡ suc l = sym (run_begins text n other) ∙ is in
+      let same : l ≡ n = omega (arith, here) in
+      ap (λ i. is_name_byte (get_or text i 0)) same ∙ other
+]
 
 -- the bytes in it are
 in_run : (text : List ℕ) (end j : ℕ) → run_start text 0 end ≤ j → j < end → is_name_byte (get_or text j 0) ≡ true
 in_run text zero j from less = absurd (omega (arith, less))
-in_run text (suc n) j from less = go (is_name_byte (get_or text n 0)) refl (ap (λ b. cond (b && is_name_byte (get_or text n 0)) (run_start text 0 n) (suc n)) low) (in_run text n j)
-  where
-    low : nat_le 0 n ≡ true
-    low = grind (arith, nat_tests)
-
-    go : (b : Bool) → is_name_byte (get_or text n 0) ≡ b → run_start text 0 (suc n) ≡ cond (is_name_byte (get_or text n 0)) (run_start text 0 n) (suc n)
-        → (run_start text 0 n ≤ j → j < n → is_name_byte (get_or text j 0) ≡ true) → is_name_byte (get_or text j 0) ≡ true
-    go true named step more =
-        let from_n : run_start text 0 n ≤ j = subst (λ s. s ≤ j) (step ∙ ap (λ b. cond b (run_start text 0 n) (suc n)) named) from in
-        last (nat_lt j n) refl (more from_n)
-      where
-        last : (b : Bool) → nat_lt j n ≡ b → (j < n → is_name_byte (get_or text j 0) ≡ true) → is_name_byte (get_or text j 0) ≡ true
-        last true is inner = inner (grind (arith, nat_tests))
-        last false is inner =
-            let after : n ≤ j = grind (arith, nat_tests) in
-            let same : j ≡ n = omega (arith, after, less) in
-            ap (λ i. is_name_byte (get_or text i 0)) same ∙ named
-    go false named step more =
-        let past : suc n ≤ j = subst (λ s. s ≤ j) (step ∙ ap (λ b. cond b (run_start text 0 n) (suc n)) named) from in
-        absurd (omega (arith, past, less))
+in_run text (suc n) j from less = elim (cases_Bool (is_name_byte (get_or text n 0))) [
+  | inl named ↦ elim (cases_lt j n) [
+    | inl inner ↦ in_run text n j (subst (λ s. s ≤ j) (run_on text n named) from) inner
+    | inr after ↦ let same : j ≡ n = omega (arith, after, less) in ap (λ i. is_name_byte (get_or text i 0)) same ∙ named
+  ]
+  | inr other ↦ let past : suc n ≤ j = subst (λ s. s ≤ j) (run_begins text n other) from in absurd (omega (arith, past, less))
+]
 
 both_true : (a b : Bool) → (a && b) ≡ true → (a ≡ true) × (b ≡ true)
 both_true true b h = (refl, h)
@@ -226,7 +207,10 @@ module _ (lines line more : List ℕ) (ends : EndsLine lines) (ended : IsEndedLi
 
   -- no brace comes right after a space before the word
   no_spaced : (y : List ℕ) (c : ℕ) → front ≡ y ++ c ∷ [] → (get_or line s 0 == opening_brace) ≡ true → (c == space) ≡ false
-  no_spaced y c same brace = go (is_spaced_brace line bracket) refl
+  no_spaced y c same brace = elim (cases_Bool (is_spaced_brace line bracket)) [
+    | inl kind ↦ at_spaced kind (by_word true kind (bracket - 1) refl)
+    | inr kind ↦ at_end kind (by_word false kind bracket refl)
+  ]
     where
       name_no_brace : is_name_byte (get_or line s 0) ≡ true → ⊥
       name_no_brace named = true≢false (sym named ∙ ap is_name_byte (eqb-true (get_or line s 0) opening_brace brace))
@@ -241,34 +225,44 @@ module _ (lines line more : List ℕ) (ends : EndsLine lines) (ended : IsEndedLi
       not_both true b h e = h
       not_both false b h e = absurd (cc)
 
-      at_end : (b : Bool) → nat_lt s bracket ≡ b → is_spaced_brace line bracket ≡ false → s ≡ run_start line 0 bracket → (c == space) ≡ false
-      at_end true less kind at = absurd (in_word bracket at (grind (arith, nat_tests)))
-      at_end false less kind at =
-          let low = before in
-          let after : bracket ≤ s = grind (arith, nat_tests) in
-          let place : s ≡ bracket = omega (arith, low, after) in
-          let last = last_byte y c same in
-          let size = last.0 in
-          let index : bracket - 1 ≡ length y = omega (arith, place, size) in
-          ap (λ b. b == space) (sym last.1) ∙ ap (λ j. get_or line j 0 == space) (sym index)
-          ∙ not_both _ _ kind (ap (λ j. get_or line j 0 == opening_brace) (sym place) ∙ brace)
+      at_end : is_spaced_brace line bracket ≡ false → s ≡ run_start line 0 bracket → (c == space) ≡ false
+      at_end kind at = elim (cases_lt s bracket) [
+        | inl less ↦ absurd (in_word bracket at less)
+        | inr after ↦
+            let low = before in
+            let place : s ≡ bracket = omega (arith, low, after) in
+            let last = last_byte y c same in
+            let size = last.0 in
+            let index : bracket - 1 ≡ length y = omega (arith, place, size) in
+            ap (λ b. b == space) (sym last.1) ∙ ap (λ j. get_or line j 0 == space) (sym index)
+            ∙ not_both _ _ kind (ap (λ j. get_or line j 0 == opening_brace) (sym place) ∙ brace)
+      ]
 
-      at_spaced : (b : Bool) → nat_lt s (bracket - 1) ≡ b → is_spaced_brace line bracket ≡ true → s ≡ run_start line 0 (bracket - 1) → s ≤ bracket - 1 → (c == space) ≡ false
-      at_spaced true less kind at within = absurd (in_word (bracket - 1) at (grind (arith, nat_tests)))
-      at_spaced false less kind at within =
-          let after : bracket - 1 ≤ s = grind (arith, nat_tests) in
-          let place : s ≡ bracket - 1 = omega (arith, within, after) in
-          absurd (at_space (ap (λ j. get_or line j 0 == space) place ∙ (both_true _ _ kind).1))
-
-      go : (spaced : Bool) → is_spaced_brace line bracket ≡ spaced → (c == space) ≡ false
-      go true kind =
-          let at = by_word true kind (bracket - 1) refl in
-          at_spaced (nat_lt s (bracket - 1)) refl kind at (subst (λ n. n ≤ bracket - 1) (sym at) (run_within line 0 (bracket - 1)))
-      go false kind = at_end (nat_lt s bracket) refl kind (by_word false kind bracket refl)
+      at_spaced : is_spaced_brace line bracket ≡ true → s ≡ run_start line 0 (bracket - 1) → (c == space) ≡ false
+      at_spaced kind at = elim (cases_lt s (bracket - 1)) [
+        | inl less ↦ absurd (in_word (bracket - 1) at less)
+        | inr after ↦
+            let within : s ≤ bracket - 1 = subst (λ n. n ≤ bracket - 1) (sym at) (run_within line 0 (bracket - 1)) in
+            let place : s ≡ bracket - 1 = omega (arith, within, after) in
+            absurd (at_space (ap (λ j. get_or line j 0 == space) place ∙ (both_true _ _ kind).1))
+      ]
 
   -- a line that is all word begins with no ender
   word_no_ender : s ≡ 0 → is_ender (get_or line 0 0) ≡ false
-  word_no_ender first = go (is_spaced_brace line bracket) refl
+  word_no_ender first = elim (cases_Bool (is_spaced_brace line bracket)) [
+    | inl kind ↦ elim (cases_lt 0 (bracket - 1)) [
+      | inl some ↦ named (bracket - 1) (by_word true kind (bracket - 1) refl) some
+      | inr none ↦
+          let place : bracket - 1 ≡ 0 = omega (arith, none) in
+          absurd (no_space_first (ap (λ j. get_or line j 0 == space) (sym place) ∙ (both_true _ _ kind).1))
+    ]
+    | inr kind ↦ elim (cases_lt 0 bracket) [
+      | inl some ↦ named bracket (by_word false kind bracket refl) some
+      | inr none ↦
+          let place : bracket ≡ 0 = omega (arith, none) in
+          opening_no_ender (get_or line 0 0) (ap (λ j. is_opening (get_or line j 0)) (sym place) ∙ (both_true _ _ is).1)
+    ]
+  ]
     where
       no_space_first : (get_or line 0 0 == space) ≡ true → ⊥
       no_space_first spaced = true≢false (sym spaced ∙ at line edge spaced)
@@ -279,24 +273,6 @@ module _ (lines line more : List ℕ) (ends : EndsLine lines) (ended : IsEndedLi
 
       named : (i : ℕ) → s ≡ run_start line 0 i → 0 < i → is_ender (get_or line 0 0) ≡ false
       named i at some = name_no_ender (get_or line 0 0) (in_run line i 0 (subst (λ n. n ≤ 0) (sym first ∙ at) (omega arith)) some)
-
-      go : (spaced : Bool) → is_spaced_brace line bracket ≡ spaced → is_ender (get_or line 0 0) ≡ false
-      go true kind = by (nat_lt 0 (bracket - 1)) refl
-        where
-          by : (b : Bool) → nat_lt 0 (bracket - 1) ≡ b → is_ender (get_or line 0 0) ≡ false
-          by true less = named (bracket - 1) (by_word true kind (bracket - 1) refl) (grind (arith, nat_tests))
-          by false less =
-              let none : bracket - 1 ≤ 0 = grind (arith, nat_tests) in
-              let place : bracket - 1 ≡ 0 = omega (arith, none) in
-              absurd (no_space_first (ap (λ j. get_or line j 0 == space) (sym place) ∙ (both_true _ _ kind).1))
-      go false kind = by (nat_lt 0 bracket) refl
-        where
-          by : (b : Bool) → nat_lt 0 bracket ≡ b → is_ender (get_or line 0 0) ≡ false
-          by true less = named bracket (by_word false kind bracket refl) (grind (arith, nat_tests))
-          by false less =
-              let none : bracket ≤ 0 = grind (arith, nat_tests) in
-              let place : bracket ≡ 0 = omega (arith, none) in
-              opening_no_ender (get_or line 0 0) (ap (λ j. is_opening (get_or line j 0)) (sym place) ∙ (both_true _ _ is).1)
 
   at_front : (t : List ℕ) → 2 ≤ length t → is_indented t ≡ false → is_ender (get_or t 0 0) ≡ false → BeginsAnew (t ++ more)
   at_front [] some h e = absurd (omega (arith, some))

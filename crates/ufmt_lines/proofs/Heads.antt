@@ -1,5 +1,6 @@
 -- How the texts of documents begin: with a leaf, or with a bracket or a name and a bracket, in each mode alike.
-use Rattle.std.proofs.Common.{◌≡◌, ◌≢◌, ◌⊎◌, inl, inr, ◌∙◌, refl, ap, sym, subst, ℕ, ◌==◌, Bool, true, false, List, [], ◌∷◌, ◌++◌, Some, codes, append_assoc, append-nil, get_or, eqb-true, arith}
+use Rattle.std.proofs.Common.{◌≡◌, ◌≢◌, ◌⊎◌, inl, inr, ◌∙◌, refl, ap, sym, subst, ℕ, ◌==◌, true, false, List, [], ◌∷◌, ◌++◌, Some, codes, append_assoc, append-nil, get_or, eqb-true, arith}
+use Rattle.std.proofs.lemmas.Bool.{false_from_ne_true}
 use Rattle.ufmt.specs.Bytes.{line_feed, opening_brace, opening_bracket, opening_parenthesis, space}
 use Rattle.ufmt.specs.Document.{Document, leaf, joined, list_of, set_of, map_of, struct_of, non_exhaustive_of, tuple_of, pretty_part, no_documents, first_document, no_fields, first_field}
 use Rattle.ufmt.specs.Layout.{frame, inside, new_line, brace_space, trail, block_tail, layout, texts, pair_texts, field_texts}
@@ -40,11 +41,7 @@ pub solid_in_line : {a : List ℕ} → BeginsSolid a → InLine a
 solid_in_line h = λ v is. h.solid.no_line_feed (ap (λ l. get_or l 0 0) (sym h.is ∙ is))
 
 leaf_no_space : (c : ℕ) (t : List ℕ) (next : Place) → place_after beginning c t ≡ Some next → (c == space) ≡ false
-leaf_no_space c t next h = go (c == space) refl
-  where
-    go : (same : Bool) → (c == space) ≡ same → (c == space) ≡ false
-    go false e = e
-    go true e = let at = subst (λ b. place_after beginning b t ≡ Some next) (eqb-true c space e) h in absurd (cc)
+leaf_no_space c t next h = false_from_ne_true (c == space) (λ is. let at = subst (λ b. place_after beginning b t ≡ Some next) (eqb-true c space is) h in absurd (cc))
 
 -- a leaf does so
 leaf_solid : (text : List ℕ) → IsDebugLeaf text → BeginsSolid text

@@ -1,6 +1,6 @@
 -- The first line of a text, and what follows it.
-use Rattle.std.proofs.Common.{◌≡◌, ◌≢◌, ◌∙◌, refl, ap, sym, subst, ℕ, suc, ◌+◌, ◌<◌, ◌≤◌, Bool, true, false, List, [], ◌∷◌, ◌++◌, drop, take, length, eqb-true, add-one, arith}
-use Rattle.std.proofs.lemmas.Bool.{eqb-false}
+use Rattle.std.proofs.Common.{◌≡◌, ◌≢◌, inl, inr, ◌∙◌, ap, sym, subst, ℕ, suc, ◌+◌, ◌<◌, ◌≤◌, List, [], ◌∷◌, ◌++◌, drop, take, length, eqb-true, add-one, arith}
+use Rattle.std.proofs.lemmas.Bool.{cases_Bool, eqb-false}
 use Rattle.std.proofs.lemmas.List.{take-append-drop, take_all}
 use Rattle.std.proofs.lemmas.List.Elements.{All-cons, All-nil}
 use Rattle.ufmt.specs.Bytes.{line_feed}
@@ -15,16 +15,16 @@ record FirstLine (text : List ℕ) (size : ℕ) : Type 0 where
 
 first_line : (text : List ℕ) → FirstLine text (line_len text)
 first_line [] = record { in_line = All-nil (λ b. b ≢ line_feed); ended = λ less. absurd (omega arith) }
-first_line (c ∷ t) = go (is_line_feed c) refl (first_line t)
-  where
-    go : (b : Bool) → is_line_feed c ≡ b → FirstLine t (line_len t) → FirstLine (c ∷ t) (line_len (c ∷ t))
-    go true is more =
-        rw is (record { in_line = All-nil (λ b. b ≢ line_feed); ended = λ less. ap (λ b. b ∷ []) (eqb-true c line_feed is) })
-    go false is more =
-        rw is (record {
-          in_line = All-cons (λ b. b ≢ line_feed) c (take (line_len t) t) (eqb-false c line_feed is) more.in_line;
-          ended = λ less. ap (λ u. c ∷ u) (more.ended (omega (arith, less)));
-        })
+first_line (c ∷ t) =
+    let more = first_line t in
+    elim (cases_Bool (is_line_feed c)) [
+      | inl is ↦ rw is (record { in_line = All-nil (λ b. b ≢ line_feed); ended = λ less. ap (λ b. b ∷ []) (eqb-true c line_feed is) })
+      | inr is ↦
+          rw is (record {
+            in_line = All-cons (λ b. b ≢ line_feed) c (take (line_len t) t) (eqb-false c line_feed is) more.in_line;
+            ended = λ less. ap (λ u. c ∷ u) (more.ended (omega (arith, less)));
+          })
+    ]
 
 -- with a number that is so long
 pub split_at_line : (text : List ℕ) (size : ℕ) → size ≡ line_len text → size < length text → IsEndedLine (take (size + 1) text) × (text ≡ take (size + 1) text ++ drop (size + 1) text)

@@ -1,5 +1,5 @@
 -- A text is made pretty line by line.
-use Rattle.std.proofs.Common.{◌≡◌, ◌⊎◌, inl, inr, ◌∙◌, refl, ap, sym, subst, ℕ, zero, suc, ◌+◌, ◌<◌, ◌≤◌, ◌==◌, ◌&&◌, ◌||◌, true, List, [], ◌∷◌, ◌++◌, append_assoc, Option, Some, None, drop, take, length, length-append, arith}
+use Rattle.std.proofs.Common.{◌≡◌, inl, inr, ◌∙◌, refl, ap, sym, subst, ℕ, zero, suc, ◌+◌, ◌<◌, ◌≤◌, ◌==◌, ◌&&◌, ◌||◌, true, List, [], ◌∷◌, ◌++◌, append_assoc, Option, Some, None, drop, take, length, length-append, arith}
 use Rattle.std.proofs.lemmas.List.{drop-append-le}
 use Rattle.std.specs.Prelude.{nat_le}
 use Rattle.ufmt.specs.Bytes.{line_feed, opening_brace, space}
@@ -9,7 +9,7 @@ use Rattle.ufmt.specs.Leaves.{begins_with, is_opening}
 use Rattle.ufmt_core.specs.declared.layout.Mode.TheVariants.{Plain, Pretty}
 use Rattle.ufmt_lines.proofs.ApartTexts.{converted_apart}
 use Rattle.ufmt_lines.proofs.ConvertedSteps.{convert, enough, found_there, no_bracket, no_value, value_shorter, value_step}
-use Rattle.ufmt_values.proofs.FirstBrackets.{FirstBracket, Without, first_bracket, without_after, without_append, without_drop}
+use Rattle.ufmt_values.proofs.FirstBrackets.{Without, first_bracket, without_after, without_append, without_drop}
 use Rattle.ufmt_lines.proofs.ReadLines.{field_in_line, no_value_in_line, value_in_line}
 use Rattle.ufmt_lines.proofs.ValueStarts.{Apart, could_be_is, from_bracket, start_after, start_within}
 use Rattle.ufmt_lines.specs.OutputLaws.{pretty_with}
@@ -110,34 +110,28 @@ module _ (limit : ℕ) where
 
     -- a line with one
     with_bracket : (most : ℕ) → AllApart most → (z : List ℕ) (k : ℕ) (r : List ℕ) → Without is_opening z → is_opening k ≡ true → length (z ++ k ∷ r) ≤ suc most → Without is_line_feed (z ++ k ∷ r) → AreApart (z ++ k ∷ r) rest
-    with_bracket most all z k r none opens within in_line = λ m n p long short last.
-        ap (convert (pretty_with limit) m) (append_assoc z (k ∷ r) (line_feed ∷ rest)) ∙ go m n p (subst (λ t. length t ≤ m) (append_assoc z (k ∷ r) (line_feed ∷ rest)) long) short last
-      where
-        size : length (z ++ k ∷ r) ≡ length z + suc (length r)
-        size = length-append z (k ∷ r)
-
-        longer : length (z ++ k ∷ (r ++ line_feed ∷ rest)) ≡ length z + suc (length (r ++ line_feed ∷ rest))
-        longer = length-append z (k ∷ (r ++ line_feed ∷ rest))
-
-        go : (m n p : ℕ) → length (z ++ k ∷ (r ++ line_feed ∷ rest)) ≤ m → length (z ++ k ∷ r) ≤ n → length rest ≤ p
-            → convert (pretty_with limit) m (z ++ k ∷ (r ++ line_feed ∷ rest)) ≡ convert (pretty_with limit) n (z ++ k ∷ r) ++ line_feed ∷ convert (pretty_with limit) p rest
-        go zero n p long short last = let whole = longer in absurd (omega (arith, whole, long))
-        go (suc m) zero p long short last = let whole = size in absurd (omega (arith, whole, short))
-        go (suc m) (suc n) p long short last =
-            let whole = size in
-            at_bracket z k r rest none opens in_line m n p (λ line shorter without. all line (omega (arith, whole, within, shorter)) without) long short last _ refl
+    with_bracket most all z k r none opens within in_line zero n p long short last =
+        let whole = length-append (z ++ k ∷ r) (line_feed ∷ rest) in
+        absurd (omega (arith, whole, long))
+    with_bracket most all z k r none opens within in_line (suc m) zero p long short last =
+        let whole = length-append z (k ∷ r) in
+        absurd (omega (arith, whole, short))
+    with_bracket most all z k r none opens within in_line (suc m) (suc n) p long short last =
+        let whole = length-append z (k ∷ r) in
+        let cut = append_assoc z (k ∷ r) (line_feed ∷ rest) in
+        ap (convert (pretty_with limit) (suc m)) cut
+        ∙ at_bracket z k r rest none opens in_line m n p (λ line shorter without. all line (omega (arith, whole, within, shorter)) without) (subst (λ t. length t ≤ suc m) cut long) short last _ refl
 
     -- each line
     lines_apart : (most : ℕ) → AllApart most
     lines_apart zero [] within in_line = without_bracket [] tt
     lines_apart zero (c ∷ line) within in_line = absurd (omega (arith, within))
-    lines_apart (suc most) line within in_line = go (first_bracket line) (lines_apart most)
-      where
-        go : Without is_opening line ⊎ FirstBracket line → AllApart most → AreApart line rest
-        go (inl none) all = without_bracket line none
-        go (inr f) all =
-            subst (λ t. AreApart t rest) (sym f.is)
-            (with_bracket most all f.before f.bracket f.after f.none f.opens (subst (λ t. length t ≤ suc most) f.is within) (subst (Without is_line_feed) f.is in_line))
+    lines_apart (suc most) line within in_line = elim (first_bracket line) [
+      | inl none ↦ without_bracket line none
+      | inr f ↦
+          subst (λ t. AreApart t rest) (sym f.is)
+          (with_bracket most (lines_apart most) f.before f.bracket f.after f.none f.opens (subst (λ t. length t ≤ suc most) f.is within) (subst (Without is_line_feed) f.is in_line))
+    ]
 
   -- the output for a line, its line feed, and the output for the rest
   pub pretty_line : (line rest : List ℕ) → Without is_line_feed line → output_of (pretty_with limit) (line ++ line_feed ∷ rest) ≡ output_of (pretty_with limit) line ++ line_feed ∷ output_of (pretty_with limit) rest

@@ -50,12 +50,9 @@ no_bytes (c ∷ a) b is = absurd (cc)
 -- what follows some bytes of whole lines ends a line
 pub ends_left : (first left : List ℕ) → EndsLine (first ++ left) → EndsLine left
 ends_left first left (inl none) = inl (no_bytes first left none)
-ends_left first left (inr (line, is)) = go first line is
-  where
-    go : (first line : List ℕ) → first ++ left ≡ line ++ line_feed ∷ [] → EndsLine left
-    go [] line is = inr (line, is)
-    go (c ∷ first) [] is = inl (no_bytes first left (cc))
-    go (c ∷ first) (d ∷ line) is = go first line (cc)
+ends_left [] left (inr (line, is)) = inr (line, is)
+ends_left (c ∷ first) left (inr ([], is)) = inl (no_bytes first left (cc))
+ends_left (c ∷ first) left (inr (d ∷ line, is)) = ends_left first left (inr (line, cc))
 
 -- what follows a line in whole lines ends a line
 pub left_ends : (k : ℕ) (lines line left : List ℕ) → EndsLine lines → drop k lines ≡ line ++ left → EndsLine left

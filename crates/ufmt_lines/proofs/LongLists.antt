@@ -1,5 +1,7 @@
 -- A list with several leaves doesn't begin as an address in brackets does, whatever follows it.
-use Rattle.std.proofs.Common.{◌≡◌, ◌∙◌, refl, ap, subst, ℕ, ◌==◌, Bool, true, false, cond, List, [], ◌∷◌, ◌++◌, append_assoc, codes, eqb-true}
+use Rattle.std.proofs.Common.{◌≡◌, inl, inr, ◌∙◌, refl, ap, ℕ, ◌==◌, true, false, cond, List, [], ◌∷◌, ◌++◌, append_assoc, codes, arith}
+use Rattle.std.proofs.lemmas.Bool.Decides.{nat_tests}
+use Rattle.std.proofs.lemmas.Bool.{cases_Bool}
 use Rattle.ufmt.specs.Bytes.{closing_bracket}
 use Rattle.ufmt.specs.Document.{Document, leaf, joined, list_of, set_of, map_of, struct_of, non_exhaustive_of, tuple_of, pretty_part, Documents, no_documents, first_document, no_pairs, first_pair, no_fields, first_field}
 use Rattle.ufmt.specs.Layout.{block_tail, frame, plain_text, setting, texts}
@@ -20,11 +22,9 @@ use Rattle.ufmt_values.proofs.NameBrackets.{opening_no_ender, opening_no_name}
 no_port : (c : ℕ) (t : List ℕ) → is_ender c ≡ false → is_port (c ∷ t) ≡ false
 no_port c [] other = refl
 no_port c (b ∷ []) other = refl
-no_port c (b ∷ d ∷ t) other = go (c == closing_bracket) refl
-  where
-    go : (same : Bool) → (c == closing_bracket) ≡ same → is_port (c ∷ b ∷ d ∷ t) ≡ false
-    go false is = rw is refl
-    go true is = let none = subst (λ x. is_ender x ≡ false) (eqb-true c closing_bracket is) other in absurd (cc)
+no_port c (b ∷ d ∷ t) other =
+    let apart : (c == closing_bracket) ≡ false = grind (arith, nat_tests) in
+    rw apart refl
 
 port_search : IsSearch is_name_byte is_port
 port_search = record { named = λ c h. h; none = no_port }
@@ -33,11 +33,10 @@ port_search = record { named = λ c h. h; none = no_port }
 past_head : (head : List ℕ) (k : ℕ) (t : List ℕ) → Without is_ender head → is_opening k ≡ true → is_port (past is_name_byte (head ++ k ∷ t)) ≡ false
 past_head [] k t none opens =
     ap (λ b. is_port (cond b (past is_name_byte t) (k ∷ t))) (opening_no_name k opens) ∙ no_port k t (opening_no_ender k opens)
-past_head (c ∷ head) k t none opens = go (is_name_byte c) (past_head head k t none.1 opens)
-  where
-    go : (named : Bool) → is_port (past is_name_byte (head ++ k ∷ t)) ≡ false → is_port (cond named (past is_name_byte (head ++ k ∷ t)) (c ∷ (head ++ k ∷ t))) ≡ false
-    go true further = further
-    go false further = no_port c (head ++ k ∷ t) none.0
+past_head (c ∷ head) k t none opens = elim (cases_Bool (is_name_byte c)) [
+  | inl is ↦ rw is (past_head head k t none.1 opens)
+  | inr is ↦ rw is (no_port c (head ++ k ∷ t) none.0)
+]
 
 -- the only entry of such a list has entries
 only_block : (d : Document) → IsBuilt Debug d → has_one_leaf (list_of (first_document d no_documents)) ≡ false → IsBlock d

@@ -1,7 +1,8 @@
 -- The plain text of a value that has no reason to stay becomes its pretty text.
-use Rattle.std.proofs.Common.{◌≡◌, ◌∙◌, refl, ap, sym, ℕ, suc, ◌+◌, ◌-◌, ◌<◌, ◌≤◌, ◌&&◌, Bool, true, false, List, [], ◌∷◌, ◌++◌, append_assoc, append-nil, codes, Some, drop, take, length, length-append, arith}
+use Rattle.std.proofs.Common.{◌≡◌, ◌∙◌, refl, ap, sym, ℕ, suc, ◌+◌, ◌-◌, ◌<◌, ◌≤◌, true, false, List, [], ◌∷◌, ◌++◌, append_assoc, append-nil, codes, Some, drop, take, length, length-append, arith}
 use Rattle.std.proofs.Math.Seq.{drop-append_seam, take-append_seam}
 use Rattle.std.proofs.lemmas.Bool.Decides.{nat_tests}
+use Rattle.std.proofs.lemmas.Bool.{and_right}
 use Rattle.std.proofs.lemmas.List.{drop-append-le, take-append-le}
 use Rattle.std.specs.Prelude.{nat_le}
 use Rattle.ufmt.specs.Document.{Document, leaf, joined, list_of, set_of, map_of, struct_of, non_exhaustive_of, tuple_of, pretty_part, no_documents, first_document, no_pairs, first_pair, no_fields, first_field}
@@ -96,11 +97,7 @@ made_pretty limit front rest d e long h =
 
 -- after a space no field begins
 no_field : (z tail : List ℕ) → could_be_struct (z ++ 123 ∷ 32 ∷ tail) 0 (length z) ≡ false
-no_field z tail = could_be_is z 123 (32 ∷ tail) ∙ go (is_after_name z 0 (length z))
-  where
-    go : (b : Bool) → b && false ≡ false
-    go true = refl
-    go false = refl
+no_field z tail = could_be_is z 123 (32 ∷ tail) ∙ and_right (is_after_name z 0 (length z)) false refl
 
 -- a tuple with a longer name has a name too
 named_kind : (a : List ℕ) (c : ℕ) (w : List ℕ) → tuple_kind (a ++ c ∷ w) ≡ Tuple

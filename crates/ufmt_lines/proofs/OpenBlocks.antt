@@ -1,7 +1,8 @@
 -- Blocks in blocks: a value has a value wherever a block with entries begins at the place of one of its entries.
-use Rattle.std.proofs.Common.{◌≡◌, inl, inr, ◌∙◌, refl, ap, sym, subst, eqb-true, ℕ, zero, suc, ◌+◌, ◌≤◌, ◌<◌, ◌==◌, ◌&&◌, ◌||◌, not, Bool, true, false, cond, List, [], ◌∷◌, ◌++◌, codes, append_assoc, Option, Some, None, drop, get_or, length, nat_lt, set, arith}
+use Rattle.std.proofs.Common.{◌≡◌, inl, inr, ◌∙◌, refl, ap, sym, subst, eqb-true, ℕ, zero, suc, ◌+◌, ◌≤◌, ◌<◌, ◌==◌, ◌&&◌, ◌||◌, not, Bool, true, false, cond, List, [], ◌∷◌, ◌++◌, codes, append_assoc, Some, None, drop, get_or, length, nat_lt, set, arith}
+use Rattle.std.proofs.Math.Seq.{get_or-append_seam}
 use Rattle.std.proofs.lemmas.Bool.Decides.{nat_tests}
-use Rattle.std.proofs.lemmas.Bool.{true≢false}
+use Rattle.std.proofs.lemmas.Bool.{and_parts, cases_Bool, cond-false, cond-true, true≢false}
 use Rattle.std.proofs.lemmas.List.{drop-drop, drop-set, drop_all, drop_more}
 use Rattle.std.proofs.lemmas.Str.{IsUtf8-from_ascii, is_utf8-from_IsUtf8}
 use Rattle.std.proofs.lemmas.Str.Ascii.{IsAscii-cons, IsAscii-nil}
@@ -17,7 +18,7 @@ use Rattle.ufmt_core.specs.declared.layout.Kind.TheVariants.{Brackets, Braces, S
 use Rattle.ufmt_core.specs.declared.layout.Mode.TheVariants.{Plain, Pretty}
 use Rattle.ufmt_core.specs.declared.layout.Setting.{Setting}
 use Rattle.ufmt_grammar.proofs.ClassLeaves.{Begins, Begins-append, brace_follows, colon_follows, ender_follows, name_some}
-use Rattle.ufmt_grammar.proofs.DebugLeaves.{OutsideStep, both, each_quote, lifetime_by, opening_is_quote, outside_step}
+use Rattle.ufmt_grammar.proofs.DebugLeaves.{both, each_quote, lifetime_by, opening_is_quote, outside_step}
 use Rattle.ufmt_grammar.proofs.ReadingComplete.{IsBlock, read_complete}
 use Rattle.ufmt_grammar.proofs.Parsing.{same_parts}
 use Rattle.ufmt_grammar.proofs.ReadingSound.{read_sound}
@@ -30,7 +31,7 @@ use Rattle.ufmt_values.proofs.NameBrackets.{name_no_opening, name_without_openin
 use Rattle.ufmt_lines.specs.Private.OpenBlocks.{AreBarren, AreEntries, Entries, IsReached, begins_block, begins_fields, first_entry, has_entry, is_separated}
 use Rattle.ufmt_scan.specs.Fronts.{IsFront, read_front}
 use Rattle.ufmt_scan.specs.declared.text.FrontText.{FrontText}
-use Rattle.ufmt_values.proofs.FoundValues.{front_value, value_entries, value_read}
+use Rattle.ufmt_values.proofs.FoundValues.{front_value, none_unless, value_entries, value_read}
 use Rattle.ufmt_values.proofs.StructTexts.{dotted_text, lead_is, none_or_some, struct_text}
 use Rattle.ufmt_values.specs.Private.FieldsLeft.{after_field}
 use Rattle.ufmt_values.specs.Unclosed.{is_closing}
@@ -132,11 +133,7 @@ after_fields (first_field name value fs) dots u built deep =
 -- it comes after the first bracket
 module _ (z : List ℕ) (k : ℕ) (r : List ℕ) (none : Without is_opening z) (opens : is_opening k ≡ true) where
   bracket_is : get_or (z ++ k ∷ r) (before_bracket (z ++ k ∷ r)) 0 ≡ k
-  bracket_is = ap (λ i. get_or (z ++ k ∷ r) i 0) (before_first z k r none opens) ∙ go z
-    where
-      go : (z : List ℕ) → get_or (z ++ k ∷ r) (length z) 0 ≡ k
-      go [] = refl
-      go (c ∷ z) = go z
+  bracket_is = ap (λ i. get_or (z ++ k ∷ r) i 0) (before_first z k r none opens) ∙ get_or-append_seam z k r 0
 
   first_by : (brace some : Bool) → (k == opening_brace) ≡ brace → nat_lt 0 (length z) ≡ some → first_entry (z ++ k ∷ r) ≡ cond (brace && some) (length z + 2) (length z + 1)
   first_by brace some is_brace is_some =
@@ -225,11 +222,7 @@ begins_none named c t opens spaces name =
 
 -- a byte of a name is no space
 name_no_space : (c : ℕ) → is_name_byte c ≡ true → (c == space) ≡ false
-name_no_space c h = go (c == space) refl
-  where
-    go : (b : Bool) → (c == space) ≡ b → (c == space) ≡ false
-    go false e = e
-    go true e = let at = subst (λ x. is_name_byte x ≡ true) (eqb-true c space e) h in absurd (cc)
+name_no_space c h = grind (arith, nat_tests)
 
 begins_name : (named : Bool) (c : ℕ) (t : List ℕ) → is_name_byte c ≡ true → begins_block named (c ∷ t) ≡ begins_block (not (c == colon)) t
 begins_name named c t name =
@@ -255,24 +248,21 @@ follower_none named (c ∷ b ∷ u) (inr (inr h)) = rw (h.0, h.1) (both_false na
 -- a bracket that closes after bytes of a name
 closes_none : (t : List ℕ) (k : ℕ) → is_closing k ≡ true → is_name_byte k ≡ false → begins_with k (past is_name_byte t) ≡ true → (u : List ℕ) → has_entry (t ++ u) ≡ false
 closes_none [] k closes no_name h u = absurd (cc)
-closes_none (c ∷ t) k closes no_name h u = go (is_name_byte c) refl h (λ e. closes_none t k closes no_name e u)
-  where
-    go : (name : Bool) → is_name_byte c ≡ name → begins_with k (cond name (past is_name_byte t) (c ∷ t)) ≡ true → (begins_with k (past is_name_byte t) ≡ true → has_entry (t ++ u) ≡ false)
-        → cond name (has_entry (t ++ u)) (not (is_closing c)) ≡ false
-    go true is closed more = more closed
-    go false is same more = ap not (ap is_closing (eqb-true c k same) ∙ closes)
+closes_none (c ∷ t) k closes no_name h u = elim (cases_Bool (is_name_byte c)) [
+  | inl is ↦ rw is (closes_none t k closes no_name (rw is at h) u)
+  | inr is ↦ rw is (ap not (ap is_closing (eqb-true c k (rw is at h)) ∙ closes))
+]
 
 -- the same of bytes of a word
 past_name : (t : List ℕ) (k : ℕ) → is_name_byte k ≡ false → begins_with k (past is_debug_byte t) ≡ true → begins_with k (past is_name_byte t) ≡ true
 past_name [] k no_name h = h
-past_name (c ∷ t) k no_name h = go (is_debug_byte c) (is_name_byte c) refl refl h (past_name t k no_name)
-  where
-    go : (word name : Bool) → is_debug_byte c ≡ word → is_name_byte c ≡ name → begins_with k (cond word (past is_debug_byte t) (c ∷ t)) ≡ true
-        → (begins_with k (past is_debug_byte t) ≡ true → begins_with k (past is_name_byte t) ≡ true) → begins_with k (cond name (past is_name_byte t) (c ∷ t)) ≡ true
-    go true true e f closed more = more closed
-    go true false e f closed more = let both_are : is_name_byte c ≡ true = ap (λ b. b || (c == colon)) e in absurd (true≢false (sym both_are ∙ f))
-    go false true e f same more = let at : is_name_byte c ≡ false = ap is_name_byte (eqb-true c k same) ∙ no_name in absurd (true≢false (sym f ∙ at))
-    go false false e f same more = same
+past_name (c ∷ t) k no_name h = elim (cases_Bool (is_debug_byte c)) [
+  | inl is ↦ let named : is_name_byte c ≡ true = ap (λ b. b || (c == colon)) is in rw named (past_name t k no_name (rw is at h))
+  | inr is ↦
+      let same : (c == k) ≡ true = rw is at h in
+      let other : is_name_byte c ≡ false = ap is_name_byte (eqb-true c k same) ∙ no_name in
+      rw other same
+]
 
 word_closes : (t : List ℕ) → is_word_closed t ≡ true → begins_with closing_parenthesis (past is_name_byte t) ≡ true
 word_closes [] h = absurd (cc)
@@ -299,25 +289,35 @@ begins_past k (c ∷ t) no_name h =
     ap (λ b. begins_with k (cond b (past is_name_byte t) (c ∷ t))) at ∙ h
 
 in_word_name : (c : ℕ) (t : List ℕ) → is_in_word c t ≡ true → is_name_byte c ≡ true
-in_word_name c t h = go (c == colon) refl h
-  where
-    go : (b : Bool) → (c == colon) ≡ b → cond b (not (is_spaced t)) (is_debug_byte c && not (c == backslash && begins_quote t)) ≡ true → is_name_byte c ≡ true
-    go true is k = ap is_name_byte (eqb-true c colon is)
-    go false is k = ap (λ b. b || (c == colon)) (both (is_debug_byte c) (not (c == backslash && begins_quote t)) k).0
+in_word_name c t h =
+    let plain = is_debug_byte c && not (c == backslash && begins_quote t) in
+    elim (cases_Bool (c == colon)) [
+      | inl is ↦ ap is_name_byte (eqb-true c colon is)
+      | inr is ↦ ap (λ b. b || (c == colon)) (both (is_debug_byte c) (not (c == backslash && begins_quote t)) (sym (cond-false (c == colon) (not (is_spaced t)) plain is) ∙ h)).0
+    ]
 
 -- none begins with what is left of a leaf, outside of quotes
 module _ (u : List ℕ) (follows : MayFollow Debug u) where
   at_outside : (c : ℕ) (w : List ℕ) (next : Place) (named : Bool) → place_outside c w ≡ Some next → (next ≡ outside → begins_block (not (c == colon)) (w ++ u) ≡ false) → begins_block named (c ∷ (w ++ u)) ≡ false
-  at_outside c w next named step more = go (outside_step c w next step)
-    where
-      go : OutsideStep c w next → begins_block named (c ∷ (w ++ u)) ≡ false
-      go (inl h) = begins_name named c (w ++ u) (in_word_name c w h.0) ∙ more h.1
-      go (inr (inl h)) = each_quote (λ b. begins_block named (b ∷ (w ++ u)) ≡ false) refl refl c (opening_is_quote c w h.0)
-      go (inr (inr (inl h))) = ap (λ b. begins_block named (b ∷ (w ++ u))) (lifetime_by c w h.1).0
-      go (inr (inr (inr h))) = ap (λ b. begins_block named (b ∷ (w ++ u))) h.0 ∙ closes_none w closing_parenthesis refl refl (begins_past closing_parenthesis w refl h.1) u
+  at_outside c w next named step more = elim (outside_step c w next step) [
+    | inl h ↦ begins_name named c (w ++ u) (in_word_name c w h.0) ∙ more h.1
+    | inr (inl h) ↦ each_quote (λ b. begins_block named (b ∷ (w ++ u)) ≡ false) refl refl c (opening_is_quote c w h.0)
+    | inr (inr (inl h)) ↦ ap (λ b. begins_block named (b ∷ (w ++ u))) (lifetime_by c w h.1).0
+    | inr (inr (inr h)) ↦ ap (λ b. begins_block named (b ∷ (w ++ u))) h.0 ∙ closes_none w closing_parenthesis refl refl (begins_past closing_parenthesis w refl h.1) u
+  ]
 
   at_beginning : (c : ℕ) (w : List ℕ) (next : Place) (named : Bool) → place_after beginning c w ≡ Some next → (next ≡ outside → begins_block (not (c == colon)) (w ++ u) ≡ false) → begins_block named (c ∷ (w ++ u)) ≡ false
-  at_beginning c w next named step more = go (c == 40) (is_word_closed w) (c == 91) (is_address_closed w) refl refl refl refl step
+  at_beginning c w next named step more =
+      let place = cond ((c == 91) && is_address_closed w) (Some in_address) (place_outside c w) in
+      elim (cases_Bool ((c == 40) && is_word_closed w)) [
+        | inl both ↦ let parts = and_parts (c == 40) (is_word_closed w) both in word parts.0 parts.1
+        | inr no_word ↦ elim (cases_Bool ((c == 91) && is_address_closed w)) [
+          | inl both ↦ let parts = and_parts (c == 91) (is_address_closed w) both in address parts.0 parts.1
+          | inr no_address ↦
+              at_outside c w next named (sym (cond-false ((c == 40) && is_word_closed w) (Some in_word) place no_word
+              ∙ cond-false ((c == 91) && is_address_closed w) (Some in_address) (place_outside c w) no_address) ∙ step) more
+        ]
+      ]
     where
       word : (c == 40) ≡ true → is_word_closed w ≡ true → begins_block named (c ∷ (w ++ u)) ≡ false
       word is closed = ap (λ b. begins_block named (b ∷ (w ++ u))) (eqb-true c 40 is) ∙ closes_none w closing_parenthesis refl refl (word_closes w closed) u
@@ -325,22 +325,11 @@ module _ (u : List ℕ) (follows : MayFollow Debug u) where
       address : (c == 91) ≡ true → is_address_closed w ≡ true → begins_block named (c ∷ (w ++ u)) ≡ false
       address is closed = ap (λ b. begins_block named (b ∷ (w ++ u))) (eqb-true c 91 is) ∙ closes_none w closing_bracket refl refl (address_closes w closed) u
 
-      go : (a b d e : Bool) → (c == 40) ≡ a → is_word_closed w ≡ b → (c == 91) ≡ d → is_address_closed w ≡ e → cond (a && b) (Some in_word) (cond (d && e) (Some in_address) (place_outside c w)) ≡ Some next
-          → begins_block named (c ∷ (w ++ u)) ≡ false
-      go true true d e ha hb hd he k = word ha hb
-      go true false true true ha hb hd he k = address hd he
-      go false b true true ha hb hd he k = address hd he
-      go true false true false ha hb hd he k = at_outside c w next named k more
-      go true false false e ha hb hd he k = at_outside c w next named k more
-      go false b true false ha hb hd he k = at_outside c w next named k more
-      go false b false e ha hb hd he k = at_outside c w next named k more
-
   after_colon_none : (c : ℕ) (w : List ℕ) (next : Place) (named : Bool) → place_after after_quotes c w ≡ Some next → (next ≡ outside → begins_block (not (c == colon)) (w ++ u) ≡ false) → begins_block named (c ∷ (w ++ u)) ≡ false
-  after_colon_none c w next named step more = go (c == colon) step
-    where
-      go : (b : Bool) → cond b None (place_outside c w) ≡ Some next → begins_block named (c ∷ (w ++ u)) ≡ false
-      go true k = absurd (cc)
-      go false k = at_outside c w next named k more
+  after_colon_none c w next named step more = elim (cases_Bool (c == colon)) [
+    | inl is ↦ absurd (none_or_some (sym (cond-true (c == colon) None (place_outside c w) is)) step)
+    | inr is ↦ at_outside c w next named (sym (cond-false (c == colon) None (place_outside c w) is) ∙ step) more
+  ]
 
   leaf_none : (place : Place) (w : List ℕ) → is_outside place ≡ true → EndsLeaf place w → (named : Bool) → begins_block named (w ++ u) ≡ false
   leaf_none place [] out ends named = follower_none named u follows
@@ -417,17 +406,13 @@ next_reached text start at next front is separated further reached = λ d u foun
 
 -- no value begins where one would have to be in it
 pub leads : (text : List ℕ) (outer inner : ℕ) → IsReached text outer inner → begins_block false (drop inner text) ≡ true → value_from Pretty (drop inner text) ≡ None → value_from Pretty (drop outer text) ≡ None
-leads text outer inner reached begins none = go (value_from Pretty (drop outer text)) refl
+leads text outer inner reached begins none = none_unless (value_from Pretty (drop outer text)) (λ x is. in_entry (reached x.0 x.1 is))
   where
     in_entry : AreEntries (drop inner text) → ⊥
     in_entry (zero, none_left) = none_left
     in_entry (suc n, e) =
         let entries = block_entries (normal e.0) (block_begins e.0 e.1 e.3 e.5 (sym (ap (begins_block false) e.2) ∙ begins)) in
         none_or_some (sym none) (front_value Pretty (drop inner text) (normal e.0) e.1 (entry_read n (drop inner text) e) entries)
-
-    go : (o : Option (Document × List ℕ)) → value_from Pretty (drop outer text) ≡ o → value_from Pretty (drop outer text) ≡ None
-    go None is = is
-    go (Some x) is = absurd (in_entry (reached x.0 x.1 is))
 
 -- ---- what is kept
 

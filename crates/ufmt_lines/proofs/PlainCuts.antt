@@ -1,6 +1,7 @@
 -- Where a text may be cut, so that each part is made plain by itself: no pretty text is across the cut.
 use Rattle.std.proofs.Common.{◌≡◌, ◌⊎◌, inl, inr, ◌∙◌, refl, ap, sym, subst, ℕ, zero, suc, ◌+◌, ◌≤◌, ◌==◌, Bool, true, false, cond, List, [], ◌∷◌, ◌++◌, append_assoc, append-nil, Option, Some, None, codes, drop, take, get_or, length, length-append, eqb-true, arith}
-use Rattle.std.proofs.lemmas.Bool.{true≢false}
+use Rattle.std.proofs.lemmas.Bool.Decides.{nat_tests}
+use Rattle.std.proofs.lemmas.Bool.{cases_Bool, false_from_ne_true, true≢false}
 use Rattle.std.specs.Prelude.{⊤}
 use Rattle.ufmt.specs.Bytes.{line_feed, opening_brace, space}
 use Rattle.ufmt.specs.Document.{Document}
@@ -15,8 +16,8 @@ use Rattle.ufmt_lines.proofs.BlockTexts.{BlockTexts, block_texts}
 use Rattle.ufmt_values.proofs.Blocks.{entries_block}
 use Rattle.ufmt_lines.proofs.ComesBack.{pretty_read}
 use Rattle.ufmt_lines.proofs.ConvertedSteps.{convert, enough, no_bracket, no_value, value_shorter, value_step, value_whole}
-use Rattle.ufmt_values.proofs.FirstBrackets.{FirstBracket, Without, first_bracket, one_first, without_drop}
-use Rattle.ufmt_values.proofs.FoundValues.{value_entries, value_read}
+use Rattle.ufmt_values.proofs.FirstBrackets.{Without, first_bracket, one_first, without_drop}
+use Rattle.ufmt_values.proofs.FoundValues.{none_unless, value_entries, value_read}
 use Rattle.ufmt_lines.proofs.PrettyInside.{first_line, last_same, line_steep, two_fronts}
 use Rattle.ufmt_lines.proofs.ReadLines.{field_in_line}
 use Rattle.ufmt_lines.proofs.SteepTexts.{BeginsLine, InLine, Steep, steep_after}
@@ -68,20 +69,19 @@ field_after p text = choose (strip p text) (begins_with_field Debug) false
 feed_kept : (p line u : List ℕ) → Without is_line_feed p → field_after p (line ++ line_feed ∷ u) ≡ field_after p line
 feed_kept [] line u none = field_in_line line u
 feed_kept (b ∷ p) [] u none = ap (λ s. choose (cond s (strip p u) None) (begins_with_field Debug) false) none.0
-feed_kept (b ∷ p) (a ∷ line) u none = go (b == a) (feed_kept p line u none.1)
-  where
-    go : (same : Bool) → field_after p (line ++ line_feed ∷ u) ≡ field_after p line
-        → choose (cond same (strip p (line ++ line_feed ∷ u)) None) (begins_with_field Debug) false ≡ choose (cond same (strip p line) None) (begins_with_field Debug) false
-    go true more = more
-    go false more = refl
+feed_kept (b ∷ p) (a ∷ line) u none = elim (cases_Bool (b == a)) [
+  | inl is ↦ rw is (feed_kept p line u none.1)
+  | inr is ↦ rw is refl
+]
 
 -- four spaces don't begin with another byte
 no_indentation : (e : ℕ) (t : List ℕ) → (e == space) ≡ false → field_after (codes "    ") (e ∷ t) ≡ false
-no_indentation e t other = go (32 == e) refl
-  where
-    go : (b : Bool) → (32 == e) ≡ b → choose (cond b (strip (codes "   ") t) None) (begins_with_field Debug) false ≡ false
-    go true is = absurd (true≢false (ap (λ c. c == space) (eqb-true 32 e is) ∙ other))
-    go false is = refl
+no_indentation e t other = let apart : (32 == e) ≡ false = grind (arith, nat_tests) in rw apart refl
+
+-- nor does a text that begins anew
+anew_no_field : (t : List ℕ) → BeginsAnew t → field_after (codes "    ") t ≡ false
+anew_no_field [] h = refl
+anew_no_field (c ∷ t) h = no_indentation c t h.0
 
 spaces_in_line : Without is_line_feed (codes "    ")
 spaces_in_line = (refl, (refl, (refl, (refl, tt))))
@@ -89,27 +89,20 @@ spaces_in_line = (refl, (refl, (refl, (refl, tt))))
 module _ (back : List ℕ) where
   -- so what follows the front doesn't change whether one comes in it
   line_kept : (b : List ℕ) → Turns b ⊎ (EndsLine b × BeginsAnew back) → field_after (codes "    ") (b ++ back) ≡ field_after (codes "    ") b
-  line_kept b (inl t) = ap (λ u. field_after (codes "    ") (u ++ back)) t.is ∙ go t.line ∙ ap (field_after (codes "    ")) (sym t.is)
+  line_kept b (inl t) = rw t.is (elim t.line [
+    | inl empty ↦ ap (λ u. field_after (codes "    ") ((u ++ t.first ∷ t.after) ++ back)) empty ∙ no_indentation t.first (t.after ++ back) t.no_space
+        ∙ sym (no_indentation t.first t.after t.no_space) ∙ ap (λ u. field_after (codes "    ") (u ++ t.first ∷ t.after)) (sym empty)
+    | inr ended ↦ ap (λ u. field_after (codes "    ") ((u ++ t.first ∷ t.after) ++ back)) ended.1
+        ∙ ap (field_after (codes "    ")) (parts ended.0 (t.first ∷ t.after) back)
+        ∙ feed_kept (codes "    ") ended.0 ((t.first ∷ t.after) ++ back) spaces_in_line
+        ∙ sym (feed_kept (codes "    ") ended.0 (t.first ∷ t.after) spaces_in_line)
+        ∙ ap (field_after (codes "    ")) (sym (append_assoc ended.0 (line_feed ∷ []) (t.first ∷ t.after)))
+        ∙ ap (λ u. field_after (codes "    ") (u ++ t.first ∷ t.after)) (sym ended.1)
+  ])
     where
-      go : EndsLine t.before → field_after (codes "    ") ((t.before ++ t.first ∷ t.after) ++ back) ≡ field_after (codes "    ") (t.before ++ t.first ∷ t.after)
-      go (inl empty) =
-          ap (λ u. field_after (codes "    ") ((u ++ t.first ∷ t.after) ++ back)) empty ∙ no_indentation t.first (t.after ++ back) t.no_space
-          ∙ sym (no_indentation t.first t.after t.no_space) ∙ ap (λ u. field_after (codes "    ") (u ++ t.first ∷ t.after)) (sym empty)
-      go (inr ended) =
-          ap (λ u. field_after (codes "    ") ((u ++ t.first ∷ t.after) ++ back)) ended.1
-          ∙ ap (field_after (codes "    ")) (parts ended.0 (t.first ∷ t.after) back)
-          ∙ feed_kept (codes "    ") ended.0 ((t.first ∷ t.after) ++ back) spaces_in_line
-          ∙ sym (feed_kept (codes "    ") ended.0 (t.first ∷ t.after) spaces_in_line)
-          ∙ ap (field_after (codes "    ")) (sym (append_assoc ended.0 (line_feed ∷ []) (t.first ∷ t.after)))
-          ∙ ap (λ u. field_after (codes "    ") (u ++ t.first ∷ t.after)) (sym ended.1)
-        where
-          parts : (l a u : List ℕ) → ((l ++ line_feed ∷ []) ++ a) ++ u ≡ l ++ line_feed ∷ (a ++ u)
-          parts l a u = simp append_assoc
-  line_kept b (inr (inl empty, anew)) = ap (λ u. field_after (codes "    ") (u ++ back)) empty ∙ go back anew ∙ ap (field_after (codes "    ")) (sym empty)
-    where
-      go : (t : List ℕ) → BeginsAnew t → field_after (codes "    ") t ≡ false
-      go [] h = refl
-      go (c ∷ t) h = no_indentation c t h.0
+      parts : (l a u : List ℕ) → ((l ++ line_feed ∷ []) ++ a) ++ u ≡ l ++ line_feed ∷ (a ++ u)
+      parts l a u = simp append_assoc
+  line_kept b (inr (inl empty, anew)) = ap (λ u. field_after (codes "    ") (u ++ back)) empty ∙ anew_no_field back anew ∙ ap (field_after (codes "    ")) (sym empty)
   line_kept b (inr (inr ended, anew)) =
       ap (λ u. field_after (codes "    ") (u ++ back)) ended.1
       ∙ ap (field_after (codes "    ")) (append_assoc ended.0 (line_feed ∷ []) back)
@@ -120,21 +113,17 @@ module _ (back : List ℕ) where
   -- no struct continues without a line feed
   no_struct : (t : List ℕ) → InLine t → is_in_struct Plain t ≡ false
   no_struct [] line = refl
-  no_struct (b ∷ t) line = go (10 == b) refl
-    where
-      go : (same : Bool) → (10 == b) ≡ same → choose (cond same (strip (codes "    ") t) None) (begins_with_field Debug) false ≡ false
-      go true is = absurd (line t (ap (λ c. c ∷ t) (sym (eqb-true 10 b is))))
-      go false is = refl
+  no_struct (b ∷ t) line =
+      let other : (10 == b) ≡ false = false_from_ne_true (10 == b) (λ is. line t (ap (λ c. c ∷ t) (sym (eqb-true 10 b is)))) in
+      rw other refl
 
   -- what follows the front doesn't make its last bracket a struct's
   struct_kept : (k : ℕ) (r : List ℕ) → is_opening k ≡ true → Parts (k ∷ r) back → is_in_struct Plain (r ++ back) ≡ is_in_struct Plain r
   struct_kept k [] opens h = no_struct back ((h.seam [] k refl).2 opens)
-  struct_kept k (b ∷ r) opens h = go (10 == b) refl
-    where
-      go : (same : Bool) → (10 == b) ≡ same
-          → choose (cond same (strip (codes "    ") (r ++ back)) None) (begins_with_field Debug) false ≡ choose (cond same (strip (codes "    ") r) None) (begins_with_field Debug) false
-      go true is = line_kept r (h.closed [] k r (ap (λ c. k ∷ c ∷ r) (sym (eqb-true 10 b is))) opens)
-      go false is = refl
+  struct_kept k (b ∷ r) opens h = elim (cases_Bool (10 == b)) [
+    | inl is ↦ rw is (line_kept r (h.closed [] k r (ap (λ c. k ∷ c ∷ r) (sym (eqb-true 10 b is))) opens))
+    | inr is ↦ rw is refl
+  ]
 
   -- ---- pretty texts
 
@@ -145,9 +134,21 @@ module _ (back : List ℕ) where
       (steep_after ended.0 (line_feed ∷ t) (subst Steep (is ∙ ap (λ u. u ++ t) ended.1 ∙ append_assoc ended.0 (line_feed ∷ []) t) steep.2)).1 refl
 
   module _ {d : Document} (b : BlockTexts d) (head : List ℕ) (k : ℕ) (none : Without is_opening head) (opens : is_opening k ≡ true) (e : ℕ) (x u : List ℕ) (next : back ≡ e ∷ (x ++ u)) where
+    -- what follows the bracket of a pretty text that ends after the front
+    from_first : (r : List ℕ) → layout (setting Pretty 0) d ≡ (head ++ k ∷ r) ++ e ∷ x → first_line b ≡ r ++ e ∷ x
+    from_first r is = (one_first b.head head b.bracket k (first_line b) (r ++ e ∷ x) b.none none b.opens opens (sym b.pretty ∙ is ∙ append_assoc head (k ∷ r) (e ∷ x))).2
+
     -- no pretty text ends after the front
     ends_inside : (r : List ℕ) → Parts (k ∷ r) back → layout (setting Pretty 0) d ≡ (head ++ k ∷ r) ++ e ∷ x → ⊥
-    ends_inside r h is = go r h (one_first b.head head b.bracket k (first_line b) (r ++ e ∷ x) b.none none b.opens opens (sym b.pretty ∙ is ∙ append_assoc head (k ∷ r) (e ∷ x))).2
+    ends_inside [] h is = (h.seam [] k refl).2 opens (x ++ u) (next ∙ ap (λ c. c ∷ (x ++ u)) (sym (ap (λ l. get_or l 0 0) (from_first [] is))))
+    ends_inside (f ∷ r) h is =
+        let whole = from_first (f ∷ r) is in
+        let head_is : line_feed ≡ f = ap (λ l. get_or l 0 0) whole in
+        let rest : line_feed ∷ drop 1 (first_line b) ≡ line_feed ∷ (r ++ e ∷ x) = ap (λ t. line_feed ∷ drop 1 t) whole in
+        elim (h.closed [] k r (ap (λ c. k ∷ c ∷ r) (sym head_is)) opens) [
+          | inl t ↦ turned r t rest
+          | inr t ↦ anew r t.0 (begun back t.1 next) rest
+        ]
       where
         space_no : (c : ℕ) → (c == space) ≡ false → c ≡ space → ⊥
         space_no c other same = true≢false (sym (ap (λ a. a == space) same) ∙ other)
@@ -168,23 +169,13 @@ module _ (back : List ℕ) where
           | inl same ↦ space_no e other.0 same
           | inr empty ↦
               let end = b.ends Pretty in
-              let same = last_same (head ++ k ∷ r) end.front e end.last (ap (λ v. (head ++ k ∷ r) ++ e ∷ v) (sym empty) ∙ sym is ∙ end.is) in
+              let same = last_same (head ++ k ∷ f ∷ r) end.front e end.last (ap (λ v. (head ++ k ∷ f ∷ r) ++ e ∷ v) (sym empty) ∙ sym is ∙ end.is) in
               true≢false (sym end.ender ∙ ap is_ender (sym same) ∙ other.1)
         ]
 
         begun : (t : List ℕ) → BeginsAnew t → t ≡ e ∷ (x ++ u) → ((e == space) ≡ false) × (is_ender e ≡ false)
         begun [] h same = absurd (cc)
         begun (c ∷ t) h same = subst (λ c. ((c == space) ≡ false) × (is_ender c ≡ false)) (ap (λ l. get_or l 0 0) same) h
-
-        go : (r : List ℕ) → Parts (k ∷ r) back → first_line b ≡ r ++ e ∷ x → ⊥
-        go [] h whole = (h.seam [] k refl).2 opens (x ++ u) (next ∙ ap (λ c. c ∷ (x ++ u)) (sym (ap (λ l. get_or l 0 0) whole)))
-        go (f ∷ r) h whole =
-            let head_is : line_feed ≡ f = ap (λ l. get_or l 0 0) whole in
-            let rest : line_feed ∷ drop 1 (first_line b) ≡ line_feed ∷ (r ++ e ∷ x) = ap (λ t. line_feed ∷ drop 1 t) whole in
-            elim (h.closed [] k r (ap (λ c. k ∷ c ∷ r) (sym head_is)) opens) [
-              | inl t ↦ turned r t rest
-              | inr t ↦ anew r t.0 (begun back t.1 next) rest
-            ]
 
   module _ (z : List ℕ) (k : ℕ) (r : List ℕ) (none : Without is_opening z) (opens : is_opening k ≡ true) (h : Parts (k ∷ r) back) where
     abbrev from : List ℕ
@@ -199,7 +190,9 @@ module _ (back : List ℕ) where
 
     -- and if none is found in the front, none is in the whole
     none_kept : value_from Plain from ≡ None → value_from Plain (from ++ back) ≡ None
-    none_kept is = go (value_from Plain (from ++ back)) refl
+    none_kept is = none_unless (value_from Plain (from ++ back)) (λ x e.
+        let found = read_sound Debug 255 (setting Pretty 0) (from ++ back) x.0 x.1 (value_read Plain (from ++ back) x.0 x.1 e) in
+        at x.0 x.1 found (value_entries Plain (from ++ back) x.0 x.1 e) (two_fronts from back (layout (setting Pretty 0) x.0) x.1 found.whole))
       where
         shorter : (d : Document) (u x : List ℕ) → Found Debug (setting Pretty 0) 255 (from ++ back) d u → has_entries d ≡ true → from ≡ layout (setting Pretty 0) d ++ x → ⊥
         shorter d u x found entries same =
@@ -211,12 +204,6 @@ module _ (back : List ℕ) where
         at d u found entries (inr ([], same, rest)) = shorter d u [] found entries (sym (append-nil from) ∙ sym same ∙ sym (append-nil (layout (setting Pretty 0) d)))
         at d u found entries (inr (e ∷ x, same, rest)) =
             ends_inside (block_texts d found.tokens (entries_block d entries)) (drop (start_after k z (is_in_struct Plain r)) z) k (without_drop is_opening _ z none) opens e x u rest r h same
-
-        go : (o : Option (Document × List ℕ)) → value_from Plain (from ++ back) ≡ o → value_from Plain (from ++ back) ≡ None
-        go None e = e
-        go (Some x) e =
-            let found = read_sound Debug 255 (setting Pretty 0) (from ++ back) x.0 x.1 (value_read Plain (from ++ back) x.0 x.1 e) in
-            absurd (at x.0 x.1 found (value_entries Plain (from ++ back) x.0 x.1 e) (two_fronts from back (layout (setting Pretty 0) x.0) x.1 found.whole))
 
     -- what begins before a bracket of the front does so in the whole
     from_more : from_bracket Plain z k (r ++ back) ≡ from ++ back
@@ -295,26 +282,20 @@ module _ (limit : ℕ) (back : List ℕ) where
 
     -- a front with one
     with_bracket : IsCut (z ++ k ∷ r)
-    with_bracket = λ m n p long short last.
-        ap (convert (plain_with limit) m) (append_assoc z (k ∷ r) back) ∙ go m n p (subst (λ t. length t ≤ m) (append_assoc z (k ∷ r) back) long) short last
-      where
-        go : (m n p : ℕ) → length (z ++ k ∷ (r ++ back)) ≤ m → length (z ++ k ∷ r) ≤ n → length back ≤ p
-            → convert (plain_with limit) m (z ++ k ∷ (r ++ back)) ≡ convert (plain_with limit) n (z ++ k ∷ r) ++ convert (plain_with limit) p back
-        go zero n p long short last = let more = longer in absurd (omega (arith, more, long))
-        go (suc m) zero p long short last = let whole = size in absurd (omega (arith, whole, short))
-        go (suc m) (suc n) p long short last = at_bracket m n p long short last _ refl
+    with_bracket zero n p long short last = let whole = length-append (z ++ k ∷ r) back in let more = size in absurd (omega (arith, whole, more, long))
+    with_bracket (suc m) zero p long short last = let whole = size in absurd (omega (arith, whole, short))
+    with_bracket (suc m) (suc n) p long short last =
+        ap (convert (plain_with limit) (suc m)) (append_assoc z (k ∷ r) back) ∙ at_bracket m n p (subst (λ t. length t ≤ suc m) (append_assoc z (k ∷ r) back) long) short last _ refl
 
   -- each front
   all_cut : (most : ℕ) → AllCut most
   all_cut zero [] within h = without_bracket [] tt h
   all_cut zero (c ∷ front) within h = absurd (omega (arith, within))
-  all_cut (suc most) front within h = go (first_bracket front) (all_cut most)
-    where
-      go : Without is_opening front ⊎ FirstBracket front → AllCut most → IsCut front
-      go (inl none) all = without_bracket front none h
-      go (inr f) all =
-          subst IsCut (sym f.is)
-          (with_bracket most all f.before f.bracket f.after f.none f.opens (subst (λ t. length t ≤ suc most) f.is within) (subst (λ t. Parts t back) f.is h))
+  all_cut (suc most) front within h = elim (first_bracket front) [
+    | inl none ↦ without_bracket front none h
+    | inr f ↦ subst IsCut (sym f.is)
+        (with_bracket most (all_cut most) f.before f.bracket f.after f.none f.opens (subst (λ t. length t ≤ suc most) f.is within) (subst (λ t. Parts t back) f.is h))
+  ]
 
   -- the output for both parts
   pub plain_cut : (front : List ℕ) → Parts front back → output_of (plain_with limit) (front ++ back) ≡ output_of (plain_with limit) front ++ output_of (plain_with limit) back

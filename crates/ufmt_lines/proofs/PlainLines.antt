@@ -1,5 +1,6 @@
 -- A plain text has no line feed.
-use Rattle.std.proofs.Common.{◌≡◌, refl, sym, subst, ℕ, ◌==◌, Bool, true, false, List, [], ◌∷◌, ◌++◌, codes, eqb-true}
+use Rattle.std.proofs.Common.{refl, sym, subst, ℕ, ◌==◌, Bool, true, false, List, [], ◌∷◌, ◌++◌, codes, eqb-true}
+use Rattle.std.proofs.lemmas.Bool.{false_from_ne_true}
 use Rattle.std.specs.Prelude.{⊤}
 use Rattle.ufmt.specs.Bytes.{line_feed}
 use Rattle.ufmt.specs.Document.{Document, leaf, joined, list_of, set_of, map_of, struct_of, non_exhaustive_of, tuple_of, pretty_part, Documents, no_documents, first_document, Pairs, no_pairs, first_pair, Fields, no_fields, first_field}
@@ -24,11 +25,7 @@ use Rattle.ufmt_lines.specs.Private.LineLen.{is_line_feed}
 -- a text of one line has no line feed
 one_line : (text : List ℕ) → IsOneLine text → Without is_line_feed text
 one_line [] h = tt
-one_line (c ∷ text) h = (go (c == line_feed) refl, one_line text h.1)
-  where
-    go : (b : Bool) → (c == line_feed) ≡ b → (c == line_feed) ≡ false
-    go false e = e
-    go true e = absurd (h.0 (eqb-true c line_feed e))
+one_line (c ∷ text) h = (false_from_ne_true (c == line_feed) (λ is. h.0 (eqb-true c line_feed is)), one_line text h.1)
 
 -- nor has a name
 pub name_line : (name : List ℕ) → IsName Debug name → Without is_line_feed name

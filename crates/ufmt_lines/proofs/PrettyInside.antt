@@ -24,15 +24,12 @@ use Rattle.ufmt_values.specs.Values.{is_in_struct, value_from}
 pub two_fronts : (a b c e : List ℕ) → a ++ b ≡ c ++ e → ((x : List ℕ) × (a ≡ c ++ x) × (e ≡ x ++ b)) ⊎ ((x : List ℕ) × (c ≡ a ++ x) × (b ≡ x ++ e))
 two_fronts [] b c e is = inr (c, refl, is)
 two_fronts (j ∷ a) b [] e is = inl (j ∷ a, refl, sym is)
-two_fronts (j ∷ a) b (k ∷ c) e is = go (two_fronts a b c e (ap (drop 1) is))
-  where
-    head : j ≡ k
-    head = ap (λ l. get_or l 0 0) is
-
-    go : ((x : List ℕ) × (a ≡ c ++ x) × (e ≡ x ++ b)) ⊎ ((x : List ℕ) × (c ≡ a ++ x) × (b ≡ x ++ e))
-        → ((x : List ℕ) × (j ∷ a ≡ (k ∷ c) ++ x) × (e ≡ x ++ b)) ⊎ ((x : List ℕ) × (k ∷ c ≡ (j ∷ a) ++ x) × (b ≡ x ++ e))
-    go (inl h) = inl (h.0, ap (λ b. b ∷ a) head ∙ ap (λ t. k ∷ t) h.1, h.2)
-    go (inr h) = inr (h.0, ap (λ b. b ∷ c) (sym head) ∙ ap (λ t. j ∷ t) h.1, h.2)
+two_fronts (j ∷ a) b (k ∷ c) e is =
+    let head : j ≡ k = ap (λ l. get_or l 0 0) is in
+    elim (two_fronts a b c e (ap (drop 1) is)) [
+      | inl h ↦ inl (h.0, ap (λ b. b ∷ a) head ∙ ap (λ t. k ∷ t) h.1, h.2)
+      | inr h ↦ inr (h.0, ap (λ b. b ∷ c) (sym head) ∙ ap (λ t. j ∷ t) h.1, h.2)
+    ]
 
 no_end : (c x : List ℕ) → c ++ x ≡ [] → x ≡ []
 no_end [] x is = is
@@ -154,24 +151,21 @@ module _ (limit : ℕ) where
   pub alike : (n : ℕ) (text : List ℕ) → (convert (pretty_with limit) n text ≡ text) ⊎ Alike (convert (pretty_with limit) n text) text
   unfolding convert_from
   alike zero text = inl refl
-  alike (suc n) text = go (first_bracket text)
-    where
-      go : Without is_opening text ⊎ FirstBracket text → (convert (pretty_with limit) (suc n) text ≡ text) ⊎ Alike (convert (pretty_with limit) (suc n) text) text
-      go (inl none) = inl (no_bracket (pretty_with limit) (suc n) text none)
-      go (inr f) = inr (subst (λ t. Alike (convert (pretty_with limit) (suc n) t) t) (sym f.is) (alike_at n f.before f.bracket f.after f.none f.opens _ refl))
+  alike (suc n) text = elim (first_bracket text) [
+    | inl none ↦ inl (no_bracket (pretty_with limit) (suc n) text none)
+    | inr f ↦ inr (subst (λ t. Alike (convert (pretty_with limit) (suc n) t) t) (sym f.is) (alike_at n f.before f.bracket f.after f.none f.opens _ refl))
+  ]
 
   -- so whether the line of a struct's field comes before it stays
   pub same_struct : (w : List ℕ) (n : ℕ) (text : List ℕ) → is_in_struct Plain (w ++ convert (pretty_with limit) n text) ≡ is_in_struct Plain (w ++ text)
-  same_struct w n text = go (alike n text)
-    where
-      go : (convert (pretty_with limit) n text ≡ text) ⊎ Alike (convert (pretty_with limit) n text) text → is_in_struct Plain (w ++ convert (pretty_with limit) n text) ≡ is_in_struct Plain (w ++ text)
-      go (inl same) = ap (λ t. is_in_struct Plain (w ++ t)) same
-      go (inr h) =
-          ap (λ t. is_in_struct Plain (w ++ t)) h.first_is
-          ∙ ap (is_in_struct Plain) (sym (append_assoc w h.before (h.bracket ∷ h.first)))
-          ∙ struct_by_front (w ++ h.before) h.bracket h.first h.second h.opens
-          ∙ ap (is_in_struct Plain) (append_assoc w h.before (h.bracket ∷ h.second))
-          ∙ ap (λ t. is_in_struct Plain (w ++ t)) (sym h.second_is)
+  same_struct w n text = elim (alike n text) [
+    | inl same ↦ ap (λ t. is_in_struct Plain (w ++ t)) same
+    | inr h ↦ ap (λ t. is_in_struct Plain (w ++ t)) h.first_is
+        ∙ ap (is_in_struct Plain) (sym (append_assoc w h.before (h.bracket ∷ h.first)))
+        ∙ struct_by_front (w ++ h.before) h.bracket h.first h.second h.opens
+        ∙ ap (is_in_struct Plain) (append_assoc w h.before (h.bracket ∷ h.second))
+        ∙ ap (λ t. is_in_struct Plain (w ++ t)) (sym h.second_is)
+  ]
 
   -- ---- what is pretty there was pretty before
 
@@ -183,7 +177,10 @@ module _ (limit : ℕ) where
     -- it ends before a value that was made pretty, since that doesn't begin inside
     ends_before : {e : Document} → BlockTexts e → (w y left rest plain : List ℕ) → FirstBracket w → w ++ (y ++ (layout (setting Pretty 0) e ++ left)) ≡ layout (setting Pretty 0) d ++ rest
         → IsAtFront (w ++ (y ++ plain))
-    ends_before {e} inner w y left rest plain first is = go (two_fronts (layout (setting Pretty 0) d) rest (w ++ y) (layout (setting Pretty 0) e ++ left) (sym is ∙ sym (append_assoc w y _)))
+    ends_before {e} inner w y left rest plain first is = elim (two_fronts (layout (setting Pretty 0) d) rest (w ++ y) (layout (setting Pretty 0) e ++ left) (sym is ∙ sym (append_assoc w y _))) [
+      | inl h ↦ at h.0 h.1 h.2
+      | inr h ↦ whole h.0 h.1
+    ]
       where
         whole : (x : List ℕ) → w ++ y ≡ layout (setting Pretty 0) d ++ x → IsAtFront (w ++ (y ++ plain))
         whole x k = (x ++ plain, sym (append_assoc w y plain) ∙ ap (λ t. t ++ plain) k ∙ append_assoc (layout (setting Pretty 0) d) x plain)
@@ -191,11 +188,6 @@ module _ (limit : ℕ) where
         at : (x : List ℕ) → layout (setting Pretty 0) d ≡ (w ++ y) ++ x → layout (setting Pretty 0) e ++ left ≡ x ++ rest → IsAtFront (w ++ (y ++ plain))
         at [] k l = whole [] (sym (append-nil (w ++ y)) ∙ sym k ∙ sym (append-nil (layout (setting Pretty 0) d)))
         at (c ∷ x) k l = absurd (not_inside b inner (w ++ y) (c ∷ x) left rest (with_more first y) (λ empty. absurd (cc)) k l)
-
-        go : ((x : List ℕ) × (layout (setting Pretty 0) d ≡ (w ++ y) ++ x) × (layout (setting Pretty 0) e ++ left ≡ x ++ rest))
-            ⊎ ((x : List ℕ) × (w ++ y ≡ layout (setting Pretty 0) d ++ x) × (rest ≡ x ++ (layout (setting Pretty 0) e ++ left))) → IsAtFront (w ++ (y ++ plain))
-        go (inl h) = at h.0 h.1 h.2
-        go (inr h) = whole h.0 h.1
 
     -- what is said of a text that is made pretty with so many brackets, after bytes with a bracket
     abbrev WasThere : ℕ → Type 0
@@ -227,12 +219,10 @@ module _ (limit : ℕ) where
     pub was_there : (n : ℕ) → WasThere n
     unfolding convert_from
     was_there zero = λ w text rest first is. (rest, is)
-    was_there (suc n) = λ w text rest first is. go w text rest first is (first_bracket text) (was_there n)
-      where
-        go : (w text rest : List ℕ) → FirstBracket w → w ++ convert (pretty_with limit) (suc n) text ≡ layout (setting Pretty 0) d ++ rest
-            → Without is_opening text ⊎ FirstBracket text → WasThere n → IsAtFront (w ++ text)
-        go w text rest first is (inl none) more = (rest, ap (λ t. w ++ t) (sym (no_bracket (pretty_with limit) (suc n) text none)) ∙ is)
-        go w text rest first is (inr f) more =
-            subst (λ t. IsAtFront (w ++ t)) (sym f.is)
-            (at_bracket n more f.before f.bracket f.after f.none f.opens w rest first
-            (subst (λ t. w ++ convert (pretty_with limit) (suc n) t ≡ layout (setting Pretty 0) d ++ rest) f.is is) (value_from Pretty (from_bracket Pretty f.before f.bracket f.after)) refl)
+    was_there (suc n) = λ w text rest first is. elim (first_bracket text) [
+      | inl none ↦ (rest, ap (λ t. w ++ t) (sym (no_bracket (pretty_with limit) (suc n) text none)) ∙ is)
+      | inr f ↦
+          subst (λ t. IsAtFront (w ++ t)) (sym f.is)
+          (at_bracket n (was_there n) f.before f.bracket f.after f.none f.opens w rest first
+          (subst (λ t. w ++ convert (pretty_with limit) (suc n) t ≡ layout (setting Pretty 0) d ++ rest) f.is is) (value_from Pretty (from_bracket Pretty f.before f.bracket f.after)) refl)
+    ]

@@ -1,10 +1,10 @@
 -- What is read at the front of a line is read there before a line feed too.
-use Rattle.std.proofs.Common.{◌≡◌, ◌∙◌, refl, ap, sym, ℕ, zero, suc, ◌==◌, ◌&&◌, Bool, true, false, cond, List, [], ◌∷◌, ◌++◌, append_assoc, Option, Some, None}
-use Rattle.std.proofs.lemmas.Bool.{false≢true}
-use Rattle.ufmt.specs.Bytes.{closing_brace, closing_bracket, colon, line_feed, opening_bracket, space}
+use Rattle.std.proofs.Common.{◌≡◌, inl, inr, ◌∙◌, refl, ap, sym, ℕ, zero, suc, ◌&&◌, Bool, true, false, cond, List, [], ◌∷◌, ◌++◌, append_assoc, Option, Some, None, arith}
+use Rattle.std.proofs.lemmas.Bool.{cases_Bool, false_from_ne_true, false≢true}
+use Rattle.ufmt.specs.Bytes.{closing_brace, colon, line_feed, opening_bracket, space}
 use Rattle.ufmt.specs.Document.{Document, leaf, joined, list_of, set_of, map_of, struct_of, non_exhaustive_of, tuple_of, pretty_part, no_documents, first_document}
 use Rattle.ufmt.specs.Layout.{frame, setting, inside, block_tail, layout, texts}
-use Rattle.ufmt.specs.Leaves.{begins_with, is_address_closed, is_name_byte, is_plain_byte, is_port, past, in_address}
+use Rattle.ufmt.specs.Leaves.{begins_with, is_address_closed, is_name_byte, is_port, past, in_address}
 use Rattle.ufmt_core.specs.declared.layout.Count.TheVariants.{Zero}
 use Rattle.ufmt_core.specs.declared.layout.Kind.TheVariants.{Brackets}
 use Rattle.ufmt_core.specs.declared.layout.Mode.TheVariants.{Plain, Pretty}
@@ -17,9 +17,10 @@ use Rattle.ufmt_grammar.specs.declared.class.Class.TheVariants.{Debug}
 use Rattle.ufmt_values.proofs.Blocks.{entries_block}
 use Rattle.ufmt_lines.proofs.FieldsAhead.{field_found, field_there, same_answer}
 use Rattle.ufmt_values.proofs.FirstBrackets.{front_before, without_append}
-use Rattle.ufmt_values.proofs.FoundValues.{front_value, value_entries, value_read}
+use Rattle.ufmt_values.proofs.FoundValues.{front_value, none_unless, value_entries, value_read}
 use Rattle.ufmt_lines.proofs.PlainLines.{name_line, plain_line}
 use Rattle.ufmt_lines.specs.Private.LineLen.{is_line_feed}
+use Rattle.ufmt_values.proofs.StructTexts.{none_or_some}
 use Rattle.ufmt_values.specs.Values.{value_from}
 use Rattle.ufmt_scan.specs.Fronts.{begins_with_field, has_entries, read_front}
 
@@ -28,17 +29,8 @@ use Rattle.ufmt_scan.specs.Fronts.{begins_with_field, has_entries, read_front}
 -- after a line feed nothing closes an address
 port_in_line : (c : ℕ) (w rest : List ℕ) → is_port (c ∷ (w ++ line_feed ∷ rest)) ≡ is_port (c ∷ w)
 port_in_line c [] [] = refl
-port_in_line c [] (b ∷ rest) = go (c == closing_bracket)
-  where
-    go : (closed : Bool) → (closed && (line_feed == colon) && is_plain_byte b) ≡ false
-    go true = refl
-    go false = refl
-port_in_line c (b ∷ []) rest = go (c == closing_bracket) (b == colon)
-  where
-    go : (closed named : Bool) → (closed && named && is_plain_byte line_feed) ≡ false
-    go true true = refl
-    go true false = refl
-    go false named = refl
+port_in_line c [] (b ∷ rest) = grind arith
+port_in_line c (b ∷ []) rest = grind arith
 port_in_line c (b ∷ d ∷ w) rest = refl
 
 -- so what is past the bytes of a name is a port in the line, or isn't
@@ -46,12 +38,10 @@ past_in_line : (w rest : List ℕ) → is_port (past is_name_byte (w ++ line_fee
 past_in_line [] [] = refl
 past_in_line [] (b ∷ []) = refl
 past_in_line [] (b ∷ d ∷ rest) = refl
-past_in_line (c ∷ w) rest = go (is_name_byte c) (past_in_line w rest)
-  where
-    go : (b : Bool) → is_port (past is_name_byte (w ++ line_feed ∷ rest)) ≡ is_port (past is_name_byte w)
-        → is_port (cond b (past is_name_byte (w ++ line_feed ∷ rest)) (c ∷ (w ++ line_feed ∷ rest))) ≡ is_port (cond b (past is_name_byte w) (c ∷ w))
-    go true more = more
-    go false more = port_in_line c w rest
+past_in_line (c ∷ w) rest = elim (cases_Bool (is_name_byte c)) [
+  | inl is ↦ rw is (past_in_line w rest)
+  | inr is ↦ rw is (port_in_line c w rest)
+]
 
 -- and an address is closed in the line, or isn't
 address_in_line : (w rest : List ℕ) → is_address_closed (w ++ line_feed ∷ rest) ≡ is_address_closed w
@@ -79,14 +69,9 @@ module _ (u v : List ℕ) (same : (t : List ℕ) → is_address_closed (t ++ u) 
   no_address_again (leaf text) entries is = tt
   no_address_again (joined ds) entries is = tt
   no_address_again (list_of no_documents) entries is = tt
-  no_address_again (list_of (first_document d ds)) entries is = sym (same tail) ∙ go (is_address_closed (tail ++ u)) refl
-    where
-      tail : List ℕ
-      tail = block_tail (frame Plain Brackets) (setting Plain 0) Zero (texts (setting Plain 0) (first_document d ds))
-
-      go : (b : Bool) → is_address_closed (tail ++ u) ≡ b → is_address_closed (tail ++ u) ≡ false
-      go false e = e
-      go true e = absurd (false≢true (sym (address_read 255 (setting Plain 0) (tail ++ u) e _ _ is) ∙ entries))
+  no_address_again (list_of (first_document d ds)) entries is =
+      let tail = block_tail (frame Plain Brackets) (setting Plain 0) Zero (texts (setting Plain 0) (first_document d ds)) in
+      sym (same tail) ∙ false_from_ne_true (is_address_closed (tail ++ u)) (λ e. false≢true (sym (address_read 255 (setting Plain 0) (tail ++ u) e _ _ is) ∙ entries))
   no_address_again (set_of ds) entries is = tt
   no_address_again (map_of ps) entries is = tt
   no_address_again (struct_of name fs) entries is = tt
@@ -125,11 +110,7 @@ module _ (line rest : List ℕ) where
       )
 
   pub no_value_in_line : value_from Pretty line ≡ None → value_from Pretty (line ++ line_feed ∷ rest) ≡ None
-  no_value_in_line none = go (value_from Pretty (line ++ line_feed ∷ rest)) refl
-    where
-      go : (o : Option (Document × List ℕ)) → value_from Pretty (line ++ line_feed ∷ rest) ≡ o → value_from Pretty (line ++ line_feed ∷ rest) ≡ None
-      go None is = is
-      go (Some x) is = let found = (line_of_value x.0 x.1 is).1 in absurd (cc (found, none))
+  no_value_in_line none = none_unless (value_from Pretty (line ++ line_feed ∷ rest)) (λ x is. none_or_some (sym none) (line_of_value x.0 x.1 is).1)
 
   -- ---- fields
 

@@ -1,5 +1,6 @@
 -- What a text is converted to from a place on is what its rest is converted to: no byte before that place is looked at.
-use Rattle.std.proofs.Common.{◌≡◌, ◌∙◌, refl, ap, sym, ℕ, zero, suc, ◌+◌, ◌-◌, ◌<◌, ◌≤◌, ◌==◌, ◌&&◌, ◌||◌, not, Bool, true, false, cond, List, ◌++◌, Option, Some, None, drop, take, length, length-append, length-drop, get_or, arith}
+use Rattle.std.proofs.Common.{◌≡◌, inl, inr, ◌∙◌, refl, ap, sym, ℕ, zero, suc, ◌+◌, ◌-◌, ◌<◌, ◌≤◌, ◌==◌, ◌&&◌, ◌||◌, not, Bool, true, false, cond, List, ◌++◌, Option, Some, None, drop, take, length, length-append, length-drop, get_or, arith}
+use Rattle.std.proofs.lemmas.Bool.{cases_Bool}
 use Rattle.std.specs.Prelude.{nat_le, nat_lt}
 use Rattle.std.proofs.Math.Seq.{drop-append-add}
 use Rattle.std.proofs.lemmas.Bool.Decides.{nat_tests}
@@ -27,11 +28,7 @@ run_stops text low (suc n) less =
 
 pub run_within : (text : List ℕ) (low end : ℕ) → run_start text low end ≤ end
 run_within text low zero = omega arith
-run_within text low (suc n) = go (nat_le low n && is_name_byte (get_or text n 0)) (run_within text low n)
-  where
-    go : (b : Bool) → run_start text low n ≤ n → cond b (run_start text low n) (suc n) ≤ suc n
-    go true within = omega (arith, within)
-    go false within = omega arith
+run_within text low (suc n) = grind (arith, run_within text low n)
 
 -- a choice of two places that are moved
 moved_choice : (b : Bool) (more x y : ℕ) → cond b (more + x) (more + y) ≡ more + cond b x y
@@ -44,11 +41,7 @@ name_before b text low end = b && (get_or text end 0 == space) && is_named text 
 
 -- after a name there is a byte before the bracket
 pub after_name_some : (text : List ℕ) (low bracket : ℕ) → is_after_name text low bracket ≡ true → low < bracket
-after_name_some text low bracket is = go (nat_lt low bracket) refl is
-  where
-    go : (b : Bool) → nat_lt low bracket ≡ b → name_before b text low (bracket - 1) ≡ true → low < bracket
-    go true less h = grind (arith, nat_tests)
-    go false less h = absurd (cc)
+after_name_some text low bracket is = grind (arith, nat_tests)
 
 module _ (front rest : List ℕ) where
   -- a byte of the rest
@@ -64,29 +57,21 @@ module _ (front rest : List ℕ) where
       ap (run_start (front ++ rest) (length front + low)) next
       ∙ ap (λ b. cond (b && is_name_byte (get_or (front ++ rest) (length front + n) 0)) (run_start (front ++ rest) (length front + low) (length front + n)) (suc (length front + n))) below
       ∙ ap (λ c. cond (nat_le low n && is_name_byte c) (run_start (front ++ rest) (length front + low) (length front + n)) (suc (length front + n))) (byte_moved n)
-      ∙ go (nat_le low n && is_name_byte (get_or rest n 0)) (run_moved low n)
-    where
-      go : (b : Bool) → run_start (front ++ rest) (length front + low) (length front + n) ≡ length front + run_start rest low n
-          → cond b (run_start (front ++ rest) (length front + low) (length front + n)) (suc (length front + n)) ≡ length front + cond b (run_start rest low n) (suc n)
-      go true moved = moved
-      go false moved = omega arith
+      ∙ ap (λ s. cond (nat_le low n && is_name_byte (get_or rest n 0)) s (suc (length front + n))) (run_moved low n)
+      ∙ ap (λ s. cond (nat_le low n && is_name_byte (get_or rest n 0)) (length front + run_start rest low n) s) (sym next)
+      ∙ moved_choice (nat_le low n && is_name_byte (get_or rest n 0)) (length front) (run_start rest low n) (suc n)
 
   -- whether it is a name
   named_moved : (start end : ℕ) → is_named (front ++ rest) (length front + start) (length front + end) ≡ is_named rest start end
-  named_moved start end = go (nat_lt start end) refl
-    where
-      go : (b : Bool) → nat_lt start end ≡ b → is_named (front ++ rest) (length front + start) (length front + end) ≡ is_named rest start end
-      go true is =
-          let less : start < end = grind (arith, nat_tests) in
-          let moved : nat_lt (length front + start) (length front + end) ≡ true = grind (arith, nat_tests) in
-          let last : (length front + end) - 1 ≡ length front + (end - 1) = omega (arith, less) in
-          ap (λ b. b && not (get_or (front ++ rest) ((length front + end) - 1) 0 == colon)) (moved ∙ sym is)
-          ∙ ap (λ i. nat_lt start end && not (get_or (front ++ rest) i 0 == colon)) last
-          ∙ ap (λ c. nat_lt start end && not (c == colon)) (byte_moved (end - 1))
-      go false is =
-          let moved : nat_lt (length front + start) (length front + end) ≡ false = grind (arith, nat_tests) in
-          ap (λ b. b && not (get_or (front ++ rest) ((length front + end) - 1) 0 == colon)) moved
-          ∙ ap (λ b. b && not (get_or rest (end - 1) 0 == colon)) (sym is)
+  named_moved start end =
+      let moved : nat_lt (length front + start) (length front + end) ≡ nat_lt start end = grind (arith, nat_tests) in
+      elim (cases_Bool (nat_lt start end)) [
+        | inl is ↦
+            let less : start < end = grind (arith, nat_tests) in
+            let last : (length front + end) - 1 ≡ length front + (end - 1) = omega (arith, less) in
+            rw (moved, last) (ap (λ c. nat_lt start end && not (c == colon)) (byte_moved (end - 1)))
+        | inr is ↦ rw (moved, is) refl
+      ]
 
   name_before_moved : (low end : ℕ) → name_before true (front ++ rest) (length front + low) (length front + end) ≡ name_before true rest low end
   name_before_moved low end =
@@ -96,21 +81,16 @@ module _ (front rest : List ℕ) where
 
   -- whether a name and a space come before
   pub after_name_moved : (low bracket : ℕ) → is_after_name (front ++ rest) (length front + low) (length front + bracket) ≡ is_after_name rest low bracket
-  after_name_moved low bracket = go (nat_lt low bracket) refl
-    where
-      go : (b : Bool) → nat_lt low bracket ≡ b → is_after_name (front ++ rest) (length front + low) (length front + bracket) ≡ is_after_name rest low bracket
-      go true is =
-          let less : low < bracket = grind (arith, nat_tests) in
-          let moved : nat_lt (length front + low) (length front + bracket) ≡ true = grind (arith, nat_tests) in
-          let last : (length front + bracket) - 1 ≡ length front + (bracket - 1) = omega (arith, less) in
-          ap (λ b. name_before b (front ++ rest) (length front + low) ((length front + bracket) - 1)) moved
-          ∙ ap (λ e. name_before true (front ++ rest) (length front + low) e) last
-          ∙ name_before_moved low (bracket - 1)
-          ∙ ap (λ b. name_before b rest low (bracket - 1)) (sym is)
-      go false is =
-          let moved : nat_lt (length front + low) (length front + bracket) ≡ false = grind (arith, nat_tests) in
-          ap (λ b. name_before b (front ++ rest) (length front + low) ((length front + bracket) - 1)) moved
-          ∙ ap (λ b. name_before b rest low (bracket - 1)) (sym is)
+  after_name_moved low bracket =
+      let moved : nat_lt (length front + low) (length front + bracket) ≡ nat_lt low bracket = grind (arith, nat_tests) in
+      ap (λ b. name_before b (front ++ rest) (length front + low) ((length front + bracket) - 1)) moved
+      ∙ (elim (cases_Bool (nat_lt low bracket)) as (λ _. name_before (nat_lt low bracket) (front ++ rest) (length front + low) ((length front + bracket) - 1) ≡ name_before (nat_lt low bracket) rest low (bracket - 1)) [
+        | inl is ↦
+            let less : low < bracket = grind (arith, nat_tests) in
+            let last : (length front + bracket) - 1 ≡ length front + (bracket - 1) = omega (arith, less) in
+            rw (is, last) (name_before_moved low (bracket - 1))
+        | inr is ↦ rw is refl
+      ])
 
   rest_moved : (i : ℕ) → drop ((length front + i) + 1) (front ++ rest) ≡ drop (i + 1) rest
   rest_moved i =
@@ -130,17 +110,17 @@ module _ (front rest : List ℕ) where
     brace_moved =
         ap (λ b. cond (b && is_in_struct to (drop ((length front + bracket) + 1) (front ++ rest))) (run_start (front ++ rest) (length front + low) ((length front + bracket) - 1)) (length front + bracket)) (after_name_moved low bracket)
         ∙ ap (λ t. cond (is_after_name rest low bracket && is_in_struct to t) (run_start (front ++ rest) (length front + low) ((length front + bracket) - 1)) (length front + bracket)) (rest_moved bracket)
-        ∙ go (is_after_name rest low bracket) refl (is_in_struct to (drop (bracket + 1) rest))
+        ∙ named (is_in_struct to (drop (bracket + 1) rest))
       where
-        go : (named : Bool) → is_after_name rest low bracket ≡ named → (inside : Bool)
-            → cond (named && inside) (run_start (front ++ rest) (length front + low) ((length front + bracket) - 1)) (length front + bracket) ≡ length front + cond (named && inside) (run_start rest low (bracket - 1)) bracket
-        go false is inside = refl
-        go true is inside =
-            let less = after_name_some rest low bracket is in
-            let last : (length front + bracket) - 1 ≡ length front + (bracket - 1) = omega (arith, less) in
-            ap (λ e. cond inside (run_start (front ++ rest) (length front + low) e) (length front + bracket)) last
-            ∙ ap (λ s. cond inside s (length front + bracket)) (run_moved low (bracket - 1))
-            ∙ moved_choice inside (length front) (run_start rest low (bracket - 1)) bracket
+        named : (inside : Bool) → cond (is_after_name rest low bracket && inside) (run_start (front ++ rest) (length front + low) ((length front + bracket) - 1)) (length front + bracket)
+            ≡ length front + cond (is_after_name rest low bracket && inside) (run_start rest low (bracket - 1)) bracket
+        named inside = elim (cases_Bool (is_after_name rest low bracket)) [
+          | inl is ↦
+              let less = after_name_some rest low bracket is in
+              let last : (length front + bracket) - 1 ≡ length front + (bracket - 1) = omega (arith, less) in
+              rw (is, last, run_moved low (bracket - 1)) (moved_choice inside (length front) (run_start rest low (bracket - 1)) bracket)
+          | inr is ↦ rw is refl
+        ]
 
     -- a value of the rest begins at the same byte
     pub start_moved : value_start to (front ++ rest) (length front + low) (length front + bracket) ≡ length front + value_start to rest low bracket

@@ -171,11 +171,10 @@ steep_lead f j Several u h = steep_indentation j u h
 module _ (kind : Kind) (j : ℕ) (close : List ℕ) (b : Bool) (ends : (u : List ℕ) → IsInsideOrLast j u → Steep u → Steep (close ++ u)) where
   -- a line begins with the rest of a block
   begins_rest : (count : Count) (ts : List (List ℕ)) (u : List ℕ) → IsInsideOrLast j u → BeginsLine (rest_text (frame Pretty kind) (setting Pretty j) close (next count) ts b ++ u)
-  begins_rest count [] u last = go b
-    where
-      go : (b : Bool) → BeginsLine (rest_text (frame Pretty kind) (setting Pretty j) close (next count) [] b ++ u)
-      go false = begins_ending kind j count u last
-      go true = subst BeginsLine (sym (append_assoc (lead (frame Pretty kind) (inside (setting Pretty j)) (next count)) close u)) (begins_lead (frame Pretty kind) (inside (setting Pretty j)).depth count (close ++ u) (entries_indented j))
+  begins_rest count [] u last = elim b as (λ b. BeginsLine (rest_text (frame Pretty kind) (setting Pretty j) close (next count) [] b ++ u)) [
+    | false ↦ begins_ending kind j count u last
+    | true ↦ subst BeginsLine (sym (append_assoc (lead (frame Pretty kind) (inside (setting Pretty j)) (next count)) close u)) (begins_lead (frame Pretty kind) (inside (setting Pretty j)).depth count (close ++ u) (entries_indented j))
+  ]
   begins_rest count (text ∷ ts) u last =
       let f = frame Pretty kind in
       subst BeginsLine (sym (entry_assoc (lead f (inside (setting Pretty j)) (next count)) text (trail Pretty) (rest_text f (setting Pretty j) close (next (next count)) ts b) u))
@@ -183,11 +182,10 @@ module _ (kind : Kind) (j : ℕ) (close : List ℕ) (b : Bool) (ends : (u : List
 
   -- the rest of a block is steep before what is
   pub steep_rest : (count : Count) (ts : List (List ℕ)) (u : List ℕ) → IsInsideOrLast j u → AreSteep ts → Steep u → Steep (rest_text (frame Pretty kind) (setting Pretty j) close (next count) ts b ++ u)
-  steep_rest count [] u last h steep = go b
-    where
-      go : (b : Bool) → Steep (rest_text (frame Pretty kind) (setting Pretty j) close (next count) [] b ++ u)
-      go false = steep_ending kind j count u steep
-      go true = subst Steep (sym (append_assoc (lead (frame Pretty kind) (inside (setting Pretty j)) (next count)) close u)) (steep_lead (frame Pretty kind) (inside (setting Pretty j)).depth count (close ++ u) (ends u last steep))
+  steep_rest count [] u last h steep = elim b as (λ b. Steep (rest_text (frame Pretty kind) (setting Pretty j) close (next count) [] b ++ u)) [
+    | false ↦ steep_ending kind j count u steep
+    | true ↦ subst Steep (sym (append_assoc (lead (frame Pretty kind) (inside (setting Pretty j)) (next count)) close u)) (steep_lead (frame Pretty kind) (inside (setting Pretty j)).depth count (close ++ u) (ends u last steep))
+  ]
   steep_rest count (text ∷ ts) u last h steep =
       let f = frame Pretty kind in
       let left = rest_text f (setting Pretty j) close (next (next count)) ts b in

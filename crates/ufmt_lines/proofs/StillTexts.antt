@@ -1,5 +1,5 @@
 -- Texts that stay as they are made plain: no pretty value is in them, and none is in what follows a byte of no name.
-use Rattle.std.proofs.Common.{◌≡◌, ◌⊎◌, inl, inr, ◌∙◌, refl, ap, sym, subst, ℕ, zero, suc, ◌+◌, ◌≤◌, Bool, true, false, List, [], ◌∷◌, ◌++◌, append_assoc, Option, Some, None, drop, take, length, length-append, arith}
+use Rattle.std.proofs.Common.{◌≡◌, inl, inr, ◌∙◌, refl, ap, sym, subst, ℕ, zero, suc, ◌+◌, ◌≤◌, Bool, true, false, List, [], ◌∷◌, ◌++◌, append_assoc, Option, Some, None, drop, take, length, length-append, arith}
 use Rattle.std.proofs.lemmas.List.{append_cancel_left}
 use Rattle.ufmt.specs.Bytes.{line_feed}
 use Rattle.ufmt.specs.Document.{Document}
@@ -12,7 +12,7 @@ use Rattle.ufmt_lines.proofs.ApartTexts.{converted_apart}
 use Rattle.ufmt_lines.proofs.BlockTexts.{BlockTexts, block_texts}
 use Rattle.ufmt_values.proofs.Blocks.{entries_block}
 use Rattle.ufmt_lines.proofs.ConvertedSteps.{convert, no_bracket, no_value, value_step, value_whole}
-use Rattle.ufmt_values.proofs.FirstBrackets.{FirstBracket, Without, first_bracket, without_append}
+use Rattle.ufmt_values.proofs.FirstBrackets.{Without, first_bracket, without_append}
 use Rattle.ufmt_values.proofs.FoundValues.{value_entries, value_read}
 use Rattle.ufmt_lines.proofs.ValueStarts.{Apart, from_bracket, start_after}
 use Rattle.ufmt_lines.specs.OutputLaws.{plain_with}
@@ -73,15 +73,14 @@ module _ (limit : ℕ) where
   pub still_same : (m : ℕ) (text : List ℕ) → Still text → convert (plain_with limit) m text ≡ text
   unfolding convert_from
   still_same zero text h = refl
-  still_same (suc m) text h = go (first_bracket text) (still_same m)
-    where
-      go : Without is_opening text ⊎ FirstBracket text → ((t : List ℕ) → Still t → convert (plain_with limit) m t ≡ t) → convert (plain_with limit) (suc m) text ≡ text
-      go (inl none) more = no_bracket (plain_with limit) (suc m) text none
-      go (inr f) more =
-          let at = still_at f.before f.bracket f.after f.none f.opens (subst Still f.is h) in
-          ap (convert (plain_with limit) (suc m)) f.is
-          ∙ no_value (plain_with limit) m f.before f.bracket f.after f.none f.opens at.0
-          ∙ ap (λ t. f.before ++ f.bracket ∷ t) (more f.after at.1) ∙ sym f.is
+  still_same (suc m) text h = elim (first_bracket text) [
+    | inl none ↦ no_bracket (plain_with limit) (suc m) text none
+    | inr f ↦
+        let at = still_at f.before f.bracket f.after f.none f.opens (subst Still f.is h) in
+        ap (convert (plain_with limit) (suc m)) f.is
+        ∙ no_value (plain_with limit) m f.before f.bracket f.after f.none f.opens at.0
+        ∙ ap (λ t. f.before ++ f.bracket ∷ t) (still_same m f.after at.1) ∙ sym f.is
+  ]
 
   -- what follows a bracket is in what follows it and more
   pub cut_assoc : (z : List ℕ) (k : ℕ) (r e t : List ℕ) → ((z ++ k ∷ r) ++ e) ++ t ≡ z ++ k ∷ ((r ++ e) ++ t)
@@ -104,12 +103,11 @@ module _ (limit : ℕ) where
     pub still_rest : (most : ℕ) (y : List ℕ) → length y ≤ most → Still ((y ++ c ∷ []) ++ text) → Still text
     still_rest zero [] within h = after_last [] tt h (is_opening c) refl
     still_rest zero (b ∷ y) within h = absurd (omega (arith, within))
-    still_rest (suc most) y within h = go (first_bracket y) (still_rest most)
-      where
-        go : Without is_opening y ⊎ FirstBracket y → ((t : List ℕ) → length t ≤ most → Still ((t ++ c ∷ []) ++ text) → Still text) → Still text
-        go (inl none) more = after_last y none h (is_opening c) refl
-        go (inr f) more =
-            let long = ap length f.is ∙ length-append f.before (f.bracket ∷ f.after) in
-            more f.after (omega (arith, long, within))
-            (still_at f.before f.bracket ((f.after ++ c ∷ []) ++ text) f.none f.opens
-            (subst Still (ap (λ t. (t ++ c ∷ []) ++ text) f.is ∙ cut_assoc f.before f.bracket f.after (c ∷ []) text) h)).1
+    still_rest (suc most) y within h = elim (first_bracket y) [
+      | inl none ↦ after_last y none h (is_opening c) refl
+      | inr f ↦
+          let long = ap length f.is ∙ length-append f.before (f.bracket ∷ f.after) in
+          still_rest most f.after (omega (arith, long, within))
+          (still_at f.before f.bracket ((f.after ++ c ∷ []) ++ text) f.none f.opens
+          (subst Still (ap (λ t. (t ++ c ∷ []) ++ text) f.is ∙ cut_assoc f.before f.bracket f.after (c ∷ []) text) h)).1
+    ]

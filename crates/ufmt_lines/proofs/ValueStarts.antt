@@ -1,14 +1,15 @@
 -- Where a value begins, by the bytes before its bracket, and that what is before a byte of no name doesn't count.
-use Rattle.std.proofs.Common.{◌≡◌, ◌∙◌, refl, ap, sym, ℕ, zero, suc, ◌+◌, ◌-◌, ◌<◌, ◌≤◌, ◌==◌, ◌&&◌, not, Bool, true, false, cond, List, [], ◌∷◌, ◌++◌, drop, length, length-append, get_or, arith}
+use Rattle.std.proofs.Common.{◌≡◌, inl, inr, ◌∙◌, refl, ap, sym, ℕ, zero, suc, ◌+◌, ◌-◌, ◌<◌, ◌≤◌, ◌==◌, ◌&&◌, not, Bool, true, false, cond, List, [], ◌∷◌, ◌++◌, drop, length, length-append, get_or, arith}
 use Rattle.std.proofs.Math.Seq.{drop-append-add, get_or-append_seam}
 use Rattle.std.proofs.lemmas.Bool.Decides.{nat_tests}
+use Rattle.std.proofs.lemmas.Bool.{cases_Bool}
 use Rattle.std.proofs.lemmas.List.{get_or_append_left}
 use Rattle.std.specs.Prelude.{nat_le, nat_lt}
 use Rattle.ufmt.specs.Bytes.{colon, opening_brace, opening_parenthesis, space}
 use Rattle.ufmt.specs.Leaves.{is_name_byte}
 use Rattle.ufmt_core.specs.declared.layout.Mode.{Mode}
 use Rattle.ufmt_grammar.specs.declared.class.Class.TheVariants.{Debug}
-use Rattle.ufmt_lines.proofs.Rests.{after_name_moved, byte_moved, after_name_some, name_before, run_within, start_moved}
+use Rattle.ufmt_lines.proofs.Rests.{after_name_moved, byte_moved, after_name_some, run_within, start_moved}
 use Rattle.ufmt_lines.specs.Values.{could_be_struct}
 use Rattle.ufmt_values.specs.Values.{brace_start, is_after_name, is_in_struct, is_named, run_start, tuple_start, value_start}
 use Rattle.ufmt_scan.specs.Fronts.{begins_with_field}
@@ -24,27 +25,24 @@ run_before z u low (suc n) within =
 
 -- whether it is a name
 named_before : (z u : List ℕ) (start end : ℕ) → end ≤ length z → is_named (z ++ u) start end ≡ is_named z start end
-named_before z u start end within = go (nat_lt start end) refl
-  where
-    go : (b : Bool) → nat_lt start end ≡ b → is_named (z ++ u) start end ≡ is_named z start end
-    go true is =
-        let less : start < end = grind (arith, nat_tests) in
-        ap (λ c. nat_lt start end && not (c == colon)) (get_or_append_left z u 0 (end - 1) (omega (arith, less, within)))
-    go false is =
-        ap (λ b. b && not (get_or (z ++ u) (end - 1) 0 == colon)) is ∙ ap (λ b. b && not (get_or z (end - 1) 0 == colon)) (sym is)
+named_before z u start end within = elim (cases_Bool (nat_lt start end)) [
+  | inl is ↦
+      let less : start < end = grind (arith, nat_tests) in
+      ap (λ c. nat_lt start end && not (c == colon)) (get_or_append_left z u 0 (end - 1) (omega (arith, less, within)))
+  | inr is ↦ rw is refl
+]
 
 -- whether a name and a space come before
 after_before : (z u : List ℕ) (low bracket : ℕ) → bracket ≤ length z → is_after_name (z ++ u) low bracket ≡ is_after_name z low bracket
-after_before z u low bracket within = go (nat_lt low bracket) refl
-  where
-    go : (b : Bool) → nat_lt low bracket ≡ b → is_after_name (z ++ u) low bracket ≡ is_after_name z low bracket
-    go true is =
-        let less : low < bracket = grind (arith, nat_tests) in
-        let end = bracket - 1 in
-        ap (λ c. nat_lt low bracket && (c == space) && is_named (z ++ u) (run_start (z ++ u) low end) end) (get_or_append_left z u 0 end (omega (arith, less, within)))
-        ∙ ap (λ s. nat_lt low bracket && (get_or z end 0 == space) && is_named (z ++ u) s end) (run_before z u low end (omega (arith, within)))
-        ∙ ap (λ b. nat_lt low bracket && (get_or z end 0 == space) && b) (named_before z u (run_start z low end) end (omega (arith, within)))
-    go false is = ap (λ b. name_before b (z ++ u) low (bracket - 1)) is ∙ ap (λ b. name_before b z low (bracket - 1)) (sym is)
+after_before z u low bracket within = elim (cases_Bool (nat_lt low bracket)) [
+  | inl is ↦
+      let less : low < bracket = grind (arith, nat_tests) in
+      let end = bracket - 1 in
+      ap (λ c. nat_lt low bracket && (c == space) && is_named (z ++ u) (run_start (z ++ u) low end) end) (get_or_append_left z u 0 end (omega (arith, less, within)))
+      ∙ ap (λ s. nat_lt low bracket && (get_or z end 0 == space) && is_named (z ++ u) s end) (run_before z u low end (omega (arith, within)))
+      ∙ ap (λ b. nat_lt low bracket && (get_or z end 0 == space) && b) (named_before z u (run_start z low end) end (omega (arith, within)))
+  | inr is ↦ rw is refl
+]
 
 -- where a value with this bracket begins after these bytes, if `inside` says whether those of a struct follow
 abbrev pub start_after : ℕ → List ℕ → Bool → ℕ
@@ -70,27 +68,17 @@ start_is to z k r =
 
 -- it begins at the bracket or before it
 pub start_within : (k : ℕ) (z : List ℕ) (inside : Bool) → start_after k z inside ≤ length z
-start_within k z inside =
-    go (k == opening_brace) (k == opening_parenthesis) (is_after_name z 0 (length z) && inside) (is_named z (run_start z 0 (length z)) (length z))
-  where
-    go : (brace parenthesis struct named : Bool)
-        → cond brace (cond struct (run_start z 0 (length z - 1)) (length z)) (cond parenthesis (cond named (run_start z 0 (length z)) (length z)) (length z)) ≤ length z
-    go true parenthesis true named = let less = run_within z 0 (length z - 1) in omega (arith, less)
-    go true parenthesis false named = omega arith
-    go false true struct true = run_within z 0 (length z)
-    go false true struct false = omega arith
-    go false false struct named = omega arith
+start_within k z inside = grind (arith, run_within z 0 (length z), run_within z 0 (length z - 1))
 
 -- what follows the bracket counts only if it is a brace after a name
 pub start_same : (k : ℕ) (z : List ℕ) (i j : Bool) → ((k == opening_brace) ≡ true → is_after_name z 0 (length z) ≡ true → i ≡ j) → start_after k z i ≡ start_after k z j
-start_same k z i j same = go (k == opening_brace) (is_after_name z 0 (length z)) same
-  where
-    go : (brace named : Bool) → (brace ≡ true → named ≡ true → i ≡ j)
-        → cond brace (cond (named && i) (run_start z 0 (length z - 1)) (length z)) (cond (k == opening_parenthesis) (tuple_start z 0 (length z)) (length z))
-        ≡ cond brace (cond (named && j) (run_start z 0 (length z - 1)) (length z)) (cond (k == opening_parenthesis) (tuple_start z 0 (length z)) (length z))
-    go true true alike = ap (λ b. cond b (run_start z 0 (length z - 1)) (length z)) (alike refl refl)
-    go true false alike = refl
-    go false named alike = refl
+start_same k z i j same = elim (cases_Bool (k == opening_brace)) [
+  | inl brace ↦ elim (cases_Bool (is_after_name z 0 (length z))) [
+    | inl named ↦ ap (start_after k z) (same brace named)
+    | inr named ↦ rw named refl
+  ]
+  | inr brace ↦ rw brace refl
+]
 
 -- whether it could be a struct, by what follows the bracket
 pub could_be_is : (z : List ℕ) (k : ℕ) (r : List ℕ) → could_be_struct (z ++ k ∷ r) 0 (length z) ≡ ((k == opening_brace) && is_after_name z 0 (length z) && begins_with_field Debug r)
@@ -112,42 +100,32 @@ module _ (text : List ℕ) (l : ℕ) (no_name : is_name_byte (get_or text l 0) �
   -- a run doesn't go past such a byte
   run_low : (end : ℕ) → suc l ≤ end → run_start text 0 end ≡ run_start text (suc l) end
   run_low zero less = absurd (omega (arith, less))
-  run_low (suc n) less = go (nat_le (suc l) n) refl (run_low n)
-    where
-      go : (b : Bool) → nat_le (suc l) n ≡ b → (suc l ≤ n → run_start text 0 n ≡ run_start text (suc l) n) → run_start text 0 (suc n) ≡ run_start text (suc l) (suc n)
-      go true is more =
-          let low : nat_le 0 n ≡ true = grind (arith, nat_tests) in
-          ap (λ b. cond (b && is_name_byte (get_or text n 0)) (run_start text 0 n) (suc n)) low
-          ∙ ap (λ s. cond (is_name_byte (get_or text n 0)) s (suc n)) (more (grind (arith, nat_tests)))
-          ∙ ap (λ b. cond (b && is_name_byte (get_or text n 0)) (run_start text (suc l) n) (suc n)) (sym is)
-      go false is more =
-          let low : nat_le 0 n ≡ true = grind (arith, nat_tests) in
-          let more : n ≤ l = grind (arith, nat_tests) in
-          let same : n ≡ l = omega (arith, more, less) in
-          let other : is_name_byte (get_or text n 0) ≡ false = ap (λ i. is_name_byte (get_or text i 0)) same ∙ no_name in
-          ap (λ b. cond (b && is_name_byte (get_or text n 0)) (run_start text 0 n) (suc n)) low
-          ∙ ap (λ b. cond b (run_start text 0 n) (suc n)) other
-          ∙ ap (λ b. cond (b && is_name_byte (get_or text n 0)) (run_start text (suc l) n) (suc n)) (sym is)
+  run_low (suc n) less =
+      let low : nat_le 0 n ≡ true = grind (arith, nat_tests) in
+      elim (cases_Bool (nat_le (suc l) n)) [
+        | inl is ↦ rw (low, is) (ap (λ s. cond (is_name_byte (get_or text n 0)) s (suc n)) (run_low n (grind (arith, nat_tests))))
+        | inr is ↦
+            let more : n ≤ l = grind (arith, nat_tests) in
+            let same : n ≡ l = omega (arith, more, less) in
+            let other : is_name_byte (get_or text n 0) ≡ false = ap (λ i. is_name_byte (get_or text i 0)) same ∙ no_name in
+            rw (low, is, other) refl
+      ]
 
   module _ (bracket : ℕ) (past : suc l ≤ bracket) where
     -- so a name before the bracket begins after it
     after_low : (bracket ≡ suc l → (get_or text l 0 == space) ≡ false) → is_after_name text 0 bracket ≡ is_after_name text (suc l) bracket
-    after_low spaced = ap (λ b. name_before b text 0 (bracket - 1)) some ∙ go (nat_lt (suc l) bracket) refl
-      where
-        some : nat_lt 0 bracket ≡ true
-        some = grind (arith, nat_tests)
-
-        go : (b : Bool) → nat_lt (suc l) bracket ≡ b → name_before true text 0 (bracket - 1) ≡ is_after_name text (suc l) bracket
-        go true is =
-            let less : suc l < bracket = grind (arith, nat_tests) in
-            ap (λ s. (get_or text (bracket - 1) 0 == space) && is_named text s (bracket - 1)) (run_low (bracket - 1) (omega (arith, less)))
-            ∙ ap (λ b. name_before b text (suc l) (bracket - 1)) (sym is)
-        go false is =
-            let more : bracket ≤ suc l = grind (arith, nat_tests) in
-            let same : bracket - 1 ≡ l = omega (arith, more, past) in
-            let other : (get_or text (bracket - 1) 0 == space) ≡ false = ap (λ i. get_or text i 0 == space) same ∙ spaced (omega (arith, more, past)) in
-            ap (λ b. b && is_named text (run_start text 0 (bracket - 1)) (bracket - 1)) other
-            ∙ ap (λ b. name_before b text (suc l) (bracket - 1)) (sym is)
+    after_low spaced =
+        let some : nat_lt 0 bracket ≡ true = grind (arith, nat_tests) in
+        elim (cases_Bool (nat_lt (suc l) bracket)) [
+          | inl is ↦
+              let less : suc l < bracket = grind (arith, nat_tests) in
+              rw (some, is) (ap (λ s. (get_or text (bracket - 1) 0 == space) && is_named text s (bracket - 1)) (run_low (bracket - 1) (omega (arith, less))))
+          | inr is ↦
+              let more : bracket ≤ suc l = grind (arith, nat_tests) in
+              let same : bracket - 1 ≡ l = omega (arith, more, past) in
+              let other : (get_or text (bracket - 1) 0 == space) ≡ false = ap (λ i. get_or text i 0 == space) same ∙ spaced (omega (arith, more, past)) in
+              rw (some, is, other) refl
+        ]
 
     -- and so does a value
     start_low : (to : Mode) → ((get_or text bracket 0 == opening_brace) ≡ true → bracket ≡ suc l → (get_or text l 0 == space) ≡ false)
@@ -156,19 +134,21 @@ module _ (text : List ℕ) (l : ℕ) (no_name : is_name_byte (get_or text l 0) �
         brace (get_or text bracket 0 == opening_brace) spaced
         ∙ ap (λ s. cond (get_or text bracket 0 == opening_brace) (brace_start to text (suc l) bracket) (cond (get_or text bracket 0 == opening_parenthesis) (cond (is_named text s bracket) s bracket) bracket)) (run_low bracket past)
       where
-        go : (named : Bool) → is_after_name text (suc l) bracket ≡ named → (inside : Bool)
-            → cond (named && inside) (run_start text 0 (bracket - 1)) bracket ≡ cond (named && inside) (run_start text (suc l) (bracket - 1)) bracket
-        go true is inside =
-            let less = after_name_some text (suc l) bracket is in
-            ap (λ s. cond inside s bracket) (run_low (bracket - 1) (omega (arith, less)))
-        go false is inside = refl
+        named : (inside : Bool) → cond (is_after_name text (suc l) bracket && inside) (run_start text 0 (bracket - 1)) bracket
+            ≡ cond (is_after_name text (suc l) bracket && inside) (run_start text (suc l) (bracket - 1)) bracket
+        named inside = elim (cases_Bool (is_after_name text (suc l) bracket)) [
+          | inl is ↦
+              let less = after_name_some text (suc l) bracket is in
+              ap (λ s. cond (is_after_name text (suc l) bracket && inside) s bracket) (run_low (bracket - 1) (omega (arith, less)))
+          | inr is ↦ rw is refl
+        ]
 
         brace : (b : Bool) → (b ≡ true → bracket ≡ suc l → (get_or text l 0 == space) ≡ false)
             → cond b (brace_start to text 0 bracket) (cond (get_or text bracket 0 == opening_parenthesis) (tuple_start text 0 bracket) bracket)
             ≡ cond b (brace_start to text (suc l) bracket) (cond (get_or text bracket 0 == opening_parenthesis) (tuple_start text 0 bracket) bracket)
         brace true apart =
             ap (λ b. cond (b && is_in_struct to (drop (bracket + 1) text)) (run_start text 0 (bracket - 1)) bracket) (after_low (apart refl))
-            ∙ go (is_after_name text (suc l) bracket) refl (is_in_struct to (drop (bracket + 1) text))
+            ∙ named (is_in_struct to (drop (bracket + 1) text))
         brace false apart = refl
 
 -- after such a byte, a value begins where it would without what is before; after a space too, but for a brace right after it
@@ -190,7 +170,7 @@ start_later to y c rest bracket no_name spaced =
 -- and whether it could be a struct is as without that
 pub could_be_later : (y : List ℕ) (c : ℕ) (z : List ℕ) (k : ℕ) (r : List ℕ) → is_name_byte c ≡ false → ((k == opening_brace) ≡ true → length z ≡ 0 → (c == space) ≡ false)
     → could_be_struct (((y ++ c ∷ []) ++ z) ++ k ∷ r) 0 (length ((y ++ c ∷ []) ++ z)) ≡ could_be_struct (z ++ k ∷ r) 0 (length z)
-could_be_later y c z k r no_name spaced = could_be_is ((y ++ c ∷ []) ++ z) k r ∙ go (k == opening_brace) spaced ∙ sym (could_be_is z k r)
+could_be_later y c z k r no_name spaced = could_be_is ((y ++ c ∷ []) ++ z) k r ∙ same ∙ sym (could_be_is z k r)
   where
     front : List ℕ
     front = y ++ c ∷ []
@@ -211,7 +191,8 @@ could_be_later y c z k r no_name spaced = could_be_is ((y ++ c ∷ []) ++ z) k r
         ∙ ap (λ n. is_after_name ((y ++ c ∷ []) ++ z) n (length (y ++ c ∷ []) + length z)) low
         ∙ after_name_moved (y ++ c ∷ []) z 0 (length z)
 
-    go : (b : Bool) → (b ≡ true → length z ≡ 0 → (c == space) ≡ false)
-        → (b && is_after_name ((y ++ c ∷ []) ++ z) 0 (length ((y ++ c ∷ []) ++ z)) && begins_with_field Debug r) ≡ (b && is_after_name z 0 (length z) && begins_with_field Debug r)
-    go true apart = ap (λ b. b && begins_with_field Debug r) (named (apart refl))
-    go false apart = refl
+    same : ((k == opening_brace) && is_after_name ((y ++ c ∷ []) ++ z) 0 (length ((y ++ c ∷ []) ++ z)) && begins_with_field Debug r) ≡ ((k == opening_brace) && is_after_name z 0 (length z) && begins_with_field Debug r)
+    same = elim (cases_Bool (k == opening_brace)) [
+      | inl is ↦ ap (λ b. (k == opening_brace) && b && begins_with_field Debug r) (named (spaced is))
+      | inr is ↦ rw is refl
+    ]

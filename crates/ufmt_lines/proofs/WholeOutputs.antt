@@ -1,6 +1,7 @@
 -- The outputs for the groups of a text, put together, are the output for the text.
 use Rattle.std.proofs.Common.{◌≡◌, ◌≢◌, ◌⊎◌, inl, inr, ◌∙◌, refl, ap, sym, ℕ, zero, suc, ◌≤◌, ◌-◌, ◌==◌, ◌||◌, ◌&&◌, Bool, true, false, List, [], ◌∷◌, ◌++◌, append_assoc, drop, take, length, length-append, eqb-true, arith}
 use Rattle.std.proofs.lemmas.Bool.Decides.{eqb_tells, nat_tests}
+use Rattle.std.proofs.lemmas.Bool.{false_from_ne_true}
 use Rattle.std.proofs.lemmas.List.{take-append-drop}
 use Rattle.std.proofs.lemmas.List.Elements.{All-cons, All-head, All-nil, All-tail}
 use Rattle.std.specs.Prelude.{nat_lt}
@@ -35,21 +36,21 @@ record FirstLine (text : List ℕ) : Type 0 where
 -- each text has one, or no line feed
 first_line : (text : List ℕ) → IsInLine text ⊎ FirstLine text
 first_line [] = inl (All-nil (λ b. b ≢ line_feed))
-first_line (c ∷ t) = go (eqb_tells c line_feed) (first_line t)
-  where
-    go : (((c == line_feed) ≡ true) × (c ≡ line_feed)) ⊎ (((c == line_feed) ≡ false) × (c ≢ line_feed)) → IsInLine t ⊎ FirstLine t → IsInLine (c ∷ t) ⊎ FirstLine (c ∷ t)
-    go (inl h) rest = inr (record { line = []; more = t; within = All-nil (λ b. b ≢ line_feed); is = ap (λ b. b ∷ t) h.1 })
-    go (inr h) (inl within) = inl (All-cons (λ b. b ≢ line_feed) c t h.1 within)
-    go (inr h) (inr f) = inr (record { line = c ∷ f.line; more = f.more; within = All-cons (λ b. b ≢ line_feed) c f.line h.1 f.within; is = ap (λ u. c ∷ u) f.is })
+first_line (c ∷ t) = elim (eqb_tells c line_feed) [
+  | inl h ↦ inr (record { line = []; more = t; within = All-nil (λ b. b ≢ line_feed); is = ap (λ b. b ∷ t) h.1 })
+  | inr h ↦ elim (first_line t) [
+    | inl within ↦ inl (All-cons (λ b. b ≢ line_feed) c t h.1 within)
+    | inr f ↦ inr (record { line = c ∷ f.line; more = f.more; within = All-cons (λ b. b ≢ line_feed) c f.line h.1 f.within; is = ap (λ u. c ∷ u) f.is })
+  ]
+]
 
 -- no byte of a line is a line feed, by the test
 in_line : (text : List ℕ) → IsInLine text → Without is_line_feed text
 in_line [] within = tt
-in_line (c ∷ t) within = (go (c == line_feed) refl, in_line t (All-tail (λ b. b ≢ line_feed) c t within))
-  where
-    go : (b : Bool) → (c == line_feed) ≡ b → (c == line_feed) ≡ false
-    go false e = e
-    go true e = absurd (All-head (λ b. b ≢ line_feed) c t within (eqb-true c line_feed e))
+in_line (c ∷ t) within = (
+  false_from_ne_true (c == line_feed) (λ is. All-head (λ b. b ≢ line_feed) c t within (eqb-true c line_feed is)),
+  in_line t (All-tail (λ b. b ≢ line_feed) c t within),
+)
 
 module _ (limit : ℕ) where
   -- ---- pretty
@@ -67,21 +68,19 @@ module _ (limit : ℕ) where
   by_lines : (most : ℕ) (text : List ℕ) → length text ≤ most → outputs_of (pretty_with limit) text ≡ output_of (pretty_with limit) text
   by_lines zero [] short = outputs_one (pretty_with limit) [] (groups_only Pretty [] [] (nothing_open Pretty) (All-nil (λ b. b ≢ line_feed)))
   by_lines zero (c ∷ text) short = absurd (omega (arith, short))
-  by_lines (suc most) text short = go (first_line text) (by_lines most)
-    where
-      go : IsInLine text ⊎ FirstLine text → ((t : List ℕ) → length t ≤ most → outputs_of (pretty_with limit) t ≡ output_of (pretty_with limit) t)
-          → outputs_of (pretty_with limit) text ≡ output_of (pretty_with limit) text
-      go (inl within) all = outputs_one (pretty_with limit) text (groups_only Pretty [] text (nothing_open Pretty) within)
-      go (inr f) all =
-          let ended = f.line ++ line_feed ∷ [] in
-          let size = ap length f.is in
-          let parts = length-append f.line (line_feed ∷ f.more) in
-          ap (outputs_of (pretty_with limit)) (f.is ∙ sym (append_assoc f.line (line_feed ∷ []) f.more))
-          ∙ outputs_cut (pretty_with limit) (if_any ended) ended [] (line_ends Pretty [] ended (nothing_open Pretty) (f.line, f.within, refl) refl refl) f.more
-          ∙ ap (λ t. t ++ outputs_of (pretty_with limit) f.more) (outputs_any (pretty_with limit) ended)
-          ∙ ap (λ t. output_of (pretty_with limit) ended ++ t) (all f.more (omega (arith, short, size, parts)))
-          ∙ ended_line f.line f.more f.within
-          ∙ ap (output_of (pretty_with limit)) (sym f.is)
+  by_lines (suc most) text short = elim (first_line text) [
+    | inl within ↦ outputs_one (pretty_with limit) text (groups_only Pretty [] text (nothing_open Pretty) within)
+    | inr f ↦
+        let ended = f.line ++ line_feed ∷ [] in
+        let size = ap length f.is in
+        let parts = length-append f.line (line_feed ∷ f.more) in
+        ap (outputs_of (pretty_with limit)) (f.is ∙ sym (append_assoc f.line (line_feed ∷ []) f.more))
+        ∙ outputs_cut (pretty_with limit) (if_any ended) ended [] (line_ends Pretty [] ended (nothing_open Pretty) (f.line, f.within, refl) refl refl) f.more
+        ∙ ap (λ t. t ++ outputs_of (pretty_with limit) f.more) (outputs_any (pretty_with limit) ended)
+        ∙ ap (λ t. output_of (pretty_with limit) ended ++ t) (by_lines most f.more (omega (arith, short, size, parts)))
+        ∙ ended_line f.line f.more f.within
+        ∙ ap (output_of (pretty_with limit)) (sym f.is)
+  ]
 
   -- ---- plain
 
@@ -140,11 +139,7 @@ module _ (limit : ℕ) where
           at_edge : (lines : List ℕ) (a b : Bool) → (a || (nat_lt 0 (length lines) && b)) ≡ false → lines ≢ [] → b ≡ false
           at_edge [] a b h some = absurd (some refl)
           at_edge (c ∷ lines) true b h some = absurd (cc)
-          at_edge (c ∷ lines) false b h some = go (nat_lt 0 (length (c ∷ lines))) (grind (arith, nat_tests)) h
-            where
-              go : (e : Bool) → e ≡ true → (e && b) ≡ false → b ≡ false
-              go true is k = k
-              go false is k = absurd (cc)
+          at_edge (c ∷ lines) false b h some = grind (arith, nat_tests)
 
       in_one : (b : Bool) → continues Plain lines ended ≡ b → Same
       in_one true on = goes_on on
@@ -160,18 +155,17 @@ module _ (limit : ℕ) where
   by_groups : (most : ℕ) → AllGroups most
   by_groups zero lines [] short is_open ends = outputs_one (plain_with limit) (lines ++ []) (groups_only Plain lines [] is_open (All-nil (λ b. b ≢ line_feed)))
   by_groups zero lines (c ∷ more) short is_open ends = absurd (omega (arith, short))
-  by_groups (suc most) lines more short is_open ends = go (first_line more) (by_groups most)
-    where
-      go : IsInLine more ⊎ FirstLine more → AllGroups most → outputs_of (plain_with limit) (lines ++ more) ≡ output_of (plain_with limit) (lines ++ more)
-      go (inl within) all = outputs_one (plain_with limit) (lines ++ more) (groups_only Plain lines more is_open within)
-      go (inr f) all =
-          let ended = f.line ++ line_feed ∷ [] in
-          let size = ap length f.is in
-          let parts = length-append f.line (line_feed ∷ f.more) in
-          let whole : lines ++ more ≡ (lines ++ ended) ++ f.more = ap (λ t. lines ++ t) (f.is ∙ sym (append_assoc f.line (line_feed ∷ []) f.more)) ∙ sym (append_assoc lines ended f.more) in
-          ap (outputs_of (plain_with limit)) whole
-          ∙ at_line most all lines f.line f.more f.within is_open ends (omega (arith, short, size, parts)) (opens ended) (is_indented ended) refl refl
-          ∙ ap (output_of (plain_with limit)) (sym whole)
+  by_groups (suc most) lines more short is_open ends = elim (first_line more) [
+    | inl within ↦ outputs_one (plain_with limit) (lines ++ more) (groups_only Plain lines more is_open within)
+    | inr f ↦
+        let ended = f.line ++ line_feed ∷ [] in
+        let size = ap length f.is in
+        let parts = length-append f.line (line_feed ∷ f.more) in
+        let whole : lines ++ more ≡ (lines ++ ended) ++ f.more = ap (λ t. lines ++ t) (f.is ∙ sym (append_assoc f.line (line_feed ∷ []) f.more)) ∙ sym (append_assoc lines ended f.more) in
+        ap (outputs_of (plain_with limit)) whole
+        ∙ at_line most (by_groups most) lines f.line f.more f.within is_open ends (omega (arith, short, size, parts)) (opens ended) (is_indented ended) refl refl
+        ∙ ap (output_of (plain_with limit)) (sym whole)
+  ]
 
 -- ---- both
 

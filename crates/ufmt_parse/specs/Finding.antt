@@ -6,13 +6,13 @@ use Rattle.ufmt_parse.specs.declared.found.Found.{Found}
 use Rattle.ufmt_parse.specs.declared.found.Found.TheVariants.{End, LineFeed, Word, Other}
 
 -- a byte of an identifier or of a number: `-`, `+` and `.` too
-abbrev pub is_word_byte : ℕ → Bool
-is_word_byte c = is_identifier_byte c || (c == 45 || c == 43 || c == 46)
+abbrev pub is_found_byte : ℕ → Bool
+is_found_byte c = is_identifier_byte c || (c == 45 || c == 43 || c == 46)
 
 -- how many of them are at the front
 abbrev pub word_len : List ℕ → ℕ
 word_len [] = 0
-word_len (c ∷ text) = if is_word_byte c then (1 + word_len text) else 0
+word_len (c ∷ text) = if is_found_byte c then (1 + word_len text) else 0
 
 -- the text begins with this word, which is as long as can be, isn't empty and is UTF-8
 abbrev pub BeginsWithWord : List ℕ → List ℕ → Type 0

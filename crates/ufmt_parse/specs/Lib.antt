@@ -1,3 +1,4 @@
+pub mod Detailing
 pub mod Expecting
 pub mod Finding
 pub mod NamesBefore

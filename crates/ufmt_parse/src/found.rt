@@ -1,7 +1,7 @@
 //! What is found where a text stops fitting.
 ghost use Rattle.std.specs.Prelude.{◌≡◌, ◌≢◌, ◌≤◌, [], ◌∷◌, MatchBool, codes, drop, length};
 ghost use Rattle.ufmt.specs.ValueDocuments.{named, named_tuple, str};
-ghost use Rattle.ufmt_parse.specs.Finding.{IsFound, IsWordOrOther, found_document, is_word_byte, word_len};
+ghost use Rattle.ufmt_parse.specs.Finding.{IsFound, IsWordOrOther, found_document, is_found_byte, word_len};
 ghost use Rattle.ufmt_parse.specs.declared.found.Found.TheVariants.{End, LineFeed, Word, Other};
 
 use crate::name::is_identifier_byte;
@@ -62,7 +62,7 @@ fn word_len(text: &[u8]) -> usize
     let mut len = 0;
     let mut rest = text;
     'bytes: while let Some((&byte, after)) = rest.split_first() {
-        if !is_word_byte(byte) {
+        if !is_found_byte(byte) {
             break;
         }
         len += 1;
@@ -71,8 +71,8 @@ fn word_len(text: &[u8]) -> usize
     len
 }
 
-fn is_word_byte(byte: u8) -> bool
-    ensures { result ≡ is_word_byte byte }
+fn is_found_byte(byte: u8) -> bool
+    ensures { result ≡ is_found_byte byte }
 {
     is_identifier_byte(byte) || matches!(byte, b'-' | b'+' | b'.')
 }

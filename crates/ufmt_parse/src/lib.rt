@@ -1,6 +1,6 @@
 #![tactic(auto)]
 
-//! Values straight from their texts: the mirror of printing. A parser takes a text from the front, piece
+//! Parses values from their texts, as the reverse of printing. A parser consumes a text from the front, piece
 //! by piece, as a formatter writes it. A user names this crate only.
 
 // The value of an `Ok`. An `Err` is returned at once, as by `?`, but without the call that converts the error, of which the
@@ -17,6 +17,7 @@ macro_rules! tri {
 mod by;
 mod core_impls;
 mod decimal;
+mod detailed;
 mod error;
 mod expected;
 mod found;
@@ -35,6 +36,7 @@ mod whole_text;
 
 pub use by::{By, ProvesValue};
 pub use core_impls::options::Optional;
+pub use detailed::DetailedError;
 pub use error::ParseError;
 pub use expected::Expected;
 pub use found::Found;
@@ -54,6 +56,7 @@ pub use ufmt_parser::by_count::tuples::{
     parse_tuple_1, parse_tuple_2, parse_tuple_3, parse_tuple_4, parse_tuple_5, parse_tuple_6,
     parse_tuple_7, parse_tuple_8, parse_tuple_9, parse_tuple_10, parse_tuple_11, parse_tuple_12,
 };
+pub use ufmt_parser::detail::Detail;
 pub use ufmt_parser::mode::{ParseMode, PlainText, PrettyText};
 pub use ufmt_parser::need::Need;
 pub use ufmt_parser::parser::{Fault, Parser};

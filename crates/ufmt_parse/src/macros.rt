@@ -59,7 +59,7 @@ macro_rules! parse_variants {
 #[doc(hidden)]
 macro_rules! parse_variant {
     ([$alloc:ident, $parser:ident, $name:ident]) => {{
-        std::result::Result::Err($parser.refuse($crate::Need::Name))
+        std::result::Result::Err($parser.refuse_in_detail($crate::Need::Name, $crate::Detail::Variant(stringify!($name))))
     }};
     ([$alloc:ident, $parser:ident, $name:ident] $variant:ident { $($field:ident),+ $(,)? } $(, $($rest:tt)*)?) => {
         if $parser.is_named(stringify!($variant)) {

@@ -2,8 +2,8 @@
 ghost use Rattle.std.specs.Prelude.{[], ◌∷◌, codes, option_map};
 ghost use Rattle.ufmt.specs.Document.{documents, joined, leaf};
 ghost use Rattle.ufmt.specs.ValueDocuments.{named, named_struct, number, option_document, str};
+ghost use Rattle.ufmt_parse.specs.Detailing.{place_document};
 ghost use Rattle.ufmt_parse.specs.Expecting.{expected_words};
-ghost use Rattle.ufmt_parse.specs.Finding.{found_document};
 ghost use Rattle.ufmt_parse.specs.NamesBefore.{after_document};
 ghost use Rattle.ufmt_parse.specs.Placing.{IsPlaced};
 ghost use Rattle.ufmt_parse.specs.declared.placed.PlacedError.TheVariants.{NotText, OutOfMemory};
@@ -92,8 +92,7 @@ impl<'a> uDebug for PlacedError<'a> {
 impl uDisplay for PlacedError<'_> {
     ghost display = { elim [
       | NotText line column expected found after ↦ joined (documents (leaf (codes "expected ")
-          ∷ leaf (expected_words expected) ∷ found_document found ∷ leaf (codes " at line ") ∷ number line
-          ∷ leaf (codes " column ") ∷ number column ∷ after_document (option_map (λ name. name.now) after) ∷ []))
+          ∷ leaf (expected_words expected) ∷ place_document line column found after ∷ []))
       | OutOfMemory ↦ leaf (codes "out of memory")
     ] };
 
@@ -106,12 +105,35 @@ impl uDisplay for PlacedError<'_> {
                 found,
                 after,
             } => {
-                pieces!(text "expected ", display expected, display ButFound(*found), text " at line ", display line, text " column ", display column, display After(*after)).print(
-                    f,
-                )
+                let place = AtPlace {
+                    line: *line,
+                    column: *column,
+                    found: *found,
+                    after: *after,
+                };
+                pieces!(text "expected ", display expected, display place).print(f)
             }
             PlacedError::OutOfMemory => f.write_str("out of memory"),
         }
+    }
+}
+
+// A place as it reads after what is expected there: ``, found `x` at line 1 column 16, after `level: ` ``.
+#[derive(Clone, Copy, Drop)]
+pub(crate) struct AtPlace<'a> {
+    pub(crate) line: usize,
+    pub(crate) column: usize,
+    pub(crate) found: Found<'a>,
+    pub(crate) after: Option<&'a str>,
+}
+
+impl uDisplay for AtPlace<'_> {
+    ghost display = { λ place. place_document place.line place.column place.found place.after };
+
+    fn fmt<W: uWrite>(&self, f: &mut Formatter<W>) -> Result<(), W::Error> {
+        pieces!(display ButFound(self.found), text " at line ", display self.line, text " column ", display self.column, display After(self.after)).print(
+            f,
+        )
     }
 }
 

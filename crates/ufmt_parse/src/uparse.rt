@@ -24,11 +24,11 @@ pub trait uParse<A>: uDebug + Drop {
     /// expected there. By default nothing is said.
     ghost stops: { List ℕ → ℕ → Expected → Type 0 } = { λ _ _ _. ⊤ };
 
-    /// Shows that `is_value` holds, by `prove_value` of each field that it speaks of.
+    /// Shows that `is_value` holds, by `prove_value` of each field that it mentions.
     fn prove_value(&self)
         ensures { is_value self.now };
 
-    /// Takes the text of a value from the front. Fails with `NotText` only if no value's text is there,
+    /// Parses a value from the front of the text. Fails with `NotText` only if no value's text is there,
     /// with a text after it that may follow.
     fn parse_from<M: ParseMode>(alloc: A, parser: &mut Parser<'_, M>) -> Result<Self, Fault>
     where

@@ -1,5 +1,5 @@
 //! Integers: decimal digits with no zero before them, after `-` if the number is negative.
-ghost use Rattle.std.specs.Prelude.{◌≡◌, ◌<◌, ◌≤◌, length, List, ℕ, ℤ, pos, nat_abs, false, IfOk, IfErr, IsErrOf, MatchOption};
+ghost use Rattle.std.specs.Prelude.{◌≡◌, ◌<◌, ◌≤◌, ◌≤ℤ◌, length, List, ℕ, ℤ, pos, nat_abs, false, IfOk, IfErr, IsErrOf, MatchOption};
 ghost use Rattle.ufmt_core.specs.Decimal.{decimal};
 ghost use Rattle.ufmt_core.specs.Document.{leaf};
 ghost use Rattle.ufmt_parser.specs.Needs.{need};
@@ -9,6 +9,7 @@ ghost use Rattle.ufmt_parser.specs.Taking.{IsTaken, open_blocks, rest};
 ghost use Rattle.ufmt_parse_leaves.specs.Values.{is_u8, is_u16, is_u32, is_u64, is_u128, is_usize, is_i8, is_i16, is_i32, is_i64, is_i128, is_isize};
 
 use crate::digits::{Magnitude, split_magnitude, split_minus};
+use ufmt_parser::detail::Detail;
 use ufmt_parser::mode::ParseMode;
 use ufmt_parser::need::Need;
 use ufmt_parser::parser::{Fault, Parser};
@@ -35,6 +36,10 @@ pub trait Integer<N: Magnitude> {
         true
     }
 
+    // The least and the greatest integer of the type.
+    fn range() -> (i128, u128)
+        ensures { (v : Self) → in_range v → (result.0 ≤ℤ int v) × (int v ≤ℤ pos result.1) };
+
     // Shows that `N` holds the magnitudes of this type.
     fn prove_fits()
         ensures { (v : Self) → in_range v → nat_abs (int v) < N.bound };
@@ -59,6 +64,10 @@ impl Integer<u64> for u8 {
         false
     }
 
+    fn range() -> (i128, u128) {
+        (0, u8::MAX as u128)
+    }
+
     fn prove_fits() {}
 }
 
@@ -79,6 +88,10 @@ impl Integer<u64> for u16 {
     #[inline(always)]
     fn is_signed() -> bool {
         false
+    }
+
+    fn range() -> (i128, u128) {
+        (0, u16::MAX as u128)
     }
 
     fn prove_fits() {}
@@ -103,6 +116,10 @@ impl Integer<u64> for u32 {
         false
     }
 
+    fn range() -> (i128, u128) {
+        (0, u32::MAX as u128)
+    }
+
     fn prove_fits() {}
 }
 
@@ -119,6 +136,10 @@ impl Integer<u64> for u64 {
     #[inline(always)]
     fn is_signed() -> bool {
         false
+    }
+
+    fn range() -> (i128, u128) {
+        (0, u64::MAX as u128)
     }
 
     fn prove_fits() {}
@@ -143,6 +164,10 @@ impl Integer<u64> for usize {
         false
     }
 
+    fn range() -> (i128, u128) {
+        (0, usize::MAX as u128)
+    }
+
     fn prove_fits() {}
 }
 
@@ -161,6 +186,10 @@ impl Integer<u128> for u128 {
         false
     }
 
+    fn range() -> (i128, u128) {
+        (0, u128::MAX)
+    }
+
     fn prove_fits() {}
 }
 
@@ -172,6 +201,10 @@ impl Integer<u64> for i8 {
     #[inline(always)]
     fn from_magnitude(negative: bool, magnitude: u64) -> Option<i8> {
         i8::try_from(i64::from_magnitude(negative, magnitude)?).ok()
+    }
+
+    fn range() -> (i128, u128) {
+        (i8::MIN as i128, i8::MAX as u128)
     }
 
     fn prove_fits() {}
@@ -187,6 +220,10 @@ impl Integer<u64> for i16 {
         i16::try_from(i64::from_magnitude(negative, magnitude)?).ok()
     }
 
+    fn range() -> (i128, u128) {
+        (i16::MIN as i128, i16::MAX as u128)
+    }
+
     fn prove_fits() {}
 }
 
@@ -198,6 +235,10 @@ impl Integer<u64> for i32 {
     #[inline(always)]
     fn from_magnitude(negative: bool, magnitude: u64) -> Option<i32> {
         i32::try_from(i64::from_magnitude(negative, magnitude)?).ok()
+    }
+
+    fn range() -> (i128, u128) {
+        (i32::MIN as i128, i32::MAX as u128)
     }
 
     fn prove_fits() {}
@@ -217,6 +258,10 @@ impl Integer<u64> for i64 {
         Some(-1 - before)
     }
 
+    fn range() -> (i128, u128) {
+        (i64::MIN as i128, i64::MAX as u128)
+    }
+
     fn prove_fits() {}
 }
 
@@ -228,6 +273,10 @@ impl Integer<u64> for isize {
     #[inline(always)]
     fn from_magnitude(negative: bool, magnitude: u64) -> Option<isize> {
         isize::try_from(i64::from_magnitude(negative, magnitude)?).ok()
+    }
+
+    fn range() -> (i128, u128) {
+        (isize::MIN as i128, isize::MAX as u128)
     }
 
     fn prove_fits() {}
@@ -247,6 +296,10 @@ impl Integer<u128> for i128 {
         Some(-1 - before)
     }
 
+    fn range() -> (i128, u128) {
+        (i128::MIN, i128::MAX as u128)
+    }
+
     fn prove_fits() {}
 }
 
@@ -261,6 +314,18 @@ fn split_sign<N: Magnitude, T: Integer<N>>(input: &[u8]) -> (bool, &[u8])
     } else {
         (false, input)
     }
+}
+
+// Refuses what isn't in the range of the type.
+#[inline(always)]
+fn refuse_outside<N: Magnitude, T: Integer<N>, M: ParseMode>(parser: &mut Parser<'_, M>) -> Fault
+    ensures fault { result ≡ Fault.NotText }
+    ensures needs { need parser.new ≡ Need.Number }
+    ensures rest { rest parser.new ≡ rest parser.old }
+    ensures blocks { open_blocks parser.new ≡ open_blocks parser.old }
+{
+    let (from, to) = T::range();
+    parser.refuse_in_detail(Need::Number, Detail::Range { from, to })
 }
 
 /// The integer at the front. One of more than ten digits is fast only if `is_long` says that it may come.
@@ -284,10 +349,10 @@ pub fn parse_integer<N: Magnitude, T: Integer<N>, M: ParseMode>(
     match split_magnitude::<N>(digits, is_long) {
         None => {
             T::prove_fits();
-            Err(parser.refuse(Need::Number))
+            Err(refuse_outside::<N, T, M>(parser))
         }
         Some(front) => match T::from_magnitude(negative, front.0) {
-            None => Err(parser.refuse(Need::Number)),
+            None => Err(refuse_outside::<N, T, M>(parser)),
             Some(value) => {
                 parser.skip_to(front.1);
                 Ok(value)

@@ -4,6 +4,7 @@ ghost use Rattle.ufmt_core.specs.Layout.{layout};
 ghost use Rattle.ufmt_core.specs.declared.layout.Setting.{Setting};
 ghost use Rattle.ufmt_parser.specs.Taking.{Fits, Takes, open_blocks, rest, setting_in};
 
+use crate::detail::Detail;
 use crate::mode::ParseMode;
 use crate::need::Need;
 use crate::parser::{Fault, Parser};
@@ -41,7 +42,7 @@ pub struct Value<P>(pub P);
 
 /// A value after its name, as in a struct.
 #[derive(Drop)]
-pub struct Named<'a, P>(pub &'a str, pub P);
+pub struct Named<P>(pub &'static str, pub P);
 
 /// A key and its value, as in a map.
 #[derive(Drop)]
@@ -62,8 +63,7 @@ impl<A, M: ParseMode, T: uDebug, P: ParsesBy<A, M, T>> EntryParser<A, M, T> for 
     }
 }
 
-impl<'a, A: Copy, M: ParseMode, T: uDebug, P: ParsesBy<A, M, T>> EntryParser<A, M, T>
-    for Named<'a, P> {
+impl<A: Copy, M: ParseMode, T: uDebug, P: ParsesBy<A, M, T>> EntryParser<A, M, T> for Named<P> {
     ghost fit = { λ blocks v. P.is_value v × Fits blocks (T.document v) };
 
     ghost holds_no_memory = { P.holds_no_memory };
@@ -75,8 +75,9 @@ impl<'a, A: Copy, M: ParseMode, T: uDebug, P: ParsesBy<A, M, T>> EntryParser<A, 
     #[inline(always)]
     fn parse_entry(&self, alloc: A, parser: &mut Parser<'_, M>) -> Result<T, Fault> {
         if !parser.eat(self.0) {
-            return Err(parser.refuse(Need::Name));
+            return Err(parser.refuse_in_detail(Need::Name, Detail::Field(self.0)));
         }
+        parser.note(Detail::Nothing);
         if !parser.eat(COLON) {
             return Err(Fault::NotText);
         }

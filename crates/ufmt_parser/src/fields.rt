@@ -8,6 +8,7 @@ ghost use Rattle.ufmt_parser.specs.Naming.{is_debug_name_or_empty};
 ghost use Rattle.ufmt_parser.specs.Next.{IsNotNext, NextLeaves};
 ghost use Rattle.ufmt_parser.specs.Taking.{IsTaken, Takes, open_blocks, rest, setting_in};
 
+use crate::detail::Detail;
 use crate::entries::{EntryParser, Named, Value};
 use crate::mode::ParseMode;
 use crate::need::Need;
@@ -39,7 +40,7 @@ pub trait FieldParsers<A, M: ParseMode, V> {
         parser: &mut Parser<'_, M>,
         kind: Kind,
         count: Count,
-        names: &[&str],
+        names: &[&'static str],
     ) -> Result<V, Fault>
         requires opened { 0 < open_blocks parser.old }
         requires ready { ready self.now (open_blocks parser.old) }
@@ -69,11 +70,12 @@ impl<A: Copy, M: ParseMode> FieldParsers<A, M, ()> for () {
         parser: &mut Parser<'_, M>,
         kind: Kind,
         count: Count,
-        _names: &[&str],
+        _names: &[&'static str],
     ) -> Result<(), Fault> {
         if parser.eat_ending(kind, count) {
             Ok(())
         } else {
+            parser.note(Detail::NoField);
             Err(Fault::NotText)
         }
     }
@@ -94,7 +96,7 @@ fn parse_entry_first<
     kind: Kind,
     count: Count,
     first: &P,
-    names: &[&str],
+    names: &[&'static str],
     others: &R,
 ) -> Result<(T, V), Fault>
     requires opened { 0 < open_blocks parser.old }
@@ -135,7 +137,7 @@ pub(crate) fn parse_first<
     parser: &mut Parser<'_, M>,
     kind: Kind,
     count: Count,
-    names: &[&str],
+    names: &[&'static str],
     first: &P,
     others: &R,
 ) -> Result<(T, V), Fault>
@@ -154,6 +156,7 @@ pub(crate) fn parse_first<
     match names.split_first() {
         None => parse_entry_first(alloc, parser, kind, count, &Value(first), names, others),
         Some((name, names)) => {
+            parser.note(Detail::BeforeField(*name));
             parse_entry_first(
                 alloc,
                 parser,
@@ -173,8 +176,8 @@ fn parse_block<A: Copy, M: ParseMode, V: Drop, R: FieldParsers<A, M, V>>(
     alloc: A,
     parser: &mut Parser<'_, M>,
     kind: Kind,
-    name: &str,
-    names: &[&str],
+    name: &'static str,
+    names: &[&'static str],
     fields: &R,
 ) -> Result<V, Fault>
     requires { open_blocks parser.old < 255 → R.ready fields.now (suc (open_blocks parser.old)) }
@@ -189,7 +192,7 @@ fn parse_block<A: Copy, M: ParseMode, V: Drop, R: FieldParsers<A, M, V>>(
     ensures shrinks { length (rest parser.new) ≤ length (rest parser.old) }
 {
     if !parser.eat(name) {
-        return Err(parser.refuse(Need::Name));
+        return Err(parser.refuse_in_detail(Need::Name, Detail::Name(name)));
     }
     if !parser.eat(kind.opening()) {
         return Err(Fault::NotText);
@@ -207,8 +210,8 @@ fn parse_block<A: Copy, M: ParseMode, V: Drop, R: FieldParsers<A, M, V>>(
 pub fn parse_struct<A: Copy, M: ParseMode, V: Drop, R: FieldParsers<A, M, V>>(
     alloc: A,
     parser: &mut Parser<'_, M>,
-    name: &str,
-    names: &[&str],
+    name: &'static str,
+    names: &[&'static str],
     fields: &R,
 ) -> Result<V, Fault>
     requires named { AreNames (name.now ∷ all_now names.now) }
@@ -236,7 +239,7 @@ pub fn parse_struct<A: Copy, M: ParseMode, V: Drop, R: FieldParsers<A, M, V>>(
 pub fn parse_tuple<A: Copy, M: ParseMode, V: Drop, R: FieldParsers<A, M, V>>(
     alloc: A,
     parser: &mut Parser<'_, M>,
-    name: &str,
+    name: &'static str,
     fields: &R,
 ) -> Result<V, Fault>
     requires named { is_debug_name_or_empty name.now ≡ true }

@@ -17,6 +17,7 @@ macro_rules! tri {
 pub mod ascending;
 pub mod blocks;
 pub mod by_count;
+pub mod detail;
 pub mod entries;
 pub mod fields;
 pub mod mode;

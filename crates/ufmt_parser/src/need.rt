@@ -1,6 +1,6 @@
 //! What is missing where a text stops fitting.
 
-/// What should come where a text stops fitting: what a parser refuses a text for.
+/// What a parser expected where the text stops fitting.
 //
 // `Expected` of `ufmt_parse` is the same with `End`, which no parser may say: only `parse` knows that a whole value is
 // before the place. So nothing is asked of a parser by hand, and nothing is tested.

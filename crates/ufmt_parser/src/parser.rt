@@ -1,23 +1,23 @@
 //! The rest of a text, and what is taken from its front.
-ghost use Rattle.std.specs.Prelude.{◌≡◌, ◌<◌, ◌≤◌, ◌-◌, length, MatchBool, false, not, suc, true};
+ghost use Rattle.std.specs.Prelude.{◌≡◌, ◌<◌, ◌≤◌, ◌-◌, length, MatchBool, false, if◌then◌else◌, not, suc, true};
 ghost use Rattle.std.specs.Str.{bytes_eq};
 ghost use Rattle.ufmt_core.specs.Layout.{ending, frame, lead};
 ghost use Rattle.ufmt_core.specs.declared.layout.Count.TheVariants.{Zero};
 ghost use Rattle.ufmt_core.specs.Document.{Document};
 ghost use Rattle.ufmt_grammar.specs.Bytes.{ends_name};
-ghost use Rattle.ufmt_grammar.specs.Leaves.{is_spaced};
 ghost use Rattle.ufmt_parser.specs.Naming.{document_name, is_debug_name, is_past_name};
-ghost use Rattle.ufmt_parser.specs.Needs.{need};
+ghost use Rattle.ufmt_parser.specs.Needs.{detail_of, need};
 ghost use Rattle.ufmt_parser.specs.Next.{IsNotNext, NextLeaves};
 ghost use Rattle.ufmt_parser.specs.Taking.{Eats, open_blocks, rest, setting_in};
 
+use crate::detail::Detail;
 use crate::mode::ParseMode;
 use crate::need::Need;
 use crate::strip::{strip_ending, strip_lead, strip_piece};
 use std::marker::PhantomData;
 use ufmt_core::layout::{Count, Kind};
 use ufmt_grammar::bytes::ByteClass;
-use ufmt_scan::strip::begins_with;
+use ufmt_scan::strip::{begins_with, is_spaced};
 
 /// Why a value isn't parsed.
 #[derive(Clone, Copy, Drop)]
@@ -28,12 +28,14 @@ pub enum Fault {
 }
 
 /// What is left of a text in the mode `M`, how many blocks are open there, and what is missing where a
-/// call failed.
+/// call failed. In the mode `Detailed` also what is expected there in detail.
 #[derive(Drop)]
 pub struct Parser<'t, M> {
     rest: &'t [u8],
     open_blocks: u8,
     need: Need,
+    // At the text's own lifetime, though names live longer: with two lifetimes no call of a closure on a parser is proved.
+    detail: Detail<'t>,
     mode: PhantomData<M>,
 }
 
@@ -42,11 +44,13 @@ impl<'t, M: ParseMode> Parser<'t, M> {
     pub fn new(text: &'t [u8]) -> Parser<'t, M>
         ensures rest { rest result ≡ text.now }
         ensures outermost { open_blocks result ≡ 0 }
+        ensures nothing { detail_of result ≡ Detail.Nothing }
     {
         Parser {
             rest: text,
             open_blocks: 0,
             need: Need::Punctuation,
+            detail: Detail::Nothing,
             mode: PhantomData,
         }
     }
@@ -175,11 +179,39 @@ impl<'t, M: ParseMode> Parser<'t, M> {
     pub fn refuse(&mut self, missing: Need) -> Fault
         ensures fault { result ≡ Fault.NotText }
         ensures needs { need self.new ≡ missing }
+        ensures detail { detail_of self.new ≡ (if M.keeps_detail then Detail.Nothing else detail_of self.old) }
+        ensures rest { rest self.new ≡ rest self.old }
+        ensures blocks { open_blocks self.new ≡ open_blocks self.old }
+    {
+        self.refuse_in_detail(missing, Detail::Nothing)
+    }
+
+    /// The same, and records what is expected in detail if the mode is `Detailed`.
+    #[must_use]
+    #[inline(always)]
+    pub fn refuse_in_detail(&mut self, missing: Need, detail: Detail<'t>) -> Fault
+        ensures fault { result ≡ Fault.NotText }
+        ensures needs { need self.new ≡ missing }
+        ensures detail { detail_of self.new ≡ (if M.keeps_detail then detail.entry else detail_of self.old) }
         ensures rest { rest self.new ≡ rest self.old }
         ensures blocks { open_blocks self.new ≡ open_blocks self.old }
     {
         self.need = missing;
+        self.note(detail);
         Fault::NotText
+    }
+
+    /// Records what is expected next in detail, for calls that fail without `refuse`, if the mode is `Detailed`.
+    #[inline(always)]
+    pub fn note(&mut self, detail: Detail<'t>)
+        ensures detail { detail_of self.new ≡ (if M.keeps_detail then detail.entry else detail_of self.old) }
+        ensures needs { need self.new ≡ need self.old }
+        ensures rest { rest self.new ≡ rest self.old }
+        ensures blocks { open_blocks self.new ≡ open_blocks self.old }
+    {
+        if M::keeps_detail() {
+            self.detail = detail;
+        }
     }
 
     /// What is missing where a call failed.
@@ -189,7 +221,14 @@ impl<'t, M: ParseMode> Parser<'t, M> {
         self.need
     }
 
-    /// Removes all before this rest of the text.
+    /// What is expected in detail where a call failed, if the mode is `Detailed`. It is `Nothing` in other modes.
+    pub fn detail(&self) -> Detail<'t>
+        ensures { result ≡ detail_of self.now }
+    {
+        self.detail
+    }
+
+    /// Moves to this rest of the text.
     #[inline(always)]
     pub fn skip_to(&mut self, after: &'t [u8])
         ensures rest { rest self.new ≡ after.now }
@@ -228,17 +267,6 @@ fn is_past_name(after: &[u8]) -> bool
         Some((b':', after)) => is_spaced(after),
         Some((b'(', after)) => !begins_with(b')', after),
         Some((&first, _)) => ends_name(first),
-    }
-}
-
-// Whether a space comes next, and no closing brace after it.
-#[inline(always)]
-fn is_spaced(text: &[u8]) -> bool
-    ensures { result ≡ is_spaced text.now }
-{
-    match text.split_first() {
-        Some((b' ', after)) => !begins_with(b'}', after),
-        _ => false,
     }
 }
 

@@ -6,6 +6,7 @@ ghost use Rattle.ufmt_parser.specs.Needs.{need};
 ghost use Rattle.ufmt_parser.specs.Next.{IsNotNext, NextLeaves};
 ghost use Rattle.ufmt_parser.specs.Taking.{IsTaken, open_blocks, rest};
 
+use crate::detail::Detail;
 use crate::mode::ParseMode;
 use crate::need::Need;
 use crate::parser::{Fault, Parser};
@@ -13,7 +14,7 @@ use crate::parser::{Fault, Parser};
 /// Parses a name, as `parse_from` does a value that prints as its name alone. The name may be the beginning
 /// of a longer one: see `is_named`.
 #[inline(always)]
-pub fn parse_unit<M: ParseMode>(parser: &mut Parser<'_, M>, name: &str) -> Result<(), Fault>
+pub fn parse_unit<M: ParseMode>(parser: &mut Parser<'_, M>, name: &'static str) -> Result<(), Fault>
     requires { is_debug_name name.now ≡ true }
     ensures taken { IfOk result (λ _. IsTaken M.mode parser.old (leaf name.now) parser.new) }
     ensures struct_taken { IfOk result (λ _. IsTaken M.mode parser.old (struct_of name.now no_fields) parser.new) }
@@ -30,6 +31,6 @@ pub fn parse_unit<M: ParseMode>(parser: &mut Parser<'_, M>, name: &str) -> Resul
     if parser.eat(name) {
         Ok(())
     } else {
-        Err(parser.refuse(Need::Name))
+        Err(parser.refuse_in_detail(Need::Name, Detail::Name(name)))
     }
 }

@@ -1,5 +1,6 @@
 -- Leaves of debug documents that are words in ASCII, and texts in quotes.
-use Rattle.std.proofs.Common.{◌≡◌, inl, inr, refl, ap, sym, ◌∙◌, ℕ, suc, ◌<◌, ◌≤◌, ◌==◌, ◌&&◌, ◌||◌, not, nat_lt, Bool, true, false, cond, List, [], ◌∷◌, ◌++◌, length, length-drop, take, drop, Some, arith}
+use Rattle.std.proofs.Common.{◌≡◌, inl, inr, refl, ap, sym, ◌∙◌, ℕ, suc, ◌<◌, ◌≤◌, ◌==◌, ◌&&◌, not, nat_lt, true, false, cond, List, [], ◌∷◌, ◌++◌, length, length-drop, take, drop, Some, arith, ◌||◌}
+use Rattle.std.proofs.lemmas.Bool.{cases_Bool}
 use Rattle.std.specs.Prelude.{◌≢◌, ◌-◌}
 use Rattle.std.specs.Str.{IsAscii, encode_utf8_all}
 use Rattle.std.proofs.lemmas.Bool.Decides.{nat_tests}
@@ -12,7 +13,7 @@ use Rattle.ufmt_core.specs.Document.{leaf}
 use Rattle.ufmt_core.specs.Quoted.{IsQuote, IsQuoted, escaped_bytes, quoted}
 use Rattle.ufmt_grammar.specs.ReadingQuoted.{read_quoted}
 use Rattle.ufmt_grammar.proofs.ClassTokens.{tokens_are_debug}
-use Rattle.ufmt_grammar.proofs.DebugLeaves.{after_leaf-append, some_begun, last_is_outside, leaf_from-append}
+use Rattle.ufmt_grammar.proofs.DebugLeaves.{after_leaf-append, some_begun, last_is_outside, leaf_from-append, both}
 use Rattle.ufmt_grammar.proofs.QuotedComplete.{quoted-bytes}
 use Rattle.ufmt_grammar.proofs.QuotedSound.{read_quoted-sound}
 use Rattle.ufmt_grammar.specs.declared.class.Class.TheVariants.{Debug}
@@ -30,12 +31,7 @@ record IsAsciiByte (c : ℕ) : Type 0 where
   low : c < 128
 
 marked_in_ascii : (c : ℕ) → is_in PlainAscii c ≡ true → IsAsciiByte c
-marked_in_ascii c h = go (is_plain_byte c) (nat_lt c 128) refl refl h
-  where
-    go : (word low : Bool) → is_plain_byte c ≡ word → nat_lt c 128 ≡ low → word && low ≡ true → IsAsciiByte c
-    go true true e f h = record { word = e; low = ltb-true c 128 f }
-    go true false e f h = absurd (cc)
-    go false low e f h = absurd (cc)
+marked_in_ascii c h = let parts = both (is_plain_byte c) (nat_lt c 128) h in record { word = parts.0; low = ltb-true c 128 parts.1 }
 
 -- bytes at the front, and what is left after them
 record PassesAscii (t : List ℕ) (n : ℕ) : Type 0 where
@@ -52,17 +48,17 @@ no_colon_before c (b ∷ w) first last = last
 
 ascii_run : (t : List ℕ) → PassesAscii t (marked_len PlainAscii t)
 ascii_run [] = record { passes = passes_none outside []; ascii = IsAscii-nil; no_colon = refl }
-ascii_run (c ∷ t) = go (is_in PlainAscii c) refl (ascii_run t)
-  where
-    go : (b : Bool) → is_in PlainAscii c ≡ b → PassesAscii t (marked_len PlainAscii t) → PassesAscii (c ∷ t) (cond b (suc (marked_len PlainAscii t)) 0)
-    go true is more =
-        let byte = marked_in_ascii c is in
-        record {
-          passes = passes_then (word_passes c t byte.word) more.passes;
-          ascii = IsAscii-cons c (take (marked_len PlainAscii t) t) byte.low more.ascii;
-          no_colon = no_colon_before c (take (marked_len PlainAscii t) t) (plain_no_colon c byte.word) more.no_colon;
-        }
-    go false is more = record { passes = passes_none outside (c ∷ t); ascii = IsAscii-nil; no_colon = refl }
+ascii_run (c ∷ t) = elim (cases_Bool (is_in PlainAscii c)) [
+  | inl is ↦
+      let byte = marked_in_ascii c is in
+      let more = ascii_run t in
+      rw is (record {
+        passes = passes_then (word_passes c t byte.word) more.passes;
+        ascii = IsAscii-cons c (take (marked_len PlainAscii t) t) byte.low more.ascii;
+        no_colon = no_colon_before c (take (marked_len PlainAscii t) t) (plain_no_colon c byte.word) more.no_colon;
+      })
+  | inr is ↦ rw is (record { passes = passes_none outside (c ∷ t); ascii = IsAscii-nil; no_colon = refl })
+]
 
 none_at : (t : List ℕ) → EndsAt t → NoneNext t
 none_at [] h = tt
@@ -85,17 +81,16 @@ module _ (t word : List ℕ) (n : ℕ) (len : n ≡ marked_len PlainAscii t) (fr
 -- a leaf with a start begins with no word
 pub started_by_bracket : (t : List ℕ) (n : ℕ) → n ≡ marked_len PlainAscii t → n ≢ 0 → is_started t ≡ false
 started_by_bracket [] n len some = refl
-started_by_bracket (c ∷ t) n len some = go (is_in PlainAscii c) refl
+started_by_bracket (c ∷ t) n len some = elim (cases_Bool (is_in PlainAscii c)) [
+  | inl e ↦ bare (marked_in_ascii c e).word
+  | inr e ↦ absurd (some (len ∙ ap (λ b. cond b (suc (marked_len PlainAscii t)) 0) e))
+]
   where
     bare : is_plain_byte c ≡ true → is_started (c ∷ t) ≡ false
     bare word =
         let no_parenthesis : (c == 40) ≡ false = grind (arith, nat_tests) in
         let no_bracket : (c == 91) ≡ false = grind (arith, nat_tests) in
         rw (no_parenthesis, no_bracket) refl
-
-    go : (b : Bool) → is_in PlainAscii c ≡ b → is_started (c ∷ t) ≡ false
-    go true e = bare (marked_in_ascii c e).word
-    go false e = absurd (some (len ∙ ap (λ b. cond b (suc (marked_len PlainAscii t)) 0) e))
 
 -- a text whose last byte is no colon
 ends_otherwise : (w : List ℕ) (c : ℕ) → (c == 58) ≡ false → ends_in_colon (w ++ c ∷ []) ≡ false

@@ -1,7 +1,7 @@
 -- Characters in UTF-8, and as they are written between quotes.
-use Rattle.std.proofs.Common.{◌≡◌, ◌⊎◌, inl, inr, refl, sym, ap, ◌∙◌, ℕ, ◌+◌, ◌<◌, ◌≤◌, Bool, true, false, List, [], ◌∷◌, ◌++◌, length, slice_index, encode_utf8, append-nil, arith}
+use Rattle.std.proofs.Common.{◌≡◌, ◌⊎◌, inl, inr, refl, sym, ap, ◌∙◌, ℕ, ◌+◌, ◌<◌, ◌≤◌, List, [], ◌∷◌, ◌++◌, length, slice_index, encode_utf8, append-nil, arith}
 use lib.Utf8.{encode}
-use Rattle.std.specs.Prelude.{nat_lt, unwrap_or}
+use Rattle.std.specs.Prelude.{unwrap_or}
 use Rattle.std.specs.Str.{continuation_len}
 use Rattle.std.proofs.lemmas.Bool.{cases_lt}
 use Rattle.std.proofs.lemmas.Bool.Decides.{nat_tests}
@@ -13,14 +13,7 @@ use Rattle.ufmt_grammar.proofs.QuotedComplete.{quote_ascii}
 -- the first byte of a character determines how many bytes it has
 pub length-led : (c : ℕ) → length (encode_utf8 c) ≡ 1 + continuation_len (slice_index (encode_utf8 c) 0)
 unfolding encode
-length-led c = go (nat_lt c 128) refl (nat_lt c 2048) refl (nat_lt c 65536) refl
-  where
-    go : (x : Bool) → nat_lt c 128 ≡ x → (y : Bool) → nat_lt c 2048 ≡ y → (z : Bool) → nat_lt c 65536 ≡ z
-        → length (encode_utf8 c) ≡ 1 + continuation_len (slice_index (encode_utf8 c) 0)
-    go true one y two z three = rw one (grind (arith, nat_tests))
-    go false one true two z three = rw (one, two) (grind (arith, nat_tests))
-    go false one false two true three = rw (one, two, three) (grind (arith, nat_tests))
-    go false one false two false three = rw (one, two, three) (grind (arith, nat_tests))
+length-led c = grind (arith, nat_tests)
 
 -- how a character is written: in ASCII as its byte is, and past it in UTF-8, whose first byte is past ASCII and written as itself
 pub data Written (q c : ℕ) : Type 0 where

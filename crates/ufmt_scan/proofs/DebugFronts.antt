@@ -1,14 +1,15 @@
 -- The whole leaf at the front of a debug document: how it starts, and where it ends.
-use Rattle.std.proofs.Common.{◌≡◌, inl, inr, refl, ap, sym, subst, ◌∙◌, ℕ, suc, ◌==◌, ◌&&◌, ◌||◌, not, Bool, true, false, cond, List, [], ◌∷◌, ◌++◌, append-nil, length, length-append, take, drop, codes, Option, Some, None, eqb-true, arith}
-use Rattle.std.specs.Prelude.{◌≢◌, ◌⊎◌, ◌-◌, ⊤}
+use Rattle.std.proofs.Common.{◌≡◌, inl, inr, refl, ap, sym, subst, ◌∙◌, ℕ, suc, ◌==◌, ◌&&◌, not, Bool, true, false, List, [], ◌∷◌, ◌++◌, append-nil, length, length-append, take, drop, codes, Option, Some, None, eqb-true, arith, ◌||◌}
+use Rattle.std.proofs.lemmas.Bool.{cases_Bool, false_from_ne_true}
+use Rattle.std.specs.Prelude.{◌≢◌, ◌-◌, ⊤}
 use Rattle.std.specs.Str.{IsUtf8, is_utf8}
 use Rattle.std.proofs.lemmas.Bool.Decides.{nat_tests}
 use Rattle.std.proofs.lemmas.Str.{IsUtf8-from_is_utf8, is_utf8-from_IsUtf8}
 use Rattle.std.proofs.Math.Seq.{take-append_seam}
-use Rattle.ufmt_grammar.specs.Leaves.{Place, beginning, outside, after_quotes, in_word, in_address, after_address, is_plain_byte, is_name_byte, is_word_closed, is_address_closed, is_port, past, is_continuation, is_escape_byte, is_character_closed, opens_quotes, between, is_outside, place_outside, place_after, begins_with, is_quote, is_debug_byte, has_name_bytes, ends_in_colon}
+use Rattle.ufmt_grammar.specs.Leaves.{Place, beginning, outside, after_quotes, in_word, in_address, after_address, is_plain_byte, is_name_byte, is_word_closed, is_address_closed, is_port, past, is_continuation, is_escape_byte, opens_quotes, between, is_outside, place_outside, place_after, begins_with, is_quote, is_debug_byte, has_name_bytes, ends_in_colon}
 use Rattle.ufmt_grammar.specs.Reading.{choose, leaf_from, after_leaf, last_place, strip}
 use Rattle.ufmt_core.specs.Document.{leaf}
-use Rattle.ufmt_grammar.proofs.DebugLeaves.{at_beginning, each_quote, kept_alone, opens_by}
+use Rattle.ufmt_grammar.proofs.DebugLeaves.{at_beginning, each_quote, kept_alone, opens_by, both}
 use Rattle.ufmt_grammar.proofs.NoStarts.{address_by_port, word_by_end}
 use Rattle.ufmt_grammar.proofs.Parsing.{strip_found}
 use Rattle.ufmt_grammar.specs.declared.class.Class.TheVariants.{Debug}
@@ -25,11 +26,10 @@ use Rattle.ufmt_scan.proofs.PassedBytes.{and-true, pass_byte, passes_none, passe
 
 -- a text in quotes is opened, continued and closed
 pub opened : (q : ℕ) (t : List ℕ) → opens_quotes q t ≡ true → Passes outside (q ∷ t) (between q) t false
-opened q t opens = go (opens_by q t opens)
-  where
-    go : (q ≡ 34) ⊎ ((q ≡ 39) × (is_character_closed t ≡ true)) → Passes outside (q ∷ t) (between q) t false
-    go (inl mark) = rw mark (pass_byte outside 34 t (between 34) refl)
-    go (inr character) = rw character.0 (pass_byte outside 39 t (between 39) (rw character.1 refl))
+opened q t opens = elim (opens_by q t opens) [
+  | inl mark ↦ rw mark (pass_byte outside 34 t (between 34) refl)
+  | inr character ↦ rw character.0 (pass_byte outside 39 t (between 39) (rw character.1 refl))
+]
 
 module _ (q : ℕ) (quote : is_quote q ≡ true) where
   pub closed : (t : List ℕ) → Passes (between q) (q ∷ t) after_quotes t false
@@ -37,11 +37,7 @@ module _ (q : ℕ) (quote : is_quote q ≡ true) where
 
 -- numbers that differ are found to differ
 pub differ : (a b : ℕ) → a ≢ b → (a == b) ≡ false
-differ a b apart = go (a == b) refl
-  where
-    go : (same : Bool) → (a == b) ≡ same → (a == b) ≡ false
-    go false e = e
-    go true e = absurd (apart (eqb-true a b e))
+differ a b apart = false_from_ne_true (a == b) (λ e. apart (eqb-true a b e))
 
 -- no byte of a leaf is at the front
 abbrev pub NoneNext : List ℕ → Type 0
@@ -171,28 +167,19 @@ record PassesSome (place : Place) (t rest : List ℕ) : Type 0 where
 module _ (place : Place) (is : ℕ → Bool) (stays : (c : ℕ) (t : List ℕ) → is c ≡ true → place_after place c t ≡ Some place) where
   past_passes : (t : List ℕ) → PassesSome place t (past is t)
   past_passes [] = record { named = true; passes = passes_none place [] }
-  past_passes (c ∷ t) = go (is c) refl (past_passes t)
-    where
-      go : (b : Bool) → is c ≡ b → PassesSome place t (past is t) → PassesSome place (c ∷ t) (cond b (past is t) (c ∷ t))
-      go true e more = record { named = _; passes = passes_then (pass_byte place c t place (stays c t e)) more.passes }
-      go false e more = record { named = true; passes = passes_none place (c ∷ t) }
+  past_passes (c ∷ t) = elim (cases_Bool (is c)) [
+    | inl e ↦ rw e (record { named = _; passes = passes_then (pass_byte place c t place (stays c t e)) (past_passes t).passes })
+    | inr e ↦ rw e (record { named = true; passes = passes_none place (c ∷ t) })
+  ]
 
 past_marked : (set : ByteClass) (t : List ℕ) → drop (marked_len set t) t ≡ past (is_in set) t
 past_marked set [] = refl
-past_marked set (c ∷ t) = go (is_in set c) (past_marked set t)
-  where
-    go : (b : Bool) → drop (marked_len set t) t ≡ past (is_in set) t → drop (cond b (suc (marked_len set t)) 0) (c ∷ t) ≡ cond b (past (is_in set) t) (c ∷ t)
-    go true more = more
-    go false more = refl
+past_marked set (c ∷ t) = elim (cases_Bool (is_in set c)) [ inl e ↦ rw e (past_marked set t) | inr e ↦ rw e refl ]
 
 -- no start is where no name could begin
 pub no_word_without_name : (t : List ℕ) → begins_name t ≡ false → is_word_closed t ≡ false
 no_word_without_name [] h = refl
-no_word_without_name (c ∷ t) h = go (is_debug_byte c) (c == 58) h
-  where
-    go : (word colon : Bool) → word || colon ≡ false → word && begins_with 41 (past is_debug_byte t) ≡ false
-    go true colon k = absurd (cc)
-    go false colon k = refl
+no_word_without_name (c ∷ t) h = let no_word = false_from_ne_true (is_debug_byte c) (λ e. let none = rw e at h in cc) in rw no_word refl
 
 pub no_address_without_name : (t : List ℕ) → begins_name t ≡ false → is_address_closed t ≡ false
 no_address_without_name [] h = refl
@@ -209,41 +196,59 @@ word_stays : (c : ℕ) (t : List ℕ) → is_debug_byte c ≡ true → place_aft
 word_stays c t h = let other : (c == 41) ≡ false = grind (arith, nat_tests) in rw (h, other) refl
 
 address_stays : (c : ℕ) (t : List ℕ) → is_name_byte c ≡ true → place_after in_address c t ≡ Some in_address
-address_stays c t h = let other : (c == 93) ≡ false = go (c == 93) refl in rw (h, other) refl
-  where
-    go : (same : Bool) → (c == 93) ≡ same → (c == 93) ≡ false
-    go false e = e
-    go true e = let none = subst (λ b. is_name_byte b ≡ true) (eqb-true c 93 e) h in absurd (cc)
+address_stays c t h = let other : (c == 93) ≡ false = grind (arith, nat_tests) in rw (h, other) refl
 
 -- the first byte is of the class if and only if some are
 first_marked : (set : ByteClass) (c : ℕ) (t : List ℕ) (none : Bool) → (marked_len set (c ∷ t) == 0) ≡ none → is_in set c ≡ not none
-first_marked set c t none h = go (is_in set c) refl h
-  where
-    go : (b : Bool) → is_in set c ≡ b → (cond b (suc (marked_len set t)) 0 == 0) ≡ none → is_in set c ≡ not none
-    go true e k = let some : (suc (marked_len set t) == 0) ≡ false = grind (arith, nat_tests) in e ∙ sym (ap not (sym k ∙ some))
-    go false e k = e ∙ sym (ap not (sym k))
+first_marked set c t none h = elim (cases_Bool (is_in set c)) [
+  | inl e ↦ let some : (suc (marked_len set t) == 0) ≡ false = grind (arith, nat_tests) in e ∙ sym (ap not (sym (rw e at h) ∙ some))
+  | inr e ↦ e ∙ sym (ap not (sym (rw e at h)))
+]
+
+-- so a text that begins with no byte of these classes begins with no word or address that is closed
+unmarked_word : (t : List ℕ) → (marked_len Word t == 0) ≡ true → is_word_closed t ≡ false
+unmarked_word [] h = refl
+unmarked_word (c ∷ t) h = rw (first_marked Word c t true h) refl
+
+unmarked_address : (t : List ℕ) → (marked_len Name t == 0) ≡ true → is_address_closed t ≡ false
+unmarked_address [] h = refl
+unmarked_address (c ∷ t) h = rw (first_marked Name c t true h) refl
+
+-- where what closes them comes after some, they are closed
+marked_word : (t rest : List ℕ) → (marked_len Word t == 0) ≡ false → past is_debug_byte t ≡ 41 ∷ rest → is_word_closed t ≡ true
+marked_word [] rest some is = absurd (cc)
+marked_word (c ∷ t) rest some is =
+    let word : is_debug_byte c ≡ true = first_marked Word c t false some in
+    let later : past is_debug_byte t ≡ 41 ∷ rest = rw word at is in
+    rw (word, later) refl
+
+marked_address : (t : List ℕ) → (marked_len Name t == 0) ≡ false → is_port (past is_name_byte t) ≡ true → is_address_closed t ≡ true
+marked_address [] some is = absurd (cc)
+marked_address (c ∷ t) some is =
+    let name : is_name_byte c ≡ true = first_marked Name c t false some in
+    let later : is_port (past is_name_byte t) ≡ true = rw name at is in
+    rw (name, later) refl
+
+-- a text that doesn't begin with what closes a word or an address ends none
+no_parenthesis : (t : List ℕ) → strip (codes ")") t ≡ None → begins_with 41 t ≡ false
+no_parenthesis [] h = refl
+no_parenthesis (c ∷ t) h = grind (arith, nat_tests)
+
+no_port : (t : List ℕ) → strip (codes "]:") t ≡ None → is_port t ≡ false
+no_port [] h = refl
+no_port (c ∷ []) h = refl
+no_port (c ∷ b ∷ []) h = refl
+no_port (c ∷ b ∷ d ∷ t) h = grind (arith, nat_tests)
 
 module _ (t after : List ℕ) (n : ℕ) (len : n ≡ marked_len Word t) (back : after ≡ drop n t) where
   word_past : after ≡ past is_debug_byte t
   word_past = back ∙ ap (λ k. drop k t) len ∙ past_marked Word t
 
   pub no_word_here : (n == 0) ≡ true → is_word_closed t ≡ false
-  no_word_here none = go t (ap (λ k. k == 0) (sym len) ∙ none)
-    where
-      go : (t : List ℕ) → (marked_len Word t == 0) ≡ true → is_word_closed t ≡ false
-      go [] e = refl
-      go (c ∷ u) e = rw (first_marked Word c u true e) refl
+  no_word_here none = unmarked_word t (ap (λ k. k == 0) (sym len) ∙ none)
 
   pub word_unclosed : strip (codes ")") after ≡ None → is_word_closed t ≡ false
-  word_unclosed none = word_by_end t (ap (begins_with 41) (sym word_past) ∙ go after none)
-    where
-      go : (u : List ℕ) → strip (codes ")") u ≡ None → begins_with 41 u ≡ false
-      go [] e = refl
-      go (c ∷ u) e = byte (41 == c) refl e
-        where
-          byte : (x : Bool) → (41 == c) ≡ x → cond x (Some u) None ≡ None → (c == 41) ≡ false
-          byte true f k = absurd (cc)
-          byte false f k = grind (arith, nat_tests)
+  word_unclosed none = word_by_end t (ap (begins_with 41) (sym word_past) ∙ no_parenthesis after none)
 
   pub word_closed : (rest : List ℕ) → (n == 0) ≡ false → strip (codes ")") after ≡ Some rest → (is_word_closed t ≡ true) × Passes beginning (40 ∷ t) outside rest false
   word_closed rest some closes = (closed, passes_then (pass_byte beginning 40 t in_word (rw closed refl)) (passes_then inside.passes end))
@@ -251,15 +256,8 @@ module _ (t after : List ℕ) (n : ℕ) (len : n ≡ marked_len Word t) (back : 
       all : past is_debug_byte t ≡ 41 ∷ rest
       all = sym word_past ∙ strip_found (codes ")") after rest closes
 
-      go : (t : List ℕ) → (marked_len Word t == 0) ≡ false → past is_debug_byte t ≡ 41 ∷ rest → is_word_closed t ≡ true
-      go [] e is = absurd (cc)
-      go (c ∷ u) e is =
-          let word : is_debug_byte c ≡ true = first_marked Word c u false e in
-          let later : past is_debug_byte u ≡ 41 ∷ rest = sym (ap (λ b. cond b (past is_debug_byte u) (c ∷ u)) word) ∙ is in
-          rw (word, ap (begins_with 41) later) refl
-
       closed : is_word_closed t ≡ true
-      closed = go t (ap (λ k. k == 0) (sym len) ∙ some) all
+      closed = marked_word t rest (ap (λ k. k == 0) (sym len) ∙ some) all
 
       inside : PassesSome in_word t (past is_debug_byte t)
       inside = past_passes in_word is_debug_byte word_stays t
@@ -272,43 +270,20 @@ module _ (t after : List ℕ) (n : ℕ) (len : n ≡ marked_len Name t) (back : 
   address_past = back ∙ ap (λ k. drop k t) len ∙ past_marked Name t
 
   pub no_address_here : (n == 0) ≡ true → is_address_closed t ≡ false
-  no_address_here none = go t (ap (λ k. k == 0) (sym len) ∙ none)
-    where
-      go : (t : List ℕ) → (marked_len Name t == 0) ≡ true → is_address_closed t ≡ false
-      go [] e = refl
-      go (c ∷ u) e = rw (first_marked Name c u true e) refl
+  no_address_here none = unmarked_address t (ap (λ k. k == 0) (sym len) ∙ none)
 
   unclosed : is_port after ≡ false → is_address_closed t ≡ false
   unclosed none = address_by_port t (ap is_port (sym address_past) ∙ none)
 
   pub no_closing : strip (codes "]:") after ≡ None → is_address_closed t ≡ false
-  no_closing none = unclosed (go after none)
-    where
-      go : (u : List ℕ) → strip (codes "]:") u ≡ None → is_port u ≡ false
-      go [] e = refl
-      go (c ∷ []) e = refl
-      go (c ∷ b ∷ []) e = refl
-      go (c ∷ b ∷ d ∷ u) e = bytes (93 == c) (58 == b) refl refl e
-        where
-          no_and : (x : Bool) → (x && false) && is_plain_byte d ≡ false
-          no_and true = refl
-          no_and false = refl
-
-          bytes : (x y : Bool) → (93 == c) ≡ x → (58 == b) ≡ y → cond x (cond y (Some (d ∷ u)) None) None ≡ None → is_port (c ∷ b ∷ d ∷ u) ≡ false
-          bytes true true f g k = absurd (cc)
-          bytes true false f g k = let other : (b == 58) ≡ false = grind (arith, nat_tests) in rw (other) (no_and (c == 93))
-          bytes false y f g k = let other : (c == 93) ≡ false = grind (arith, nat_tests) in rw other refl
+  no_closing none = unclosed (no_port after none)
 
   module _ (rest : List ℕ) (closes : strip (codes "]:") after ≡ Some rest) where
     parts : after ≡ 93 ∷ 58 ∷ rest
     parts = strip_found (codes "]:") after rest closes
 
     pub nothing_after : length rest ≡ 0 → is_address_closed t ≡ false
-    nothing_after none = unclosed (ap is_port parts ∙ go rest none)
-      where
-        go : (u : List ℕ) → length u ≡ 0 → is_port (93 ∷ 58 ∷ u) ≡ false
-        go [] e = refl
-        go (c ∷ u) e = absurd (omega (arith, e))
+    nothing_after none = unclosed (ap is_port parts ∙ elim rest as (λ u. length u ≡ 0 → is_port (93 ∷ 58 ∷ u) ≡ false) [ [] ↦ λ e. refl | c ∷ u ↦ λ e. absurd (omega (arith, e)) ] none)
 
     pub no_port_byte : (d : ℕ) (u : List ℕ) → rest ≡ d ∷ u → is_plain_byte d ≡ false → is_address_closed t ≡ false
     no_port_byte d u first none = unclosed (ap is_port parts ∙ ap (λ v. is_port (93 ∷ 58 ∷ v)) first ∙ none)
@@ -322,15 +297,8 @@ module _ (t after : List ℕ) (n : ℕ) (len : n ≡ marked_len Name t) (back : 
         port : is_port (past is_name_byte t) ≡ true
         port = ap is_port all ∙ ap (λ v. is_port (93 ∷ 58 ∷ v)) first ∙ plain
 
-        go : (t : List ℕ) → (marked_len Name t == 0) ≡ false → is_port (past is_name_byte t) ≡ true → is_address_closed t ≡ true
-        go [] e is = absurd (cc)
-        go (c ∷ v) e is =
-            let name : is_name_byte c ≡ true = first_marked Name c v false e in
-            let later : is_port (past is_name_byte v) ≡ true = sym (ap (λ b. is_port (cond b (past is_name_byte v) (c ∷ v))) name) ∙ is in
-            rw (name, later) refl
-
         closed : is_address_closed t ≡ true
-        closed = go t (ap (λ k. k == 0) (sym len) ∙ some) port
+        closed = marked_address t (ap (λ k. k == 0) (sym len) ∙ some) port
 
         inside : PassesSome in_address t (past is_name_byte t)
         inside = past_passes in_address is_name_byte address_stays t
@@ -363,9 +331,6 @@ module _ (t rest leaf : List ℕ) (named : Bool) (ends : EndsLeaf t rest named) 
       bytes_named = ap has_name_bytes (ends.passes.front ∙ ap (λ u. ends.passes.bytes ++ u) ends.none ∙ append-nil ends.passes.bytes) ∙ ends.passes.has
 
   pub leaf_is_broken : ¬ (IsUtf8 leaf) → is_whole Debug (leaf_from beginning t) ≡ false
-  leaf_is_broken broken = go (is_outside (last_place beginning (leaf_from beginning t))) (is_utf8 (leaf_from beginning t)) refl
-    where
-      go : (ends utf8 : Bool) → is_utf8 (leaf_from beginning t) ≡ utf8 → ends && utf8 ≡ false
-      go false utf8 e = refl
-      go true false e = refl
-      go true true e = absurd (broken (subst IsUtf8 (sym leaf_is) (IsUtf8-from_is_utf8 (leaf_from beginning t) e)))
+  leaf_is_broken broken = false_from_ne_true (is_whole Debug (leaf_from beginning t)) (λ e.
+      let parts = both (is_outside (last_place beginning (leaf_from beginning t))) (is_utf8 (leaf_from beginning t)) e in
+      broken (subst IsUtf8 (sym leaf_is) (IsUtf8-from_is_utf8 (leaf_from beginning t) parts.1)))

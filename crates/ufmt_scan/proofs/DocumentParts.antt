@@ -223,22 +223,21 @@ module _ (level : Level) (t : List ℕ) where
 
   -- a front that isn't whole is not read
   pub no_front : is_whole level.class (front_of level.class t) ≡ false → reading t ≡ None
-  no_front broken = read_is level.class (setting_at level) (budget_of level) t ∙ go (front_of level.class t) broken
-    where
-      go : (w : List ℕ) → is_whole level.class w ≡ false
-          → read_by_front level.class (setting_at level) (entry_of level) t w (after_front level.class t) ≡ None
-      go [] none = let whole = nothing_is_whole level.class in absurd (cc)
-      go (c ∷ w) none = rw none refl
+  no_front broken = read_is level.class (setting_at level) (budget_of level) t
+      ∙ (elim (front_of level.class t) as (λ w. is_whole level.class w ≡ false → read_by_front level.class (setting_at level) (entry_of level) t w (after_front level.class t) ≡ None) [
+        | [] ↦ λ none. let whole = nothing_is_whole level.class in absurd (cc)
+        | c ∷ w ↦ λ none. rw none refl
+      ]) broken
 
   -- a text with a leaf at its front is read by it, and another text by its first bracket or quote
   pub without_front : (front : Front) → IsSplit level.class t front → (length front.text.now == 0) ≡ true
       → reading t ≡ read_without_name level.class (setting_at level) (entry_of level) t
-  without_front front is empty = read_is level.class (setting_at level) (budget_of level) t ∙ go (front_of level.class t) is.text
-    where
-      go : (w : List ℕ) → front.text.now ≡ w → read_by_front level.class (setting_at level) (entry_of level) t w (after_front level.class t)
-          ≡ read_without_name level.class (setting_at level) (entry_of level) t
-      go [] same = refl
-      go (c ∷ w) same = let none = eqb-true (length front.text.now) 0 empty in let some = ap length same in absurd (omega (arith, none, some))
+  without_front front is empty = read_is level.class (setting_at level) (budget_of level) t
+      ∙ (elim (front_of level.class t) as (λ w. front.text.now ≡ w → read_by_front level.class (setting_at level) (entry_of level) t w (after_front level.class t)
+      ≡ read_without_name level.class (setting_at level) (entry_of level) t) [
+        | [] ↦ λ same. refl
+        | c ∷ w ↦ λ same. let none = eqb-true (length front.text.now) 0 empty in let some = ap length same in absurd (omega (arith, none, some))
+      ]) is.text
 
   pub with_front : (front : Front) → IsSplit level.class t front → (length front.text.now == 0) ≡ false
       → (parse_map events_of (reading t) ≡ scan_front level front.is_name front.text.now front.rest.now) × (suc (length front.rest.now) ≤ length t)

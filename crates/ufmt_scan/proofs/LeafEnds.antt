@@ -1,6 +1,7 @@
 -- Where a leaf of a debug document ends, and its last byte.
-use Rattle.std.proofs.Common.{◌≡◌, refl, ap, sym, subst, ◌∙◌, ℕ, ◌==◌, ◌&&◌, ◌||◌, not, nat_le, Bool, true, false, List, [], ◌∷◌, ◌++◌, length, None, arith}
-use Rattle.std.specs.Prelude.{◌-◌}
+use Rattle.std.proofs.Common.{◌≡◌, refl, ap, sym, subst, ◌∙◌, ℕ, ◌==◌, not, nat_le, Bool, true, false, List, [], ◌∷◌, ◌++◌, length, None, arith, ◌||◌}
+use Rattle.ufmt_grammar.proofs.DebugLeaves.{both}
+use Rattle.std.proofs.lemmas.Bool.{not-true}
 use Rattle.ufmt_grammar.specs.Leaves.{place_outside, begins_with, is_in_word, is_spaced, is_quote, is_debug_byte, ends_in_colon}
 use Rattle.ufmt_grammar.specs.Bytes.{is_ending}
 use Rattle.ufmt_scan.specs.Private.Fronts.{EndsAt}
@@ -13,18 +14,14 @@ nothing_stops (c ∷ t) h = absurd (omega (arith, h))
 
 -- such a byte is in no word, opens no quotes and no `()`
 ending_is : (c : ℕ) (t : List ℕ) → is_ending c ≡ true → (place_outside c t ≡ None) × (is_quote c ≡ false)
-ending_is c t h = go (nat_le c 255) (is_debug_byte c) (is_quote c) (c == 58) (c == 40) refl refl refl refl h
+ending_is c t h =
+    let others = both (nat_le c 255) (not (is_debug_byte c || is_quote c || c == 58 || c == 40)) h in
+    let none = each_false (is_debug_byte c) (is_quote c) (c == 58) (c == 40) (not-true (is_debug_byte c || is_quote c || c == 58 || c == 40) others.1) in
+    let no_word : is_in_word c t ≡ false = rw (none.0, none.2) refl in
+    (other_stops c t no_word none.1 (rw none.3 refl), none.1)
   where
-    go : (low word quote colon opens : Bool) → is_debug_byte c ≡ word → is_quote c ≡ quote → (c == 58) ≡ colon → (c == 40) ≡ opens
-        → low && not (word || quote || colon || opens) ≡ true → (place_outside c t ≡ None) × (is_quote c ≡ false)
-    go false word quote colon opens e f g k h = absurd (cc)
-    go true true quote colon opens e f g k h = absurd (cc)
-    go true false true colon opens e f g k h = absurd (cc)
-    go true false false true opens e f g k h = absurd (cc)
-    go true false false false true e f g k h = absurd (cc)
-    go true false false false false e f g k h =
-        let no_word : is_in_word c t ≡ false = rw (e, g) refl in
-        (other_stops c t no_word f (rw k refl), f)
+    each_false : (word quote colon opens : Bool) → word || quote || colon || opens ≡ false → (word ≡ false) × (quote ≡ false) × (colon ≡ false) × (opens ≡ false)
+    each_false word quote colon opens h = grind arith
 
 pub ends_at_end : (t : List ℕ) → length t ≡ 0 → EndsAt t
 ends_at_end [] h = tt

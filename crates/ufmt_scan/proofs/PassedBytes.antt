@@ -1,11 +1,12 @@
 -- Bytes of a debug leaf, in words and between quotes: each byte that the scanner passes there belongs to the leaf.
-use Rattle.std.proofs.Common.{◌≡◌, refl, ap, sym, subst, ◌∙◌, ℕ, suc, ◌≤◌, ◌==◌, ◌&&◌, ◌||◌, not, nat_le, Bool, true, false, cond, List, [], ◌∷◌, ◌++◌, append_assoc, take, drop, Some, None, eqb-true, arith}
+use Rattle.std.proofs.Common.{◌≡◌, refl, ap, sym, subst, ◌∙◌, ℕ, suc, ◌≤◌, ◌==◌, ◌&&◌, not, nat_le, Bool, true, false, cond, List, [], ◌∷◌, ◌++◌, append_assoc, take, drop, Some, None, eqb-true, arith, inl, inr, ◌||◌}
+use Rattle.std.proofs.lemmas.Bool.{cases_Bool, false_from_ne_true, not-true}
 use Rattle.std.specs.Prelude.{◌-◌}
 use Rattle.std.proofs.lemmas.Bool.Decides.{nat_tests}
 use Rattle.ufmt_core.specs.Bytes.{closing_parenthesis}
 use Rattle.ufmt_grammar.specs.Leaves.{Place, outside, in_parentheses, is_plain_byte, begins_plain, is_character_closed, opens_quotes, between, after_backslash, is_outside, place_outside, place_after, begins_quote, begins_with, is_in_word, is_spaced, is_control, is_quote, is_debug_byte, has_name_bytes, ends_in_colon}
 use Rattle.ufmt_grammar.specs.Reading.{choose, leaf_from, after_leaf, last_place}
-use Rattle.ufmt_grammar.proofs.DebugLeaves.{kept_alone, plain_in_word}
+use Rattle.ufmt_grammar.proofs.DebugLeaves.{kept_alone, plain_in_word, both}
 use Rattle.ufmt_scan.specs.Private.Fronts.{Passes, StaysBetween, StopsWord}
 use Rattle.ufmt_scan.specs.Private.MarkedBytes.{marked_len}
 use Rattle.ufmt_grammar.specs.Bytes.{is_in, is_run_byte}
@@ -13,11 +14,7 @@ use Rattle.ufmt_grammar.specs.declared.bytes.ByteClass.TheVariants.{Quoted, Run}
 
 has_name_bytes-append : (a b : List ℕ) → has_name_bytes (a ++ b) ≡ has_name_bytes a && has_name_bytes b
 has_name_bytes-append [] b = refl
-has_name_bytes-append (c ∷ a) b = go (is_debug_byte c || c == 58) (has_name_bytes-append a b)
-  where
-    go : (named : Bool) → has_name_bytes (a ++ b) ≡ has_name_bytes a && has_name_bytes b → named && has_name_bytes (a ++ b) ≡ (named && has_name_bytes a) && has_name_bytes b
-    go true e = e
-    go false e = refl
+has_name_bytes-append (c ∷ a) b = elim (is_debug_byte c || c == 58) as (λ named. named && has_name_bytes (a ++ b) ≡ (named && has_name_bytes a) && has_name_bytes b) [ true ↦ has_name_bytes-append a b | false ↦ refl ]
 
 pub and-true : (b : Bool) → b && true ≡ b
 and-true true = refl
@@ -58,12 +55,7 @@ pub record IsPlain (c : ℕ) : Type 0 where
   pub no_backslash : (c == 92) ≡ false
 
 pub plain_is : (c : ℕ) → is_plain_byte c ≡ true → IsPlain c
-plain_is c h = go (is_debug_byte c) (c == 92) refl refl h
-  where
-    go : (word escapes : Bool) → is_debug_byte c ≡ word → (c == 92) ≡ escapes → word && not escapes ≡ true → IsPlain c
-    go true true e f h = absurd (cc)
-    go true false e f h = record { word = e; no_backslash = f }
-    go false escapes e f h = absurd (cc)
+plain_is c h = let parts = both (is_debug_byte c) (not (c == 92)) h in record { word = parts.0; no_backslash = not-true (c == 92) parts.1 }
 
 pub word_passes : (c : ℕ) (t : List ℕ) → is_plain_byte c ≡ true → Passes outside (c ∷ t) outside t true
 word_passes c t h =
@@ -96,20 +88,14 @@ record PassesRun (t : List ℕ) (n : ℕ) : Type 0 where
   stops : StopsWord (drop n t)
 
 run_stops_word : (c : ℕ) → is_in Run c ≡ false → is_plain_byte c ≡ false
-run_stops_word c h = go (is_plain_byte c) refl h
-  where
-    go : (plain : Bool) → is_plain_byte c ≡ plain → is_run_byte c ≡ false → is_plain_byte c ≡ false
-    go false e k = e
-    go true e k = let yes : is_run_byte c ≡ true = rw e refl in absurd (cc)
+run_stops_word c h = false_from_ne_true (is_plain_byte c) (λ e. let run : is_run_byte c ≡ true = rw e refl in cc (run, h))
 
 -- such a byte is passed, if it is no colon before a space
 run_byte_passes : (c : ℕ) (t : List ℕ) → is_in Run c ≡ true → (c == 58) && is_spaced t ≡ false → Passes outside (c ∷ t) outside t true
-run_byte_passes c t h unspaced = go (is_plain_byte c) (c == 58) refl refl h unspaced
-  where
-    go : (plain colon : Bool) → is_plain_byte c ≡ plain → (c == 58) ≡ colon → plain || colon ≡ true → colon && is_spaced t ≡ false → Passes outside (c ∷ t) outside t true
-    go true colon e f k none = word_passes c t e
-    go false true e f k none = in_word_passes c t (rw (f, none) refl)
-    go false false e f k none = absurd (cc)
+run_byte_passes c t h unspaced = elim (cases_Bool (is_plain_byte c)) [
+  | inl plain ↦ word_passes c t plain
+  | inr other ↦ let colon = rw other at h in let none = rw colon at unspaced in in_word_passes c t (rw (colon, none) refl)
+]
 
 -- a run of one byte
 one_runs : (c : ℕ) (t : List ℕ) → is_in Run c ≡ true → StopsWord t → PassesRun (c ∷ t) 1
@@ -146,7 +132,10 @@ more_runs c b u k first second more = record {
 run : (t : List ℕ) → PassesRun t (marked_len Run t)
 unfolding run_spaced
 run [] = record { whole = λ unspaced. passes_none outside []; shorter = λ spaced. absurd (cc); stops = tt }
-run (c ∷ t) = go (is_in Run c) refl (run t)
+run (c ∷ t) = elim (cases_Bool (is_in Run c)) [
+  | inl e ↦ rw e (longer t e (run t))
+  | inr e ↦ rw e (record { whole = λ unspaced. passes_none outside (c ∷ t); shorter = λ spaced. absurd (cc); stops = run_stops_word c e })
+]
   where
     longer : (t : List ℕ) → is_in Run c ≡ true → PassesRun t (marked_len Run t) → PassesRun (c ∷ t) (suc (marked_len Run t))
     longer [] e more = one_runs c [] e tt
@@ -156,10 +145,6 @@ run (c ∷ t) = go (is_in Run c) refl (run t)
             → PassesRun (c ∷ b ∷ u) (suc (cond x (suc (marked_len Run u)) 0))
         by true f more = more_runs c b u (marked_len Run u) e f more
         by false f more = one_runs c (b ∷ u) e more.stops
-
-    go : (x : Bool) → is_in Run c ≡ x → PassesRun t (marked_len Run t) → PassesRun (c ∷ t) (cond x (suc (marked_len Run t)) 0)
-    go true e more = longer t e more
-    go false e more = record { whole = λ unspaced. passes_none outside (c ∷ t); shorter = λ spaced. absurd (cc); stops = run_stops_word c e }
 
 module _ (t front rest : List ℕ) (n : ℕ) (len : n ≡ marked_len Run t) (before : front ≡ take n t) (after : rest ≡ drop n t) where
   run_here : PassesRun t n
@@ -204,11 +189,9 @@ pub backslash_in_word : (c : ℕ) (t : List ℕ) → c ≡ 92 → is_in_word c t
 backslash_in_word c t is = rw is refl
 
 pub other_in_word : (c : ℕ) (t : List ℕ) → is_plain_byte c ≡ false → (c == 58) ≡ false → (c == 92) ≡ false → is_in_word c t ≡ false
-other_in_word c t no_plain no_colon no_backslash = go (is_debug_byte c) refl
-  where
-    go : (word : Bool) → is_debug_byte c ≡ word → is_in_word c t ≡ false
-    go false e = rw (e, no_colon) refl
-    go true e = let plain : is_plain_byte c ≡ true = rw (e, no_backslash) refl in absurd (cc (plain, no_plain))
+other_in_word c t no_plain no_colon no_backslash =
+    let no_word = false_from_ne_true (is_debug_byte c) (λ e. let plain : is_plain_byte c ≡ true = rw (e, no_backslash) refl in cc (plain, no_plain)) in
+    rw (no_word, no_colon) refl
 
 -- `()` is passed
 pub unit_passes : (c : ℕ) (t u : List ℕ) → c ≡ 40 → t ≡ closing_parenthesis ∷ u → Passes outside (c ∷ t) outside u false
@@ -217,12 +200,10 @@ unit_passes c t u is closes = rw (is, closes)
 
 -- what is no byte of a word, no quote, no lifetime's apostrophe and no `()` stops the leaf
 pub other_stops : (c : ℕ) (t : List ℕ) → is_in_word c t ≡ false → is_quote c ≡ false → (c == 40) && begins_with closing_parenthesis t ≡ false → place_outside c t ≡ None
-other_stops c t no_word no_quote no_unit = go (c == 34) (c == 39) refl refl no_quote
-  where
-    go : (mark apostrophes : Bool) → (c == 34) ≡ mark → (c == 39) ≡ apostrophes → mark || apostrophes ≡ false → place_outside c t ≡ None
-    go true apostrophes e f h = absurd (cc)
-    go false true e f h = absurd (cc)
-    go false false e f h = rw (no_word, e, f, no_unit) refl
+other_stops c t no_word no_quote no_unit =
+    let no_mark : (c == 34) ≡ false = grind (arith, nat_tests) in
+    let no_apostrophe : (c == 39) ≡ false = grind (arith, nat_tests) in
+    rw (no_word, no_mark, no_apostrophe, no_unit) refl
 
 -- a byte that is none of these but perhaps a quote doesn't
 pub stops_at : (c : ℕ) (t : List ℕ) → is_in_word c t ≡ false → opens_quotes c t ≡ false → (c == 39) ≡ false → (c == 40) ≡ false → place_outside c t ≡ None
@@ -248,35 +229,21 @@ record StaysInside (c : ℕ) : Type 0 where
   no_backslash : (c == 92) ≡ false
 
 marked_stays : (c : ℕ) → is_in Quoted c ≡ true → StaysInside c
-marked_stays c h = go (nat_le c 255) (is_control c) (is_quote c) (c == 92) refl refl refl h
-  where
-    go : (low control quote backslash : Bool) → is_control c ≡ control → is_quote c ≡ quote → (c == 92) ≡ backslash
-        → low && not (control || quote || backslash) ≡ true → StaysInside c
-    go false control quote backslash e f g h = absurd (cc)
-    go true true quote backslash e f g h = absurd (cc)
-    go true false true backslash e f g h = absurd (cc)
-    go true false false true e f g h = absurd (cc)
-    go true false false false e f g h = record { no_control = e; no_quote = f; no_backslash = g }
+marked_stays c h = grind (arith, nat_tests)
 
 -- a byte that is no quote isn't this quote
 no_such_quote : (q c : ℕ) → is_quote q ≡ true → is_quote c ≡ false → (c == q) ≡ false
-no_such_quote q c quote none = go (c == q) refl
-  where
-    go : (b : Bool) → (c == q) ≡ b → (c == q) ≡ false
-    go false e = e
-    go true e = let same = eqb-true c q e in let is = subst (λ b. is_quote b ≡ false) same none in absurd (cc)
+no_such_quote q c quote none = false_from_ne_true (c == q) (λ e. let is = subst (λ b. is_quote b ≡ false) (eqb-true c q e) none in cc (quote, is))
 
 stretch_run : (q : ℕ) (t : List ℕ) → is_quote q ≡ true → StaysBetween q t (drop (marked_len Quoted t) t)
 stretch_run q [] quote = record { named = true; passes = passes_none (between q) [] }
-stretch_run q (c ∷ t) quote = go (is_in Quoted c) refl (stretch_run q t quote)
-  where
-    go : (b : Bool) → is_in Quoted c ≡ b → StaysBetween q t (drop (marked_len Quoted t) t)
-        → StaysBetween q (c ∷ t) (drop (cond b (suc (marked_len Quoted t)) 0) (c ∷ t))
-    go false is more = record { named = true; passes = passes_none (between q) (c ∷ t) }
-    go true is more =
-        let stays = marked_stays c is in
-        let step : place_after (between q) c t ≡ Some (between q) = rw (stays.no_control, no_such_quote q c quote stays.no_quote, stays.no_backslash) refl in
-        record { named = _; passes = passes_then (pass_byte (between q) c t (between q) step) more.passes }
+stretch_run q (c ∷ t) quote = elim (cases_Bool (is_in Quoted c)) [
+  | inl is ↦
+      let stays = marked_stays c is in
+      let step : place_after (between q) c t ≡ Some (between q) = rw (stays.no_control, no_such_quote q c quote stays.no_quote, stays.no_backslash) refl in
+      rw is (record { named = _; passes = passes_then (pass_byte (between q) c t (between q) step) (stretch_run q t quote).passes })
+  | inr is ↦ rw is (record { named = true; passes = passes_none (between q) (c ∷ t) })
+]
 
 pub stretches_are_passed : (q : ℕ) (t rest : List ℕ) (n : ℕ) → is_quote q ≡ true → n ≡ marked_len Quoted t → rest ≡ drop n t → StaysBetween q t rest
 stretches_are_passed q t rest n quote len is = rw (is, len) (stretch_run q t quote)
@@ -296,9 +263,5 @@ module _ (q byte : ℕ) (other : (byte == q) ≡ false) where
     pub escape_stays : (c : ℕ) (t : List ℕ) → not (is_control c || nat_le 128 c) ≡ true → StaysBetween q (byte ∷ c ∷ t) t
     escape_stays c t taken = record {
       named = is_debug_byte c || c == 58;
-      passes = passes_then (escape_passes (c ∷ t)) (pass_byte (after_backslash q) c t (between q) (go (is_control c || nat_le 128 c) taken));
+      passes = passes_then (escape_passes (c ∷ t)) (pass_byte (after_backslash q) c t (between q) (rw (not-true (is_control c || nat_le 128 c) taken) refl));
     }
-      where
-        go : (b : Bool) → not b ≡ true → cond b None (Some (between q)) ≡ Some (between q)
-        go true h = absurd (cc)
-        go false h = refl

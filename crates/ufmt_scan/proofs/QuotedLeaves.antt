@@ -1,6 +1,7 @@
 -- A leaf in quotes is split off the front of a text exactly if one is there.
-use Rattle.std.proofs.Common.{◌≡◌, inl, inr, refl, sym, ap, subst, ◌∙◌, ℕ, ◌+◌, ◌-◌, ◌≤◌, ◌==◌, ◌&&◌, Bool, true, false, List, [], ◌∷◌, ◌++◌, length, take, drop, Option, Some, None, encode_utf8, encode_utf8_all, suc, cond, append-nil, append_assoc, length-append, arith}
-use Rattle.std.specs.Prelude.{◌≢◌, is_none, nat_lt, slice_index, unwrap_or}
+use Rattle.std.proofs.Common.{◌≡◌, inl, inr, refl, sym, ap, subst, ◌∙◌, ℕ, ◌+◌, ◌-◌, ◌≤◌, ◌==◌, true, false, List, [], ◌∷◌, ◌++◌, length, take, drop, Some, None, encode_utf8, encode_utf8_all, suc, append-nil, append_assoc, length-append, arith}
+use Rattle.std.proofs.lemmas.Bool.{cases_Bool}
+use Rattle.std.specs.Prelude.{◌≢◌, slice_index, unwrap_or}
 use Rattle.std.specs.Str.{IsAscii, IsUtf8, all_scalars, continuation_len}
 use Rattle.std.proofs.Math.Seq.{take-append_seam}
 use Rattle.std.proofs.lemmas.Bool.Decides.{nat_tests}
@@ -40,11 +41,10 @@ quotes t leaf rest (inr char) h =
     record { q = 39; quote = inr refl; cs = char.0 ∷ []; scalars = rw char.1 refl; one = λ e. omega arith; rest = rest; front = h ∙ ap (λ l. l ++ rest) char.2 }
 
 pub none_read : (t : List ℕ) → (Quotes t → ⊥) → None ≡ read_quoted t
-none_read t none = go (read_quoted t) refl
-  where
-    go : (o : Option (List ℕ × List ℕ)) → read_quoted t ≡ o → None ≡ o
-    go None e = refl
-    go (Some x) e = let found = read_quoted-sound t x.0 x.1 e in absurd (none (quotes t x.0 x.1 found.0 found.1))
+none_read t none = (elim (read_quoted t) as (λ o. read_quoted t ≡ o → None ≡ o) [
+  | None ↦ λ e. refl
+  | Some x ↦ λ e. let found = read_quoted-sound t x.0 x.1 e in absurd (none (quotes t x.0 x.1 found.0 found.1))
+]) refl
 
 -- a text in apostrophes is a leaf in quotes if it has one character
 one_quoted : (leaf cs : List ℕ) → all_scalars cs ≡ true → IsOneCharacter leaf true → leaf ≡ quoted 39 cs → IsQuoted leaf
@@ -162,13 +162,13 @@ IsPlain t n = (escaped_bytes 34 (take n t) ≡ take n t) × IsAscii (take n t)
 
 plain_front : (t : List ℕ) → IsPlain t (marked_len Unescaped t)
 plain_front [] = (refl, IsAscii-nil)
-plain_front (c ∷ t) = go (is_unescaped c) refl (plain_front t)
-  where
-    go : (b : Bool) → b ≡ (is_none (escape 34 c) && nat_lt c 128) → IsPlain t (marked_len Unescaped t) → IsPlain (c ∷ t) (cond b (suc (marked_len Unescaped t)) 0)
-    go true is more =
-        let itself : escape 34 c ≡ None = grind (arith, nat_tests) in
-        (rw itself (ap (λ v. c ∷ v) more.0), IsAscii-cons c (take (marked_len Unescaped t) t) (grind (arith, nat_tests)) more.1)
-    go false is more = (refl, IsAscii-nil)
+plain_front (c ∷ t) = elim (cases_Bool (is_unescaped c)) [
+  | inl is ↦
+      let more = plain_front t in
+      let itself : escape 34 c ≡ None = grind (arith, nat_tests) in
+      rw is (rw itself (ap (λ v. c ∷ v) more.0), IsAscii-cons c (take (marked_len Unescaped t) t) (grind (arith, nat_tests)) more.1)
+  | inr is ↦ rw is (refl, IsAscii-nil)
+]
 
 -- so unescaped bytes between quotation marks are a leaf
 module _ (t u end rest leaf : List ℕ) (opening : Some u ≡ strip (34 ∷ []) t) (past : end ≡ drop (marked_len Unescaped u) u) (closing : Some rest ≡ strip (34 ∷ []) end)

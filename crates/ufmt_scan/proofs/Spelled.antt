@@ -1,5 +1,5 @@
 -- Bytes as they are written between quotes, up to the closing quote.
-use Rattle.std.proofs.Common.{◌≡◌, ◌⊎◌, inl, inr, ◌≤◌, refl, sym, ap, ◌∙◌, ℕ, ◌<◌, List, [], ◌∷◌, ◌++◌, length, take, drop, Option, Some, None, slice_index, append_assoc, length-append, arith}
+use Rattle.std.proofs.Common.{◌≡◌, inl, inr, ◌≤◌, refl, sym, ap, ◌∙◌, ℕ, ◌<◌, List, [], ◌∷◌, ◌++◌, length, take, drop, Option, Some, None, slice_index, append_assoc, length-append, arith}
 use Rattle.std.specs.Prelude.{◌≢◌, unwrap_or}
 use Rattle.std.proofs.lemmas.Bool.{cases_lt}
 use Rattle.std.proofs.lemmas.List.{append_cancel_right, take-append-drop}
@@ -18,18 +18,17 @@ escaped_byte_is q b e is = ap (λ o. unwrap_or o (b ∷ [])) (sym is)
 -- if the byte that is decoded at the front isn't written there, none is
 pub no_other : (q : ℕ) (t : List ℕ) (byte : ℕ) → IsQuote q → slice_index t 0 < 256 → (decoded t < 256 → byte ≡ decoded t) → None ≡ strip (escaped_byte q byte) t
     → (b : ℕ) (u : List ℕ) → t ≢ escaped_byte q b ++ u
-no_other q t byte quote fits named none b u same = go (cases_lt b 256)
+no_other q t byte quote fits named none b u same = elim (cases_lt b 256) [
+  | inl low ↦
+      let found : ◌≡◌ {A = Option (List ℕ)} None (Some u) = none ∙ ap (λ n. strip (escaped_byte q n) t) (named (omega (arith, is)) ∙ is) ∙ strip_of_front (escaped_byte q b) t u same in
+      absurd (cc)
+  | inr high ↦
+      let itself = ap (λ o. unwrap_or o (b ∷ [])) (core.escape-past_ascii q b (quote_ascii q quote) (omega arith)) in
+      omega (arith, fits, ap (λ v. slice_index v 0) (same ∙ ap (λ e. e ++ u) itself))
+]
   where
     is : decoded t ≡ b
     is = ap decoded same ∙ decoded-escaped q b u quote
-
-    go : (b < 256) ⊎ (256 ≤ b) → ⊥
-    go (inl low) =
-        let found : ◌≡◌ {A = Option (List ℕ)} None (Some u) = none ∙ ap (λ n. strip (escaped_byte q n) t) (named (omega (arith, is)) ∙ is) ∙ strip_of_front (escaped_byte q b) t u same in
-        absurd (cc)
-    go (inr high) =
-        let itself = ap (λ o. unwrap_or o (b ∷ [])) (core.escape-past_ascii q b (quote_ascii q quote) (omega arith)) in
-        omega (arith, fits, ap (λ v. slice_index v 0) (same ∙ ap (λ e. e ++ u) itself))
 
 pub escaped_bytes-append : (q : ℕ) (bs cs : List ℕ) → escaped_bytes q (bs ++ cs) ≡ escaped_bytes q bs ++ escaped_bytes q cs
 escaped_bytes-append q [] cs = refl

@@ -69,17 +69,17 @@ module _ {W M : Type 0} (seen : Seen W) (to : Mode) where
   -- the sink takes an event as `Sink` asks
   pub takes_event : (mode : Mode) → mode ≡ to → (old new : TextSink W M) (e : TextEvent) (ok : Bool) (next : Setting) → Writes seen old.writer.now (written (setting mode old.depth) e) ok new.writer.now
       → next ≡ setting_after (setting mode old.depth) e → new.depth ≡ next.depth → new.writer.ghost_name ≡ old.writer.ghost_name → TakesEvent (Wrote seen to true) (Wrote seen to false) old e ok new
-  takes_event mode is old new e ok next writes after continues same = go ok (subst (λ m. Writes seen old.writer.now (written (setting m old.depth) e) ok new.writer.now) is writes)
+  takes_event mode is old new e ok next writes after continues same =
+      (elim ok as (λ ok. Writes seen old.writer.now (written (setting to old.depth) e) ok new.writer.now → TakesEvent (Wrote seen to true) (Wrote seen to false) old e ok new) [
+        | true ↦ λ writes start es before. event_after start old new es e true before writes onward same
+        | false ↦ λ writes start es before. event_after start old new es e false before writes onward same
+      ]) (subst (λ m. Writes seen old.writer.now (written (setting m old.depth) e) ok new.writer.now) is writes)
     where
       depth_of : Setting → ℕ
       depth_of s = s.depth
 
       onward : setting to new.depth ≡ setting_after (setting to old.depth) e
       onward = ap (setting to) (continues ∙ ap depth_of (subst (λ m. next ≡ setting_after (setting m old.depth) e) is after)) ∙ mode_stays to old.depth e
-
-      go : (ok : Bool) → Writes seen old.writer.now (written (setting to old.depth) e) ok new.writer.now → TakesEvent (Wrote seen to true) (Wrote seen to false) old e ok new
-      go true writes = λ start es before. event_after start old new es e true before writes onward same
-      go false writes = λ start es before. event_after start old new es e false before writes onward same
 
   module _ (class : Class) (from : Mode) (input : List ℕ) (begun : TextSink W M) where
     from_start : (es : List TextEvent) (ok : Bool) (new : W) → begun.depth ≡ 0 → Writes seen begun.writer.now (texts_written (setting to begun.depth) es) ok new

@@ -1,5 +1,6 @@
 -- Words of a text, byte by byte.
-use Rattle.std.proofs.Common.{◌≡◌, refl, ap, ℕ, suc, Bool, true, false, cond, List, [], ◌∷◌, drop, take, arith}
+use Rattle.std.proofs.Common.{◌≡◌, refl, ap, ℕ, List, [], ◌∷◌, drop, take, arith, inl, inr}
+use Rattle.std.proofs.lemmas.Bool.{cases_Bool}
 use Rattle.std.specs.Str.{IsAscii}
 use Rattle.std.proofs.lemmas.Bool.Decides.{nat_tests}
 use Rattle.std.proofs.lemmas.Str.Ascii.{IsAscii-cons, IsAscii-nil}
@@ -18,8 +19,7 @@ IsWordOf t n = (take n t ≡ word_of t) × (drop n t ≡ after_word t)
 
 pub words_are_marked : (t : List ℕ) → IsWordOf t (marked_len TokenWord t)
 words_are_marked [] = (refl, refl)
-words_are_marked (c ∷ t) = go (is_word_byte c) refl (words_are_marked t)
-  where
-    go : (b : Bool) → is_word_byte c ≡ b → IsWordOf t (marked_len TokenWord t) → IsWordOf (c ∷ t) (cond b (suc (marked_len TokenWord t)) 0)
-    go true is more = rw is (ap (λ w. c ∷ w) more.0, more.1)
-    go false is more = rw is (refl, refl)
+words_are_marked (c ∷ t) = elim (cases_Bool (is_word_byte c)) [
+  | inl is ↦ let more = words_are_marked t in rw is (ap (λ w. c ∷ w) more.0, more.1)
+  | inr is ↦ rw is (refl, refl)
+]

@@ -53,7 +53,7 @@ pub fn convert_into(
 
 // Promise (reading): A conversion into a writer whose text is known, or into a buffer, writes everything if
 // there is room, and a prefix if it fails. Also: `convert_into`.
-/// Writes the converted text to the writer, and takes no memory of its own. Fails with `NotText` only if
+/// Writes the converted text to the writer, and doesn't allocate. Fails with `NotText` only if
 /// no document of the class has this text; any other error is the writer's. Part of the converted text
 /// may have been written.
 #[inline(always)]
@@ -104,7 +104,7 @@ pub fn to_plain(alloc: Global, input: &[u8]) -> Result<String, ReadError>
     convert(alloc, Class::Token, Mode::Plain, input)
 }
 
-/// Returns the mode of the other text: of pretty texts for `Plain`, and of plain ones for `Pretty`.
+/// Returns `Pretty` for `Plain`, and `Plain` for `Pretty`.
 #[inline(always)]
 pub fn other_mode(mode: Mode) -> Mode
     ensures { result ≡ other_mode mode }

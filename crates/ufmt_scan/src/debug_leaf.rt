@@ -3,13 +3,13 @@
 ghost use Rattle.std.specs.Prelude.{◌≡◌, ◌<◌, ◌≤◌, ◌==◌, ◌&&◌, ◌||◌, ◌≢◌, ◌∷◌, [], ℕ, IfSome, IsTrue, MatchOption, None, false, length, nat_le, not, true};
 ghost use Rattle.ufmt_grammar.specs.Bytes.{is_ending};
 ghost use Rattle.ufmt_grammar.specs.declared.class.Class.TheVariants.{Debug};
-ghost use Rattle.ufmt_grammar.specs.Leaves.{after_quotes, beginning, begins_plain, begins_quote, between, ends_in_colon, is_address_closed, is_character_closed, is_continuation, is_control, is_escape_byte, is_escape_closed, is_in_word, is_name_byte, is_plain_byte, is_quote, is_spaced, is_word_closed, opens_quotes, outside, past, place_outside};
+ghost use Rattle.ufmt_grammar.specs.Leaves.{after_quotes, beginning, begins_plain, begins_quote, between, ends_in_colon, is_address_closed, is_character_closed, is_continuation, is_control, is_escape_byte, is_escape_closed, is_in_word, is_plain_byte, is_quote, is_spaced, is_word_closed, opens_quotes, outside, past, place_outside};
 ghost use Rattle.ufmt_scan.specs.Private.Fronts.{EndsAt, EndsLeaf, IsSplit, NeverCloses, Passes, SplitsFront, StaysBetween, StopsWord, begins_name, is_started};
 
 use crate::front::Front;
 use crate::leaf::marked_len;
 use crate::quoted::split_plain;
-use crate::strip::{begins_with, strip_piece};
+use crate::strip::{begins_with, is_spaced, strip_piece};
 use ufmt_core::ascii::text_from;
 use ufmt_grammar::bytes::ByteClass;
 
@@ -167,18 +167,11 @@ fn is_address_closed(input: &[u8]) -> bool
 }
 
 #[inline(always)]
-fn is_name_byte(byte: u8) -> bool
-    ensures { result ≡ is_name_byte byte }
-{
-    ByteClass::Name.contains(byte)
-}
-
-#[inline(always)]
 fn begins_name(input: &[u8]) -> bool
     ensures { result ≡ begins_name input.now }
 {
     match input.split_first() {
-        Some((&byte, _)) => is_name_byte(byte),
+        Some((&byte, _)) => ByteClass::Name.contains(byte),
         None => false,
     }
 }
@@ -415,17 +408,6 @@ fn is_quote(byte: u8) -> bool
     ensures { result ≡ is_quote byte }
 {
     byte == b'"' || byte == b'\''
-}
-
-// Whether a space comes next, and no closing brace after it.
-#[inline(always)]
-fn is_spaced(input: &[u8]) -> bool
-    ensures { result ≡ is_spaced input.now }
-{
-    match input.split_first() {
-        Some((b' ', after)) => !begins_with(b'}', after),
-        _ => false,
-    }
 }
 
 #[inline(always)]

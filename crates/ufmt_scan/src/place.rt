@@ -15,7 +15,7 @@ use ufmt_grammar::class::Class;
 // end of that text, also when a text that may follow comes after it.
 /// Returns how many bytes at the front were read before the piece that doesn't fit, or all of them if some
 /// document of this class has this text in this mode. A piece is a leaf, or what one event of `scan` has
-/// around leaves. A text that is only cut may be read to its end. Takes no memory.
+/// around leaves. A text that is only cut may be read to its end. Doesn't allocate.
 pub fn valid_up_to(class: Class, mode: Mode, text: &[u8]) -> usize
     ensures { ReadsUpTo class (layout (setting mode 0)) text.now result }
 {

@@ -2,7 +2,7 @@
 ghost use Rattle.std.specs.Prelude.{◌≡◌, ◌≢◌, ◌∷◌, ◌++◌, [], MatchBool};
 ghost use Rattle.ufmt_core.specs.Layout.{frame, lead, line_start};
 ghost use Rattle.ufmt_core.specs.declared.layout.Count.TheVariants.{Zero};
-ghost use Rattle.ufmt_grammar.specs.Leaves.{begins_with};
+ghost use Rattle.ufmt_grammar.specs.Leaves.{begins_with, is_spaced};
 ghost use Rattle.ufmt_grammar.specs.Reading.{strip};
 ghost use Rattle.ufmt_scan.specs.Depth.{setting_in};
 ghost use Rattle.ufmt_scan.specs.Rest.{now_of};
@@ -33,6 +33,17 @@ pub fn begins_with(byte: u8, input: &[u8]) -> bool
     match input.split_first() {
         Some((&first, _)) => first == byte,
         None => false,
+    }
+}
+
+/// Returns whether a space comes next, and no closing brace after it.
+#[inline(always)]
+pub fn is_spaced(input: &[u8]) -> bool
+    ensures { result ≡ is_spaced input.now }
+{
+    match input.split_first() {
+        Some((b' ', after)) => !begins_with(b'}', after),
+        _ => false,
     }
 }
 

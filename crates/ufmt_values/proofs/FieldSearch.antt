@@ -168,11 +168,10 @@ unclosed_none class name line (suc n) at none =
     let order : at ≤ b = omega arith in
     let start = value_start Pretty line at b in
     let there = no_block class Plain (drop start line) (further_unclosed line at start (start_low Pretty line at b order) none) in
-    go (nat_lt b (length line)) (ap (field_in name (field_from class name n line) line b start) there ∙ unclosed_none class name line n (b + 1) (further_unclosed line at (b + 1) (omega arith) none))
+    all_none (nat_lt b (length line)) (ap (field_in name (field_from class name n line) line b start) there ∙ unclosed_none class name line n (b + 1) (further_unclosed line at (b + 1) (omega arith) none))
   where
-    go : (less : Bool) {o : Option Found} → o ≡ None → cond less o None ≡ None
-    go true is = is
-    go false is = refl
+    all_none : (less : Bool) {o : Option Found} → o ≡ None → cond less o None ≡ None
+    all_none less none = rw none (grind arith)
 
 pub no_more_none : (class : Class) (name line : List ℕ) (n at : ℕ) → HasNoMore line at → field_from class name n line at ≡ None
 no_more_none class name line n at (inl none) = none_left class name line at n none

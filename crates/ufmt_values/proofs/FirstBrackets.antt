@@ -1,6 +1,6 @@
 -- A text up to its first opening bracket.
 use Rattle.std.proofs.Common.{◌≡◌, ◌⊎◌, inl, inr, ◌∙◌, refl, ap, sym, ℕ, zero, suc, Bool, true, false, cond, List, [], ◌∷◌, ◌++◌, append_assoc, drop, length, get_or}
-use Rattle.std.proofs.lemmas.Bool.{true≢false}
+use Rattle.std.proofs.lemmas.Bool.{cases_Bool, true≢false}
 use Rattle.std.specs.Prelude.{⊤}
 use Rattle.ufmt.specs.Leaves.{is_opening}
 use Rattle.ufmt_values.specs.Values.{before_bracket}
@@ -35,12 +35,11 @@ pub record FirstBracket (text : List ℕ) : Type 0 where
 -- each text has a first bracket, or none
 pub first_bracket : (text : List ℕ) → Without is_opening text ⊎ FirstBracket text
 first_bracket [] = inl tt
-first_bracket (c ∷ t) = go (is_opening c) refl (first_bracket t)
-  where
-    go : (b : Bool) → is_opening c ≡ b → Without is_opening t ⊎ FirstBracket t → Without is_opening (c ∷ t) ⊎ FirstBracket (c ∷ t)
-    go true is rest = inr (record { before = []; bracket = c; after = t; none = tt; opens = is; is = refl })
-    go false is (inl none) = inl (is, none)
-    go false is (inr found) = inr (record {
+first_bracket (c ∷ t) = elim (cases_Bool (is_opening c)) [
+  | inl is ↦ inr (record { before = []; bracket = c; after = t; none = tt; opens = is; is = refl })
+  | inr is ↦ elim (first_bracket t) [
+    | inl none ↦ inl (is, none)
+    | inr found ↦ inr (record {
       before = c ∷ found.before;
       bracket = found.bracket;
       after = found.after;
@@ -48,6 +47,8 @@ first_bracket (c ∷ t) = go (is_opening c) refl (first_bracket t)
       opens = found.opens;
       is = ap (λ u. c ∷ u) found.is;
     })
+  ]
+]
 
 -- it is the first of a longer text too
 pub with_more : {a : List ℕ} → FirstBracket a → (b : List ℕ) → FirstBracket (a ++ b)

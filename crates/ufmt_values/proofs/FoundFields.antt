@@ -1,6 +1,7 @@
 -- A field that a struct prints is found in its text.
 use Rattle.std.proofs.Common.{◌≡◌, ◌≢◌, bytes_eq, ◌∙◌, refl, ap, sym, ℕ, suc, ◌+◌, ◌-◌, ◌≤◌, ◌==◌, ◌||◌, Bool, true, false, cond, List, [], ◌∷◌, ◌++◌, append_assoc, codes, Some, None, option_and_then, option_map, drop, length, length-append, arith}
 use Rattle.std.proofs.Math.Seq.{drop-append_seam}
+use Rattle.std.proofs.lemmas.Bool.{false_from_ne_true}
 use Rattle.std.proofs.lemmas.List.Elements.{All-head, All-tail}
 use Rattle.std.proofs.lemmas.Slice.Eq.{bytes_eq-Decides}
 use Rattle.std.specs.List.{All}
@@ -9,13 +10,13 @@ use Rattle.ufmt.specs.Document.{Document, leaf, joined, list_of, set_of, map_of,
 use Rattle.ufmt.specs.Layout.{plain_text, setting}
 use Rattle.ufmt.specs.Leaves.{is_opening}
 use Rattle.ufmt.specs.Reading.{choose}
-use Rattle.ufmt.specs.Token.{IsBuilt, IsDocument, IsName, normal, normal_fields}
+use Rattle.ufmt.specs.Token.{IsBuilt, IsName, normal, normal_fields}
 use Rattle.ufmt_core.specs.declared.layout.Mode.TheVariants.{Plain}
 use Rattle.ufmt_grammar.proofs.ClassLeaves.{name_some}
 use Rattle.ufmt_grammar.proofs.ReadingComplete.{IsBlock, NoAddressIn, block_read}
 use Rattle.ufmt_grammar.specs.declared.class.Class.{Class}
-use Rattle.ufmt_values.specs.FieldLaws.{PrintedFieldsAreFound, PrintedFieldsArePlaced, struct_with}
-use Rattle.ufmt_values.specs.Fields.{Found, field_from, field_of, first_leaf, leaf_of, leaf_start, leaf_text, placed_field}
+use Rattle.ufmt_values.specs.FieldLaws.{PrintedFieldsAreFound, PrintedFieldsArePlaced}
+use Rattle.ufmt_values.specs.Fields.{Found, field_from, first_leaf, leaf_of, leaf_start, leaf_text, placed_field}
 use Rattle.ufmt_values.specs.Fronts.{MayNameFollow, OpensNothing}
 use Rattle.ufmt_values.specs.Private.FieldsLeft.{after_field}
 use Rattle.ufmt_values.specs.Values.{before_bracket, if_entries, value_in}
@@ -145,22 +146,17 @@ struct_leaf word name (first_field field value fs) = refl
 first_found : (name text : List ℕ) (before after : List (List ℕ × Document)) → All (λ field. field.0 ≢ name) before → first_leaf name (normal_fields (fields_of (before ++ (name, leaf text) ∷ after))) ≡ Some text
 first_found name text [] after others = ap (λ b. cond b (Some text) (first_leaf name (normal_fields (fields_of after)))) ((bytes_eq-Decides name name).1 refl)
 first_found name text (field ∷ before) after others =
-    ap (λ b. cond b (leaf_text (normal field.1)) (first_leaf name (normal_fields (fields_of (before ++ (name, leaf text) ∷ after))))) (go (bytes_eq field.0 name) refl)
+    ap (λ b. cond b (leaf_text (normal field.1)) (first_leaf name (normal_fields (fields_of (before ++ (name, leaf text) ∷ after))))) other
     ∙ first_found name text before after (All-tail (IsOther name) field before others)
   where
-    go : (same : Bool) → bytes_eq field.0 name ≡ same → bytes_eq field.0 name ≡ false
-    go false is = is
-    go true is = absurd (All-head (IsOther name) field before others ((bytes_eq-Decides field.0 name).0 is))
+    other : bytes_eq field.0 name ≡ false
+    other = false_from_ne_true (bytes_eq field.0 name) (λ is. All-head (IsOther name) field before others ((bytes_eq-Decides field.0 name).0 is))
 
 pub fields_found : PrintedFieldsAreFound
-fields_found class dots word name text front rest before after is others opens follows = go dots is
-  where
-    fields : Fields
-    fields = fields_of (before ++ (name, leaf text) ∷ after)
-
-    leaf_there : leaf_of name (normal (struct_of word fields)) ≡ Some text
-    leaf_there = struct_leaf word name fields ∙ first_found name text before after others
-
-    go : (dots : Bool) → IsDocument class (struct_with dots word fields) → field_of class (front ++ (plain_text (struct_with dots word fields) ++ rest)) name ≡ Some text
-    go true is = ap (option_map {T = Found} (λ x. x.1)) (fields_placed class (non_exhaustive_of word fields) front rest name text is (first_found name text before after others) opens follows)
-    go false is = ap (option_map {T = Found} (λ x. x.1)) (fields_placed class (struct_of word fields) front rest name text is leaf_there opens follows)
+fields_found class true word name text front rest before after is others opens follows =
+    let fields = fields_of (before ++ (name, leaf text) ∷ after) in
+    ap (option_map {T = Found} (λ x. x.1)) (fields_placed class (non_exhaustive_of word fields) front rest name text is (first_found name text before after others) opens follows)
+fields_found class false word name text front rest before after is others opens follows =
+    let fields = fields_of (before ++ (name, leaf text) ∷ after) in
+    let leaf_there = struct_leaf word name fields ∙ first_found name text before after others in
+    ap (option_map {T = Found} (λ x. x.1)) (fields_placed class (struct_of word fields) front rest name text is leaf_there opens follows)

@@ -1,6 +1,5 @@
 -- A value that is found at the front of a text.
-use Rattle.std.proofs.Common.{◌≡◌, ◌∙◌, refl, ap, sym, ℕ, List, Bool, true, false, Option, Some, None, option_and_then, ◌<◌, length-drop, cond, drop, arith}
-use Rattle.ufmt_grammar.proofs.Parsing.{same_parts}
+use Rattle.std.proofs.Common.{◌≡◌, ◌∙◌, refl, ap, sym, ℕ, List, Bool, true, false, Option, Some, None, option_and_then, ◌<◌, length-drop, cond, drop, arith, ◌⊎◌, inl, inr}
 use Rattle.ufmt_grammar.proofs.ReadingTurns.{read_takes}
 use Rattle.ufmt.specs.Document.{Document}
 use Rattle.ufmt.specs.Layout.{setting}
@@ -15,22 +14,24 @@ use Rattle.ufmt_scan.specs.Fronts.{IsFront, has_entries, read_front}
 use Rattle.ufmt_scan.specs.Texts.{other_mode}
 use Rattle.ufmt_scan.specs.declared.text.FrontText.{FrontText}
 
+-- an option that can't have a value has none
+pub none_unless : {A : Type 0} (o : Option A) → ((x : A) → o ≡ Some x → ⊥) → o ≡ None
+none_unless None never = refl
+none_unless (Some x) never = absurd (never x refl)
+
+-- an option has no value, or one
+pub cases_option : {A : Type 0} (o : Option A) → (o ≡ None) ⊎ ((x : A) × (o ≡ Some x))
+cases_option None = inl refl
+cases_option (Some x) = inr (x, refl)
+
 -- a block with entries was read, and has entries
 pub block_read : (o : Option (Document × List ℕ)) (d : Document) (rest : List ℕ) → option_and_then if_entries o ≡ Some (d, rest) → o ≡ Some (d, rest)
 block_read None d rest h = absurd (cc)
-block_read (Some x) d rest h = go (has_entries x.0) h
-  where
-    go : (b : Bool) → cond b (Some x) None ≡ Some (d, rest) → Some x ≡ Some (d, rest)
-    go true k = k
-    go false k = absurd (cc)
+block_read (Some x) d rest h = grind arith
 
 pub block_entries : (o : Option (Document × List ℕ)) (d : Document) (rest : List ℕ) → option_and_then if_entries o ≡ Some (d, rest) → has_entries d ≡ true
 block_entries None d rest h = absurd (cc)
-block_entries (Some x) d rest h = go (has_entries x.0) refl h
-  where
-    go : (b : Bool) → has_entries x.0 ≡ b → cond b (Some x) None ≡ Some (d, rest) → has_entries d ≡ true
-    go true is k = ap has_entries (sym (same_parts x (d, rest) k).0) ∙ is
-    go false is k = absurd (cc)
+block_entries (Some x) d rest h = grind arith
 
 -- what is at the front of a text, of this class and mode
 module _ (class : Class) (mode : Mode) (text : List ℕ) (front : FrontText) (is : IsFront class mode text front) where

@@ -1,7 +1,8 @@
 -- The last word of a front: the bytes of a name that the front ends with. A value with a name that comes after the front begins at this word, any other value at its bracket.
-use Rattle.std.proofs.Common.{◌≡◌, ◌⊎◌, inl, inr, ◌∙◌, refl, ap, sym, ℕ, suc, ◌+◌, ◌-◌, ◌<◌, ◌==◌, ◌&&◌, Bool, true, false, cond, List, [], ◌∷◌, ◌++◌, append_assoc, append-nil, drop, length, length-append, get_or, arith}
+use Rattle.std.proofs.Common.{◌≡◌, ◌⊎◌, inl, inr, ◌∙◌, refl, ap, sym, ℕ, suc, ◌+◌, ◌-◌, ◌<◌, ◌==◌, ◌&&◌, true, false, cond, List, [], ◌∷◌, ◌++◌, append_assoc, append-nil, drop, length, length-append, get_or, arith}
 use Rattle.std.proofs.Math.Seq.{drop-append-add, drop-append_seam, get_or-append_seam}
 use Rattle.std.proofs.lemmas.Bool.Decides.{nat_tests}
+use Rattle.std.proofs.lemmas.Bool.{and_right, cases_Bool, cond_both}
 use Rattle.std.proofs.lemmas.List.{get_or-append-add}
 use Rattle.std.specs.Prelude.{nat_le, nat_lt}
 use Rattle.ufmt.specs.Leaves.{IsDebugWord, begins_with, ends_in_colon, has_name_bytes, is_name_byte}
@@ -14,13 +15,13 @@ use Rattle.ufmt_values.specs.Values.{is_after_name, is_named, run_start, value_s
 -- ---- runs of bytes of a name
 
 -- a run that ends after a byte of a name begins where the run before that byte does
-run_on : (text : List ℕ) (n : ℕ) → is_name_byte (get_or text n 0) ≡ true → run_start text 0 (suc n) ≡ run_start text 0 n
+pub run_on : (text : List ℕ) (n : ℕ) → is_name_byte (get_or text n 0) ≡ true → run_start text 0 (suc n) ≡ run_start text 0 n
 run_on text n named =
     let low : nat_le 0 n ≡ true = grind (arith, nat_tests) in
     ap (λ b. cond (b && is_name_byte (get_or text n 0)) (run_start text 0 n) (suc n)) low ∙ ap (λ b. cond b (run_start text 0 n) (suc n)) named
 
 -- a run that ends after any other byte is empty
-run_begins : (text : List ℕ) (n : ℕ) → is_name_byte (get_or text n 0) ≡ false → run_start text 0 (suc n) ≡ suc n
+pub run_begins : (text : List ℕ) (n : ℕ) → is_name_byte (get_or text n 0) ≡ false → run_start text 0 (suc n) ≡ suc n
 run_begins text n other =
     let low : nat_le 0 n ≡ true = grind (arith, nat_tests) in
     ap (λ b. cond (b && is_name_byte (get_or text n 0)) (run_start text 0 n) (suc n)) low ∙ ap (λ b. cond b (run_start text 0 n) (suc n)) other
@@ -46,15 +47,15 @@ IsCut front word = (front ≡ word) ⊎ ((y : List ℕ) × (c : ℕ) × (front �
 -- each front is cut before its last word
 cut_front : (front : List ℕ) → (word : List ℕ) × (has_name_bytes word ≡ true) × IsCut front word
 cut_front [] = ([], refl, inl refl)
-cut_front (c ∷ front) = go (cut_front front)
-  where
-    first : (b : Bool) → is_name_byte c ≡ b → (word : List ℕ) → has_name_bytes word ≡ true → front ≡ word → (word : List ℕ) × (has_name_bytes word ≡ true) × IsCut (c ∷ front) word
-    first true is word named whole = (c ∷ word, ap (λ b. b && has_name_bytes word) is ∙ named, inl (ap (λ t. c ∷ t) whole))
-    first false is word named whole = (word, named, inr ([], c, ap (λ t. c ∷ t) whole, is))
-
-    go : (word : List ℕ) × (has_name_bytes word ≡ true) × IsCut front word → (word : List ℕ) × (has_name_bytes word ≡ true) × IsCut (c ∷ front) word
-    go (word, named, inl whole) = first (is_name_byte c) refl word named whole
-    go (word, named, inr (y, b, is, other)) = (word, named, inr (c ∷ y, b, ap (λ t. c ∷ t) is, other))
+cut_front (c ∷ front) =
+    let rest = cut_front front in
+    elim rest.2 [
+      | inl whole ↦ elim (cases_Bool (is_name_byte c)) [
+        | inl is ↦ (c ∷ rest.0, ap (λ b. b && has_name_bytes rest.0) is ∙ rest.1, inl (ap (λ t. c ∷ t) whole))
+        | inr is ↦ (rest.0, rest.1, inr ([], c, ap (λ t. c ∷ t) whole, is))
+      ]
+      | inr cut ↦ (rest.0, rest.1, inr (c ∷ cut.0, cut.1, ap (λ t. c ∷ t) cut.2, cut.3))
+    ]
 
 -- a front and its last word. Whatever follows the front, a run that ends where the front does begins where the word does
 pub record LastWord (front : List ℕ) : Type 0 where
@@ -64,34 +65,34 @@ pub record LastWord (front : List ℕ) : Type 0 where
   pub named : has_name_bytes word ≡ true
   pub starts : (x : List ℕ) → run_start (front ++ x) 0 (length front) ≡ length before
 
-pub last_word_of : (front : List ℕ) → LastWord front
-last_word_of front = go (cut_front front)
-  where
-    go : (word : List ℕ) × (has_name_bytes word ≡ true) × IsCut front word → LastWord front
-    go (word, named, inl whole) = record {
-      before = [];
+cut_to_word : (front word : List ℕ) → has_name_bytes word ≡ true → IsCut front word → LastWord front
+cut_to_word front word named (inl whole) = record {
+  before = [];
+  word = word;
+  is = whole;
+  named = named;
+  starts = λ x.
+      let size : length front ≡ length {A = ℕ} [] + length word = omega (arith, ap length whole) in
+      ap (run_start (front ++ x) 0) size ∙ run_through (front ++ x) [] word x (ap (λ t. t ++ x) whole) named;
+}
+cut_to_word front word named (inr (y, c, is, other)) =
+    let before = y ++ c ∷ [] in
+    let size : length before ≡ suc (length y) = length-append y (c ∷ []) ∙ omega arith in
+    record {
+      before = y ++ c ∷ [];
       word = word;
-      is = whole;
+      is = is;
       named = named;
       starts = λ x.
-          let size : length front ≡ length {A = ℕ} [] + length word = omega (arith, ap length whole) in
-          ap (run_start (front ++ x) 0) size ∙ run_through (front ++ x) [] word x (ap (λ t. t ++ x) whole) named;
+          let whole : front ++ x ≡ before ++ (word ++ x) = ap (λ t. t ++ x) is ∙ append_assoc before word x in
+          let byte : get_or (front ++ x) (length y) 0 ≡ c = ap (λ t. get_or t (length y) 0) (whole ∙ append_assoc y (c ∷ []) (word ++ x)) ∙ get_or-append_seam y c (word ++ x) 0 in
+          ap (run_start (front ++ x) 0) (ap length is ∙ length-append before word)
+          ∙ run_through (front ++ x) before word x whole named
+          ∙ ap (run_start (front ++ x) 0) size ∙ run_begins (front ++ x) (length y) (ap is_name_byte byte ∙ other) ∙ sym size;
     }
-    go (word, named, inr (y, c, is, other)) =
-        let before = y ++ c ∷ [] in
-        let size : length before ≡ suc (length y) = length-append y (c ∷ []) ∙ omega arith in
-        record {
-          before = y ++ c ∷ [];
-          word = word;
-          is = is;
-          named = named;
-          starts = λ x.
-              let whole : front ++ x ≡ before ++ (word ++ x) = ap (λ t. t ++ x) is ∙ append_assoc before word x in
-              let byte : get_or (front ++ x) (length y) 0 ≡ c = ap (λ t. get_or t (length y) 0) (whole ∙ append_assoc y (c ∷ []) (word ++ x)) ∙ get_or-append_seam y c (word ++ x) 0 in
-              ap (run_start (front ++ x) 0) (ap length is ∙ length-append before word)
-              ∙ run_through (front ++ x) before word x whole named
-              ∙ ap (run_start (front ++ x) 0) size ∙ run_begins (front ++ x) (length y) (ap is_name_byte byte ∙ other) ∙ sym size;
-        }
+
+pub last_word_of : (front : List ℕ) → LastWord front
+last_word_of front = let found = cut_front front in cut_to_word front found.0 found.1 found.2
 
 -- the word is what `last_word` is defined as
 pub last_word_is : (front : List ℕ) (h : LastWord front) → last_word front ≡ h.word
@@ -171,19 +172,12 @@ list_after to front u = rw (get_or-append_seam front 91 u 0) refl
 pub braces_after : (front u : List ℕ) → begins_with 32 u ≡ false → value_start Pretty (front ++ 123 ∷ u) 0 (length front) ≡ length front
 braces_after front u none =
     let inside : begins_with 32 (drop (length front + 1) (front ++ 123 ∷ u)) ≡ false = ap (begins_with 32) (drop-append-add front (123 ∷ u) 1) ∙ none in
-    rw (get_or-append_seam front 123 u 0, inside) (go (is_after_name (front ++ 123 ∷ u) 0 (length front)))
-  where
-    go : (named : Bool) → cond (named && false) (run_start (front ++ 123 ∷ u) 0 (length front - 1)) (length front) ≡ length front
-    go true = refl
-    go false = refl
+    rw (get_or-append_seam front 123 u 0, inside, and_right (is_after_name (front ++ 123 ∷ u) 0 (length front)) false refl) refl
 
 -- a tuple without a name begins at its bracket, if no name ends right before it
 pub tuple_unnamed : (to : Mode) (front : List ℕ) (h : LastWord front) → h.word ≡ [] → (u : List ℕ) → value_start to (front ++ 40 ∷ u) 0 (length front) ≡ length front
-tuple_unnamed to front h none u = rw (get_or-append_seam front 40 u 0) (go (is_named (front ++ 40 ∷ u) (run_start (front ++ 40 ∷ u) 0 (length front)) (length front)))
-  where
-    same : run_start (front ++ 40 ∷ u) 0 (length front) ≡ length front
-    same = let size = ap length h.is ∙ length-append h.before h.word in let starts = h.starts (40 ∷ u) in omega (arith, size, starts, ap length none)
-
-    go : (named : Bool) → cond named (run_start (front ++ 40 ∷ u) 0 (length front)) (length front) ≡ length front
-    go true = same
-    go false = refl
+tuple_unnamed to front h none u =
+    let size = ap length h.is ∙ length-append h.before h.word in
+    let starts = h.starts (40 ∷ u) in
+    let same : run_start (front ++ 40 ∷ u) 0 (length front) ≡ length front = omega (arith, size, starts, ap length none) in
+    rw (get_or-append_seam front 40 u 0) (cond_both (is_named (front ++ 40 ∷ u) (run_start (front ++ 40 ∷ u) 0 (length front)) (length front)) _ _ (λ n. n ≡ length front) (λ _. same) (λ _. refl))

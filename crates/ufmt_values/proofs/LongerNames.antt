@@ -1,12 +1,14 @@
 -- A name is still a name if more bytes of a name are put before it.
-use Rattle.std.proofs.Common.{◌≡◌, ◌≢◌, ◌∙◌, refl, ap, sym, subst, ℕ, ◌==◌, ◌&&◌, ◌||◌, not, Bool, true, false, cond, List, [], ◌∷◌, ◌++◌, eqb-true, arith}
+use Rattle.std.proofs.Common.{◌≡◌, ◌≢◌, inl, inr, ◌∙◌, refl, ap, sym, subst, ℕ, ◌==◌, ◌&&◌, not, true, false, List, [], ◌∷◌, ◌++◌, arith}
+use Rattle.std.proofs.lemmas.Bool.Decides.{nat_tests}
+use Rattle.std.proofs.lemmas.Bool.{and_from, cases_Bool, cond-false}
 use Rattle.std.proofs.lemmas.Str.{IsUtf8-append, IsUtf8-from_is_utf8, is_utf8-from_IsUtf8}
 use Rattle.std.specs.Str.{is_utf8}
 use Rattle.ufmt.specs.Document.{tuple_of, no_documents}
 use Rattle.ufmt.specs.Leaves.{EndsLeaf, IsDebugWord, begins_quote, ends_in_colon, has_name_bytes, is_debug_byte, is_in_word, is_name_byte, is_quote, is_spaced, outside}
 use Rattle.ufmt.specs.Token.{IsName}
 use Rattle.ufmt_grammar.proofs.ClassTokens.{tokens_are_debug}
-use Rattle.ufmt_grammar.proofs.DebugLeaves.{both, each_quote, from_beginning}
+use Rattle.ufmt_grammar.proofs.DebugLeaves.{both, from_beginning}
 use Rattle.ufmt_grammar.specs.declared.class.Class.{Class}
 use Rattle.ufmt_grammar.specs.declared.class.Class.TheVariants.{Token, Debug}
 use Rattle.ufmt_values.proofs.LastWords.{LastWord, last_word_is}
@@ -15,27 +17,14 @@ use Rattle.ufmt_values.specs.Fronts.{MayNameFollow}
 -- ---- bytes of names
 
 name_no_space : (c : ℕ) → is_name_byte c ≡ true → (c == 32) ≡ false
-name_no_space c named = go (c == 32) refl
-  where
-    go : (b : Bool) → (c == 32) ≡ b → (c == 32) ≡ false
-    go false is = is
-    go true is = let at = subst (λ b. is_name_byte b ≡ true) (eqb-true c 32 is) named in absurd (cc)
+name_no_space c named = grind (arith, nat_tests)
 
 name_no_quote : (c : ℕ) → is_name_byte c ≡ true → is_quote c ≡ false
-name_no_quote c named = go (is_quote c) refl
-  where
-    go : (b : Bool) → is_quote c ≡ b → is_quote c ≡ false
-    go false is = is
-    go true is = let none = each_quote (λ b. is_name_byte b ≡ false) refl refl c is in absurd (cc (none, named))
+name_no_quote c named = grind (arith, nat_tests)
 
 -- a byte of a name other than a colon is a byte of a word
 name_debug : (c : ℕ) → is_name_byte c ≡ true → (c == 58) ≡ false → is_debug_byte c ≡ true
-name_debug c named other = go (is_debug_byte c) (c == 58) named other
-  where
-    go : (word colon : Bool) → word || colon ≡ true → colon ≡ false → word ≡ true
-    go true colon h none = refl
-    go false true h none = absurd (cc)
-    go false false h none = absurd (cc)
+name_debug c named other = grind arith
 
 -- the text doesn't begin with a space or a quote
 record NoneAhead (t : List ℕ) : Type 0 where
@@ -50,17 +39,11 @@ none_ahead (c ∷ t) named =
 
 -- before such a text, each byte of a name is in a word
 in_word : (c : ℕ) (t : List ℕ) → is_name_byte c ≡ true → NoneAhead t → is_in_word c t ≡ true
-in_word c t named ahead = go (c == 58) refl
-  where
-    quoted : (slash : Bool) → not (slash && false) ≡ true
-    quoted true = refl
-    quoted false = refl
-
-    go : (colon : Bool) → (c == 58) ≡ colon → is_in_word c t ≡ true
-    go true is = rw (is, ahead.unspaced) refl
-    go false is =
-        ap (λ b. cond b (not (is_spaced t)) (is_debug_byte c && not (c == 92 && begins_quote t))) is
-        ∙ ap (λ b. b && not (c == 92 && begins_quote t)) (name_debug c named is) ∙ ap (λ b. not (c == 92 && b)) ahead.unquoted ∙ quoted (c == 92)
+in_word c t named ahead = elim (cases_Bool (c == 58)) [
+  | inl is ↦ rw (is, ahead.unspaced) refl
+  | inr is ↦ cond-false (c == 58) (not (is_spaced t)) (is_debug_byte c && not (c == 92 && begins_quote t)) is
+      ∙ and_from (is_debug_byte c) (not (c == 92 && begins_quote t)) (name_debug c named is) (rw ahead.unquoted (grind arith))
+]
 
 -- ---- names
 

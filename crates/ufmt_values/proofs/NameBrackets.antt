@@ -1,5 +1,6 @@
 -- No byte of a name is a bracket or a comma.
-use Rattle.std.proofs.Common.{◌≡◌, refl, sym, subst, ℕ, ◌==◌, ◌||◌, Bool, true, false, List, [], ◌∷◌, ◌++◌, eqb-true}
+use Rattle.std.proofs.Common.{◌≡◌, inl, inr, refl, sym, subst, ℕ, ◌==◌, ◌||◌, Bool, true, false, List, [], ◌∷◌, ◌++◌, eqb-true}
+use Rattle.std.proofs.lemmas.Bool.{both_ways, false_from_ne_true, or_cases}
 use Rattle.ufmt.specs.Bytes.{opening_brace, opening_bracket, opening_parenthesis, space}
 use Rattle.ufmt.specs.Leaves.{IsDebugWord, has_name_bytes, is_ender, is_name_byte, is_opening}
 use Rattle.ufmt_grammar.proofs.DebugLeaves.{both}
@@ -7,14 +8,14 @@ use Rattle.ufmt_grammar.proofs.ReadingWords.{each_ender}
 use Rattle.ufmt_values.proofs.FirstBrackets.{Without, without_append}
 
 -- what holds for each of the three opening brackets holds for every one
-each_opening : (P : ℕ → Type 0) → P opening_parenthesis → P opening_bracket → P opening_brace → (c : ℕ) → is_opening c ≡ true → P c
-each_opening P parenthesis bracket brace c h = go (c == opening_parenthesis) (c == opening_bracket) (c == opening_brace) refl refl refl h
-  where
-    go : (p q r : Bool) → (c == opening_parenthesis) ≡ p → (c == opening_bracket) ≡ q → (c == opening_brace) ≡ r → p || q || r ≡ true → P c
-    go true q r e f g k = subst P (sym (eqb-true c opening_parenthesis e)) parenthesis
-    go false true r e f g k = subst P (sym (eqb-true c opening_bracket f)) bracket
-    go false false true e f g k = subst P (sym (eqb-true c opening_brace g)) brace
-    go false false false e f g k = absurd (cc)
+pub each_opening : (P : ℕ → Type 0) → P opening_parenthesis → P opening_bracket → P opening_brace → (c : ℕ) → is_opening c ≡ true → P c
+each_opening P parenthesis bracket brace c h = elim (or_cases (c == opening_parenthesis || c == opening_bracket) (c == opening_brace) h) [
+  | inl other ↦ elim (or_cases (c == opening_parenthesis) (c == opening_bracket) other) [
+    | inl is ↦ subst P (sym (eqb-true c opening_parenthesis is)) parenthesis
+    | inr is ↦ subst P (sym (eqb-true c opening_bracket is)) bracket
+  ]
+  | inr is ↦ subst P (sym (eqb-true c opening_brace is)) brace
+]
 
 -- an opening bracket isn't a byte of a name, nor a space
 pub opening_no_name : (c : ℕ) → is_opening c ≡ true → is_name_byte c ≡ false
@@ -29,19 +30,11 @@ opening_no_ender c h = each_opening (λ b. is_ender b ≡ false) refl refl refl 
 
 -- a byte of a name isn't an opening bracket
 pub name_no_opening : (c : ℕ) → is_name_byte c ≡ true → is_opening c ≡ false
-name_no_opening c h = go (is_opening c) refl
-  where
-    go : (b : Bool) → is_opening c ≡ b → is_opening c ≡ false
-    go false e = e
-    go true e = let none = opening_no_name c e in absurd (cc (none, h))
+name_no_opening c h = false_from_ne_true (is_opening c) (λ is. both_ways (is_name_byte c) (opening_no_name c is) h)
 
 -- nor a byte that ends a leaf
 pub name_no_ender : (c : ℕ) → is_name_byte c ≡ true → is_ender c ≡ false
-name_no_ender c h = go (is_ender c) refl
-  where
-    go : (b : Bool) → is_ender c ≡ b → is_ender c ≡ false
-    go false e = e
-    go true e = let none = each_ender (λ b. is_name_byte b ≡ false) refl refl refl refl c e in absurd (cc (none, h))
+name_no_ender c h = false_from_ne_true (is_ender c) (λ is. both_ways (is_name_byte c) (each_ender (λ b. is_name_byte b ≡ false) refl refl refl refl c is) h)
 
 name_bytes_without : (test : ℕ → Bool) → ((c : ℕ) → is_name_byte c ≡ true → test c ≡ false) → (w : List ℕ) → has_name_bytes w ≡ true → Without test w
 name_bytes_without test none [] h = tt

@@ -1,6 +1,7 @@
 -- The plain text of a struct, from its name on, and how its fields are read one by one.
 use Rattle.std.proofs.Common.{◌≡◌, ◌≢◌, ◌⊎◌, inl, inr, ◌∙◌, refl, ap, sym, subst, ℕ, ◌≤◌, Bool, true, false, cond, List, [], ◌∷◌, ◌++◌, append_assoc, append-nil, bytes_eq, codes, length, length-append, ◌+◌, Option, Some, None, option_map, get_or, is_some, ◌&&◌, arith}
 use Rattle.std.proofs.lemmas.Bool.{true≢false}
+use Rattle.std.proofs.lemmas.Option.{cond_some}
 use Rattle.std.specs.Str.{is_utf8}
 use Rattle.ufmt.specs.Document.{Document, leaf, joined, list_of, set_of, map_of, struct_of, non_exhaustive_of, tuple_of, pretty_part, no_documents, first_document, Fields, no_fields, first_field, nest, nest_fields}
 use Rattle.ufmt.specs.Layout.{block_tail, count_after, dots_ending, ending, field_texts, frame, framed_all, lead, next, plain_text, setting}
@@ -50,11 +51,9 @@ name_is_read class name d after is good =
 -- a name is read of dots in a debug text, and no colon follows it
 pub dots_end : (class : Class) (rest name after : List ℕ) → Some (name, after) ≡ read_name class (codes ".. }" ++ rest) → strip (codes ": ") after ≡ None
 dots_end Token rest name after is = absurd (none_or_some refl (sym is))
-dots_end Debug rest name after is = go (is_utf8 (46 ∷ 46 ∷ []) && true) is
-  where
-    go : (b : Bool) → ◌≡◌ {A = Option (List ℕ × List ℕ)} (Some (name, after)) (cond b (Some (46 ∷ 46 ∷ [], 32 ∷ 125 ∷ rest)) None) → strip (codes ": ") after ≡ None
-    go true e = ap (strip (codes ": ")) (same_parts {A = List ℕ} {B = List ℕ} (name, after) (46 ∷ 46 ∷ [], 32 ∷ 125 ∷ rest) e).1
-    go false e = absurd (none_or_some refl (sym e))
+dots_end Debug rest name after is =
+    let dots : List ℕ × List ℕ = (46 ∷ 46 ∷ [], 32 ∷ 125 ∷ rest) in
+    ap (strip (codes ": ")) (ap (λ (x : List ℕ × List ℕ). x.1) (sym (cond_some (is_utf8 (46 ∷ 46 ∷ []) && true) dots (name, after) (sym is)).1))
 
 -- ---- fields in normal form
 
@@ -228,11 +227,11 @@ pub record IsNoStruct (class : Class) (d : Document) (rest t : List ℕ) : Type 
 
 -- no name begins with such a byte
 no_bracket : (class : Class) (c : ℕ) (t : List ℕ) (name after : List ℕ) → ((w : List ℕ) → IsName class (c ∷ w) → ⊥) → read_name class (c ∷ t) ≡ Some (name, after) → ⊥
-no_bracket class c t name after never h = go name (read_name_sound class (c ∷ t) name after h)
-  where
-    go : (w : List ℕ) → IsName class w × (c ∷ t ≡ w ++ after) → ⊥
-    go [] found = name_some class found.0
-    go (b ∷ w) found = let same : c ≡ b = cc in never w (subst (λ x. IsName class (x ∷ w)) (sym same) found.0)
+no_bracket class c t [] after never h = name_some class (read_name_sound class (c ∷ t) [] after h).0
+no_bracket class c t (b ∷ w) after never h =
+    let found = read_name_sound class (c ∷ t) (b ∷ w) after h in
+    let same : c ≡ b = ap (λ l. get_or l 0 0) found.1 in
+    never w (subst (λ x. IsName class (x ∷ w)) (sym same) found.0)
 
 no_list : (class : Class) (w : List ℕ) → IsName class (91 ∷ w) → ⊥
 no_list Token w h = absurd (cc)

@@ -1,12 +1,11 @@
 -- A text without a closing bracket has no value.
-use Rattle.std.proofs.Common.{◌≡◌, inl, ◌∙◌, refl, ap, sym, subst, ℕ, zero, suc, ◌+◌, ◌-◌, ◌≤◌, ◌==◌, ◌&&◌, ◌||◌, nat_le, nat_lt, not, Bool, true, false, cond, List, [], ◌∷◌, ◌++◌, Option, Some, None, option_and_then, drop, get_or, length, codes, arith}
+use Rattle.std.proofs.Common.{◌≡◌, inl, ◌∙◌, refl, ap, sym, subst, ℕ, zero, suc, ◌+◌, ◌-◌, ◌≤◌, ◌||◌, not, Bool, true, false, List, [], ◌∷◌, ◌++◌, Some, None, option_and_then, drop, length, codes, arith}
 use Rattle.std.proofs.lemmas.Bool.Decides.{nat_tests}
-use Rattle.std.proofs.lemmas.Bool.{true≢false}
+use Rattle.std.proofs.lemmas.Bool.{or_parts, true≢false}
 use Rattle.std.proofs.lemmas.List.{drop-drop}
 use Rattle.std.proofs.lemmas.List.Elements.{All-head, All-tail}
 use Rattle.std.specs.List.{All, suffix_len}
 use Rattle.ufmt.specs.Document.{Document, leaf, joined, list_of, set_of, map_of, struct_of, non_exhaustive_of, tuple_of, pretty_part, no_documents, first_document, no_pairs, first_pair, no_fields, first_field}
-use Rattle.ufmt.specs.Leaves.{is_name_byte}
 use Rattle.ufmt.specs.Layout.{block_tail, block_text, count_after, dots_ending, dots_line, ending, frame, framed_all, if_any, inside, layout, lead, line_start, next, setting, trail, tuple_kind, texts, pair_texts, field_texts}
 use Rattle.ufmt_core.specs.declared.layout.Count.{Count}
 use Rattle.ufmt_core.specs.declared.layout.Count.TheVariants.{Zero, One, Several}
@@ -19,8 +18,8 @@ use Rattle.ufmt_grammar.specs.declared.class.Class.{Class}
 use Rattle.ufmt_grammar.specs.declared.class.Class.TheVariants.{Debug}
 use Rattle.ufmt_grammar.proofs.ReadingSound.{read_sound}
 use Rattle.ufmt_values.specs.Unclosed.{HasNoMore, IsUnclosed, has_closing, is_closing}
-use Rattle.ufmt_values.specs.Values.{brace_start, if_entries, is_in_struct, is_named, run_start, tuple_start, value_from, value_start}
-use Rattle.ufmt_values.proofs.FoundValues.{block_entries, block_read}
+use Rattle.ufmt_values.specs.Values.{if_entries, run_start, value_from, value_start}
+use Rattle.ufmt_values.proofs.FoundValues.{block_entries, block_read, none_unless}
 use Rattle.ufmt_scan.specs.Fronts.{has_entries, read_front}
 use Rattle.ufmt_scan.specs.Texts.{other_mode}
 use Rattle.ufmt_values.proofs.Searches.{last_end, rest_has_none}
@@ -37,21 +36,13 @@ closing_after (c ∷ a) b h = ap (λ x. is_closing c || x) (closing_after a b h)
 
 closing_before : (a b : List ℕ) → has_closing a ≡ true → has_closing (a ++ b) ≡ true
 closing_before [] b h = absurd (cc)
-closing_before (c ∷ a) b h = go (is_closing c) h (closing_before a b)
-  where
-    go : (x : Bool) → x || has_closing a ≡ true → (has_closing a ≡ true → has_closing (a ++ b) ≡ true) → x || has_closing (a ++ b) ≡ true
-    go true h rest = refl
-    go false h rest = rest h
+closing_before (c ∷ a) b h = grind (arith, closing_before a b)
 
 -- what is left of a text without a closing bracket has none
 rest_unclosed : (k : ℕ) (t : List ℕ) → IsUnclosed t → IsUnclosed (drop k t)
 rest_unclosed zero t h = h
 rest_unclosed (suc k) [] h = h
-rest_unclosed (suc k) (c ∷ t) h = rest_unclosed k t (go (is_closing c) h)
-  where
-    go : (x : Bool) → x || has_closing t ≡ false → has_closing t ≡ false
-    go true h = absurd (cc)
-    go false h = h
+rest_unclosed (suc k) (c ∷ t) h = rest_unclosed k t (or_parts (is_closing c) (has_closing t) h).1
 
 -- bytes that aren't closing brackets are such a text
 none_close : (t : List ℕ) → All (λ c. is_closing c ≡ false) t → IsUnclosed t
@@ -134,16 +125,12 @@ module _ (s : Setting) where
 
 -- so no block with entries is at the front of a text without a closing bracket
 pub no_block : (class : Class) (mode : Mode) (t : List ℕ) → IsUnclosed t → option_and_then if_entries (read_front class mode t) ≡ None
-no_block class mode t none = go (option_and_then if_entries (read_front class mode t)) refl
+no_block class mode t none = none_unless (option_and_then if_entries (read_front class mode t)) (λ x is. true≢false (sym (closed x.0 x.1 is) ∙ none))
   where
     closed : (d : Document) (u : List ℕ) → option_and_then if_entries (read_front class mode t) ≡ Some (d, u) → has_closing t ≡ true
     closed d u is =
         let found = read_sound class 255 (setting mode 0) t d u (block_read (read_front class mode t) d u is) in
         ap has_closing found.whole ∙ closing_before (layout (setting mode 0) d) u (entries_close (setting mode 0) d (block_entries (read_front class mode t) d u is))
-
-    go : (o : Option (Document × List ℕ)) → option_and_then if_entries (read_front class mode t) ≡ o → o ≡ None
-    go None is = refl
-    go (Some x) is = absurd (true≢false (sym (closed x.0 x.1 is) ∙ none))
 
 pub no_value : (to : Mode) (t : List ℕ) → IsUnclosed t → value_from to t ≡ None
 no_value to t none = no_block Debug (other_mode to) t none
@@ -152,12 +139,7 @@ no_value to t none = no_block Debug (other_mode to) t none
 
 run_low : (text : List ℕ) (low n : ℕ) → low ≤ n → low ≤ run_start text low n
 run_low text low zero h = h
-run_low text low (suc n) h = go (nat_le low n) (is_name_byte (get_or text n 0)) refl (run_low text low n)
-  where
-    go : (from named : Bool) → nat_le low n ≡ from → (low ≤ n → low ≤ run_start text low n) → low ≤ cond (from && named) (run_start text low n) (suc n)
-    go true true is before = before (grind (arith, nat_tests))
-    go true false is before = h
-    go false named is before = h
+run_low text low (suc n) h = grind (arith, nat_tests, run_low text low n)
 
 pub further_unclosed : (text : List ℕ) (at k : ℕ) → at ≤ k → IsUnclosed (drop at text) → IsUnclosed (drop k text)
 further_unclosed text at k order h =
@@ -165,24 +147,8 @@ further_unclosed text at k order h =
     subst IsUnclosed (drop-drop (k - at) at text ∙ ap (λ i. drop i text) same) (rest_unclosed (k - at) (drop at text) h)
 
 module _ (to : Mode) (text : List ℕ) (at b : ℕ) (order : at ≤ b) where
-  in_name : (named : Bool) → at ≤ cond named (run_start text at b) b
-  in_name true = run_low text at b order
-  in_name false = order
-
-  in_struct : (less spaced named struct : Bool) → nat_lt at b ≡ less → at ≤ cond (((less && spaced) && named) && struct) (run_start text at (b - 1)) b
-  in_struct true true true true is = run_low text at (b - 1) (grind (arith, nat_tests))
-  in_struct true true true false is = order
-  in_struct true true false struct is = order
-  in_struct true false named struct is = order
-  in_struct false spaced named struct is = order
-
   pub start_low : at ≤ value_start to text at b
-  start_low = go (get_or text b 0 == 123) (get_or text b 0 == 40)
-    where
-      go : (brace parenthesis : Bool) → at ≤ cond brace (brace_start to text at b) (cond parenthesis (tuple_start text at b) b)
-      go true parenthesis = in_struct (nat_lt at b) (get_or text (b - 1) 0 == 32) (is_named text (run_start text at (b - 1)) (b - 1)) (is_in_struct to (drop (b + 1) text)) refl
-      go false true = in_name (is_named text (run_start text at b) b)
-      go false false = order
+  start_low = grind (arith, nat_tests, run_low text at b, run_low text at (b - 1))
 
 -- no value begins at the end of a text
 pub none_at_end : (text : List ℕ) (at : ℕ) → length text ≤ at → HasNoMore text at

@@ -1,15 +1,17 @@
 -- No block with entries has a bracket that is closed at once, or in a pretty text one that no line feed follows.
-use Rattle.std.proofs.Common.{◌≡◌, ◌⊎◌, inl, inr, ◌∙◌, refl, ap, sym, subst, ℕ, zero, suc, ◌+◌, ◌<◌, ◌≤◌, ◌==◌, ◌&&◌, not, nat_le, Bool, true, false, cond, List, [], ◌∷◌, Option, Some, None, option_and_then, drop, get_or, length, length-drop, eqb-true, arith}
+use Rattle.std.proofs.Common.{◌≡◌, ◌⊎◌, inl, inr, ◌∙◌, refl, ap, sym, subst, ℕ, zero, suc, ◌+◌, ◌<◌, ◌≤◌, ◌==◌, ◌&&◌, not, nat_le, Bool, true, false, cond, List, [], ◌∷◌, Option, Some, None, option_and_then, drop, get_or, length, length-drop, arith}
 use Rattle.std.proofs.lemmas.Bool.Decides.{nat_tests}
+use Rattle.std.proofs.lemmas.Bool.{and_parts, cases_Bool, cond_both}
 use Rattle.std.proofs.lemmas.List.{drop_more, get_or-drop}
 use Rattle.std.specs.Prelude.{◌-◌, ◌||◌, slice_index_or}
-use Rattle.ufmt.specs.Document.{Document, leaf, list_of, map_of, no_documents, no_pairs}
+use Rattle.ufmt.specs.Document.{Document, list_of, map_of, no_documents, no_pairs}
 use Rattle.ufmt.specs.Layout.{inside, setting}
-use Rattle.ufmt.specs.Leaves.{Place, beginning, outside, in_address, in_parentheses, in_word, begins_quote, begins_with, ends_in_colon, has_name_bytes, is_address_closed, is_debug_byte, is_in_word, is_name_byte, is_opening, is_quote, is_spaced, is_word_closed, place_after, place_outside}
-use Rattle.ufmt.specs.Reading.{Parse, after_leaf, choose, is_whole, leaf_from, read, read_by_front, read_without_name, strip}
+use Rattle.ufmt.specs.Leaves.{Place, beginning, outside, in_address, in_parentheses, in_word, begins_quote, begins_with, has_name_bytes, is_address_closed, is_debug_byte, is_in_word, is_name_byte, is_opening, is_quote, is_spaced, is_word_closed, place_after, place_outside}
+use Rattle.ufmt.specs.Reading.{Parse, after_leaf, choose, is_name, is_whole, leaf_from, read, read_by_front, read_without_name, strip}
 use Rattle.ufmt_core.specs.declared.layout.Mode.{Mode}
 use Rattle.ufmt_core.specs.declared.layout.Mode.TheVariants.{Plain, Pretty}
 use Rattle.ufmt_grammar.specs.declared.class.Class.TheVariants.{Debug}
+use Rattle.ufmt_values.proofs.NameBrackets.{each_opening}
 use Rattle.ufmt_values.specs.Private.WithoutEntries.{is_without_entries}
 use Rattle.ufmt_values.specs.Values.{before_bracket, if_entries, is_after_name, is_in_struct, is_named, run_start, value_from, value_start}
 use Rattle.ufmt_scan.specs.Fronts.{has_entries}
@@ -18,12 +20,7 @@ use Rattle.ufmt_scan.specs.Texts.{other_mode}
 -- the next bracket is an opening one
 opens_at : (t : List ℕ) → before_bracket t < length t → is_opening (get_or t (before_bracket t) 0) ≡ true
 opens_at [] within = absurd (omega (arith, within))
-opens_at (c ∷ t) within = go (is_opening c) refl within (opens_at t)
-  where
-    go : (b : Bool) → is_opening c ≡ b → cond b 0 (suc (before_bracket t)) < suc (length t) → (before_bracket t < length t → is_opening (get_or t (before_bracket t) 0) ≡ true)
-        → is_opening (get_or (c ∷ t) (cond b 0 (suc (before_bracket t))) 0) ≡ true
-    go true is less later = is
-    go false is less later = later (omega (arith, less))
+opens_at (c ∷ t) within = grind (arith, opens_at t)
 
 pub bracket_opens : (text : List ℕ) (at bracket : ℕ) → at ≤ bracket → bracket ≡ at + before_bracket (drop at text) → bracket < length text → is_opening (slice_index_or text bracket 0) ≡ true
 bracket_opens text at bracket order next within =
@@ -44,11 +41,7 @@ read_front_is to t = refl
 
 -- a leaf that is no name is no block
 unnamed_front : (to : Mode) (t : List ℕ) (c : ℕ) (front after : List ℕ) → has_name_bytes (c ∷ front) ≡ false → by_front to t (c ∷ front) after ≡ None
-unnamed_front to t c front after unnamed = rw unnamed (go (is_whole Debug (c ∷ front)))
-  where
-    go : (whole : Bool) → option_and_then if_entries (cond whole (Some (leaf (c ∷ front), after)) None) ≡ None
-    go true = refl
-    go false = refl
+unnamed_front to t c front after unnamed = rw unnamed (grind arith)
 
 -- so is one that begins with a bracket
 opening_front : (to : Mode) (c : ℕ) (t : List ℕ) (next : Place) → place_after beginning c t ≡ Some next → is_name_byte c ≡ false → value_from to (c ∷ t) ≡ None
@@ -98,11 +91,10 @@ in_list Pretty t closed = rw (byte_stripped 93 t closed).is refl
 in_list Plain t closed = rw (not_stripped 10 (32 ∷ 32 ∷ 32 ∷ 32 ∷ []) t (not_true (begins_with 10 t) closed)) (empty_or_none (list_of no_documents) refl (strip (93 ∷ []) t))
 
 list_none : (to : Mode) (t : List ℕ) → is_without_entries to 91 t ≡ true → value_from to (91 ∷ t) ≡ None
-list_none to t closed = go (is_address_closed t) refl
-  where
-    go : (b : Bool) → is_address_closed t ≡ b → value_from to (91 ∷ t) ≡ None
-    go true is = opening_front to 91 t in_address (rw is refl) refl
-    go false is = no_front to 91 t (rw is refl) ∙ in_list to t closed
+list_none to t closed = elim (cases_Bool (is_address_closed t)) [
+  | inl is ↦ opening_front to 91 t in_address (rw is refl) refl
+  | inr is ↦ no_front to 91 t (rw is refl) ∙ in_list to t closed
+]
 
 in_braces : (to : Mode) (t : List ℕ) → is_without_entries to 123 t ≡ true → without_name to (123 ∷ t) ≡ None
 in_braces Pretty t closed = rw (byte_stripped 125 t closed).is refl
@@ -112,27 +104,20 @@ braces_none : (to : Mode) (t : List ℕ) → is_without_entries to 123 t ≡ tru
 braces_none to t closed = no_front to 123 t refl ∙ in_braces to t closed
 
 unnamed_none : (to : Mode) (t : List ℕ) → is_without_entries to 40 t ≡ true → value_from to (40 ∷ t) ≡ None
-unnamed_none to t closed = go (is_word_closed t) (begins_with 41 t) refl refl
+unnamed_none to t closed = elim (cases_Bool (is_word_closed t)) [
+  | inl is ↦ opening_front to 40 t in_word (rw is refl) refl
+  | inr is ↦ elim (cases_Bool (begins_with 41 t)) [
+    | inl ends ↦ opening_front to 40 t in_parentheses (rw (is, ends) refl) refl
+    | inr ends ↦ no_front to 40 t (rw (is, ends) refl) ∙ not_closed to closed ends
+  ]
+]
   where
     not_closed : (mode : Mode) → is_without_entries mode 40 t ≡ true → begins_with 41 t ≡ false → without_name mode (40 ∷ t) ≡ None
     not_closed Pretty closed other = absurd (cc)
     not_closed Plain closed other = rw (not_stripped 41 [] t other, not_stripped 10 (32 ∷ 32 ∷ 32 ∷ 32 ∷ []) t (not_true (begins_with 10 t) closed)) refl
 
-    go : (word ends : Bool) → is_word_closed t ≡ word → begins_with 41 t ≡ ends → value_from to (40 ∷ t) ≡ None
-    go true ends is is_end = opening_front to 40 t in_word (rw is refl) refl
-    go false true is is_end = opening_front to 40 t in_parentheses (rw (is, is_end) refl) refl
-    go false false is is_end = no_front to 40 t (rw (is, is_end) refl) ∙ not_closed to closed is_end
-
 block_none : (to : Mode) (c : ℕ) (t : List ℕ) → is_opening c ≡ true → is_without_entries to c t ≡ true → value_from to (c ∷ t) ≡ None
-block_none to c t opens closed = go (c == 40) (c == 91) refl refl
-  where
-    at : (b : ℕ) → c ≡ b → (is_without_entries to b t ≡ true → value_from to (b ∷ t) ≡ None) → value_from to (c ∷ t) ≡ None
-    at b same none = subst (λ x. value_from to (x ∷ t) ≡ None) (sym same) (none (subst (λ x. is_without_entries to x t ≡ true) same closed))
-
-    go : (parenthesis bracket : Bool) → (c == 40) ≡ parenthesis → (c == 91) ≡ bracket → value_from to (c ∷ t) ≡ None
-    go true bracket is is_bracket = at 40 (eqb-true c 40 is) (unnamed_none to t)
-    go false true is is_bracket = at 91 (eqb-true c 91 is_bracket) (list_none to t)
-    go false false is is_bracket = at 123 (grind (arith, nat_tests)) (braces_none to t)
+block_none to c t = each_opening (λ b. is_without_entries to b t ≡ true → value_from to (b ∷ t) ≡ None) (unnamed_none to t) (list_none to t) (braces_none to t) c
 
 -- ---- a tuple with a name
 
@@ -143,13 +128,15 @@ record InName (to : Mode) (after t : List ℕ) : Type 0 where
   ends : (has_name_bytes (leaf_from outside t) ≡ false) ⊎ ((to ≡ Plain) × (begins_with 10 after ≡ false) × (after_leaf outside t ≡ 40 ∷ after))
 
 at_parenthesis : (to : Mode) (after : List ℕ) → is_without_entries to 40 after ≡ true → InName to after (40 ∷ after)
-at_parenthesis to after closed = record { no_space = refl; no_quote = refl; ends = go (begins_with 41 after) refl to closed }
-  where
-    go : (b : Bool) → begins_with 41 after ≡ b → (mode : Mode) → is_without_entries mode 40 after ≡ true
-        → (has_name_bytes (leaf_from outside (40 ∷ after)) ≡ false) ⊎ ((mode ≡ Plain) × (begins_with 10 after ≡ false) × (after_leaf outside (40 ∷ after) ≡ 40 ∷ after))
-    go true is mode closed = inl (rw is refl)
-    go false is Pretty closed = absurd (cc)
-    go false is Plain closed = inr (refl, not_true (begins_with 10 after) closed, rw is refl)
+at_parenthesis Pretty after closed = record { no_space = refl; no_quote = refl; ends = inl (rw closed refl) }
+at_parenthesis Plain after closed = record {
+  no_space = refl;
+  no_quote = refl;
+  ends = elim (cases_Bool (begins_with 41 after)) [
+    | inl is ↦ inl (rw is refl)
+    | inr is ↦ inr (refl, not_true (begins_with 10 after) closed, rw is refl)
+  ];
+}
 
 in_word_is : (ends word escapes : Bool) → word || ends ≡ true → cond ends true (word && not (escapes && false)) ≡ true
 in_word_is true word escapes h = refl
@@ -198,12 +185,8 @@ module _ (to : Mode) (after : List ℕ) where
 
   -- a name before no bracket of a pretty tuple is a leaf
   leaf_only : (t : List ℕ) (c : ℕ) (front : List ℕ) → begins_with 10 after ≡ false → by_front Plain t (c ∷ front) (40 ∷ after) ≡ None
-  leaf_only t c front no_line = rw (not_stripped 10 (32 ∷ 32 ∷ 32 ∷ 32 ∷ []) after no_line) (go (is_whole Debug (c ∷ front)) (has_name_bytes (c ∷ front) && not (ends_in_colon (c ∷ front))))
-    where
-      go : (whole named : Bool) → option_and_then if_entries (cond whole (cond named (Some (leaf (c ∷ front), 40 ∷ after)) (Some (leaf (c ∷ front), 40 ∷ after))) None) ≡ None
-      go true true = refl
-      go true false = refl
-      go false named = refl
+  leaf_only t c front no_line = rw (not_stripped 10 (32 ∷ 32 ∷ 32 ∷ 32 ∷ []) after no_line) (cond_both (is_whole Debug (c ∷ front)) _ None (λ o. option_and_then if_entries o ≡ None)
+      (λ _. cond_both (is_name Debug (c ∷ front)) _ _ (λ o. option_and_then if_entries o ≡ None) (λ _. refl) (λ _. refl)) (λ _. refl))
 
   named_none : (t : List ℕ) → Named t → value_from to t ≡ None
   named_none t h =
@@ -227,7 +210,8 @@ module _ (to : Mode) (after : List ℕ) where
     -- the run of bytes of a name that ends at a place in such a name is empty, or begins with a byte of it
     run_named : (n : ℕ) → n ≤ length text → InName to after (drop n text) → (run_start text low n ≡ n) ⊎ Named (drop (run_start text low n) text)
     run_named zero within here = inl refl
-    run_named (suc n) within here = go (nat_le low n) (is_name_byte (get_or text n 0)) refl (run_named n (omega (arith, within)))
+    run_named (suc n) within here = cond_both (nat_le low n && is_name_byte (get_or text n 0)) (run_start text low n) (suc n) (λ k. (k ≡ suc n) ⊎ Named (drop k text))
+        (λ both. let named = (and_parts (nat_le low n) (is_name_byte (get_or text n 0)) both).1 in inr (further named (run_named n (omega (arith, within)) (in_it named)))) (λ none. inl refl)
       where
         one_more : is_name_byte (get_or text n 0) ≡ true → Named (drop n text)
         one_more named = record {
@@ -244,12 +228,6 @@ module _ (to : Mode) (after : List ℕ) where
         further : is_name_byte (get_or text n 0) ≡ true → (run_start text low n ≡ n) ⊎ Named (drop (run_start text low n) text) → Named (drop (run_start text low n) text)
         further named (inl same) = subst (λ k. Named (drop k text)) (sym same) (one_more named)
         further named (inr begun) = begun
-
-        go : (from named : Bool) → is_name_byte (get_or text n 0) ≡ named → (InName to after (drop n text) → (run_start text low n ≡ n) ⊎ Named (drop (run_start text low n) text))
-            → (cond (from && named) (run_start text low n) (suc n) ≡ suc n) ⊎ Named (drop (cond (from && named) (run_start text low n) (suc n)) text)
-        go true true is before = inr (further is (before (in_it is)))
-        go true false is before = inl refl
-        go false named is before = inl refl
 
 -- ---- wherever the value would begin
 
@@ -288,18 +266,10 @@ module _ (to : Mode) (text : List ℕ) (low bracket : ℕ) (within : bracket < l
       (cond (c == 40) (cond (is_named text (run_start text low bracket) bracket) (run_start text low bracket) bracket) bracket)
 
   by_bracket : (c : ℕ) → slice_index_or text bracket 0 ≡ c → is_opening c ≡ true → is_without_entries to c after ≡ true → value_from to (drop (starts c) text) ≡ None
-  by_bracket c is opens closed = go (c == 123) (c == 40) refl refl
-    where
-      go : (brace parenthesis : Bool) → (c == 123) ≡ brace → (c == 40) ≡ parenthesis
-          → value_from to (drop (cond brace (cond (is_after_name text low bracket && is_in_struct to after) (run_start text low (bracket - 1)) bracket)
-          (cond parenthesis (cond (is_named text (run_start text low bracket) bracket) (run_start text low bracket) bracket) bracket)) text) ≡ None
-      go true parenthesis is_brace is_parenthesis =
-          let same = eqb-true c 123 is_brace in
-          rw (not_in_struct to (subst (λ x. is_without_entries to x after ≡ true) same closed), and-false (is_after_name text low bracket)) (at_bracket c is opens closed)
-      go false true is_brace is_parenthesis =
-          let same = eqb-true c 40 is_parenthesis in
-          tuple_none (is ∙ same) (subst (λ x. is_without_entries to x after ≡ true) same closed) (is_named text (run_start text low bracket) bracket) refl
-      go false false is_brace is_parenthesis = at_bracket c is opens closed
+  by_bracket c is opens closed = each_opening (λ b. slice_index_or text bracket 0 ≡ b → is_without_entries to b after ≡ true → value_from to (drop (starts b) text) ≡ None)
+      (λ is closed. tuple_none is closed (is_named text (run_start text low bracket) bracket) refl)
+      (λ is closed. at_bracket 91 is refl closed)
+      (λ is closed. rw (not_in_struct to closed, and-false (is_after_name text low bracket)) (at_bracket 123 is refl closed)) c opens is closed
 
   pub none_with_entries : low ≤ bracket → is_opening (slice_index_or text bracket 0) ≡ true → is_without_entries to (slice_index_or text bracket 0) after ≡ true
       → value_from to (drop (value_start to text low bracket) text) ≡ None

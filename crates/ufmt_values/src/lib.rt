@@ -1,6 +1,6 @@
 #![tactic(auto)]
 
-//! The values of a text, as a line of a log: where each begins, by its first bracket, and what is there.
+//! Finds the values in a text such as a line of a log.
 
 mod field;
 pub mod laws;

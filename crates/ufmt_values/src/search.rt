@@ -77,7 +77,7 @@ impl ByteSet for Closing {
     }
 }
 
-/// How many bytes come before the first one of the set, or in all.
+/// Returns the place of the first byte of the set, or the length if there is none.
 pub fn len_before_first<S: ByteSet>(text: &[u8]) -> usize
     ensures place { result ≡ position_or_len S.has text.now }
     ensures within { result ≤ length text.now }
@@ -110,7 +110,7 @@ fn len_before_first_from<S: ByteSet>(text: &[u8], start: usize) -> usize
     at
 }
 
-/// How many bytes there are up to the last one of the set, and with it. 0 if there is none.
+/// Returns the place after the last byte of the set, or 0 if there is none.
 pub fn len_through_last<S: ByteSet>(text: &[u8]) -> usize
     ensures end { result ≡ length text.now - suffix_len (λ byte. not (S.has byte)) text.now }
     ensures within { result ≤ length text.now }

@@ -14,7 +14,7 @@ use ufmt_scan::convert::other_mode;
 use ufmt_scan::strip::begins_with;
 use ufmt_scan::{FrontText, begins_with_field, front_text};
 
-/// A place from which on no value begins, if none does from `end` on. After a try that failed it is where
+/// Returns a place at or after which no value begins, given that none begins at or after `end`. After a try that failed it is where
 /// the last closing bracket ends, which is searched for once.
 pub fn values_end(text: &[u8], end: usize, has_failed: bool) -> usize
     requires { (place : ℕ) → end ≤ place → HasNoMore text.now place }
@@ -34,7 +34,7 @@ fn closed_len(text: &[u8]) -> usize
     len_through_last::<Closing>(text)
 }
 
-/// Where the first opening bracket is from `at` on, if a value may begin there: none does from `end` on.
+/// Returns the first opening bracket at or after `at`, or `None` if no value begins there. None begins at or after `end`.
 pub fn next_bracket(text: &[u8], end: usize, at: usize) -> Option<usize>
     requires end { (place : ℕ) → end ≤ place → HasNoMore text.now place }
     requires within { at ≤ length text.now }
@@ -61,7 +61,7 @@ pub fn before_bracket(text: &[u8]) -> usize
     len_before_first::<Opening>(text)
 }
 
-/// Where a value with this bracket begins, if one does: at the bracket, or at a name before it that
+/// Returns where a value with this bracket would begin: at the bracket, or at a name before it that
 /// begins at `low` or after it.
 pub fn value_start(to: Mode, text: &[u8], low: usize, bracket: usize) -> usize
     requires low { low ≤ bracket }
@@ -135,7 +135,7 @@ fn is_in_struct(to: Mode, after: &[u8]) -> bool
     }
 }
 
-/// Where the longest run of bytes of a name begins that ends here.
+/// Returns where the longest run of name bytes begins that ends at `end`.
 pub fn run_start(text: &[u8], low: usize, end: usize) -> usize
     requires low { low ≤ end }
     requires within { end ≤ length text.now }
@@ -161,7 +161,7 @@ fn is_named(text: &[u8], start: usize, end: usize) -> bool
     start < end && text[end - 1] != b':'
 }
 
-/// Where the value with this bracket begins, and the value, if there is one.
+/// Returns where the value with this bracket begins, and the value, or `None` if there is none.
 pub fn value_at(to: Mode, text: &[u8], low: usize, bracket: usize) -> Option<(usize, FrontText)>
     requires low { low ≤ bracket }
     requires within { bracket < length text.now }
@@ -198,7 +198,7 @@ fn closing_of(bracket: u8) -> u8
     }
 }
 
-/// The value that begins here, if a block with entries does, in the mode that isn't written.
+/// Returns the value at the front, if a block with entries is there in the mode other than `to`.
 pub fn value_from(to: Mode, text: &[u8]) -> Option<FrontText>
     ensures { IsValue to text.now result }
 {

@@ -14,8 +14,8 @@ crate can call: its vector is made with the first number, of a line with or with
 """
 import itertools
 import re
+from collections import namedtuple
 from concurrent.futures import ThreadPoolExecutor
-from typing import NamedTuple
 
 from lib import data, findings, needs, running
 from lib.model.counter import Counter
@@ -97,19 +97,8 @@ QUIET = 3
 ASKED_AGAIN = 1
 # The status for want of memory.
 OUT_OF_MEMORY = 5
-
-
-class Case(NamedTuple):
-    """What a run is given, and with ample memory its status, its output and what is on standard error; how many allocations it can't
-    do without."""
-
-    program: str
-    words: list
-    text: bytes
-    status: int
-    output: bytes
-    error: bytes
-    allocations: int
+# What a run is given, and with ample memory its status, its output and what is on standard error; how many allocations it can't do without.
+Case = namedtuple("Case", "program words text status output error allocations")
 
 
 def cases():

@@ -4,7 +4,7 @@ A call has its signature, its clauses and the first sentence of its comment. Law
 docs/PROMISES.md, and so are left out here. An item is without its body.
 """
 import re
-from typing import NamedTuple
+from collections import namedtuple
 
 from lib.command.generate import compare
 from lib.contracts.functions import Exports, functions_of, re_exported
@@ -13,16 +13,8 @@ from lib.top import TOP
 
 TYPE = re.compile(r"pub (?:struct|enum|trait|type|const) (\w+)")
 MACRO = re.compile(r"macro_rules! (\w+)")
-
-
-class Item(NamedTuple):
-    """An item, the type or trait that it belongs to, or else its own name, and the path before that, as `pieces::`."""
-
-    group: str
-    is_free: bool
-    name: str
-    text: str
-    module: str = ""
+# An item, the type or trait that it belongs to, or else its own name, and the path before that, as `pieces::`.
+Item = namedtuple("Item", "group is_free name text module", defaults=("",))
 
 
 def items_of(path, exports):

@@ -6,6 +6,7 @@ import shutil
 import subprocess
 import sys
 
+from lib import data
 from lib.bench import build
 from lib.data import DATA
 from lib.rust import linking
@@ -13,12 +14,8 @@ from lib.rust import linking
 # `two` prints a second type as well, `eight` eight types. The peers have the first seven.
 PEER_SIZES = ("text", "number", "struct", "pretty", "two", "eight", "line")
 SIZES = PEER_SIZES + ("tuple", "list", "set", "map")
-LEAST = "-2147483648"
 # What is called, and with which number.
-CALLS = (("text", "text", "0"), ("i32 of 0", "number", "0"), ("i32 of least", "number", LEAST), ("u64 of 19 digits", "u64", "0"),
-         ("u128 of most", "u128", "0"), ("struct of zeros", "struct", "0"), ("struct of least", "struct", LEAST),
-         ("pretty of zeros", "pretty", "0"), ("pretty of least", "pretty", LEAST), ("{:#010x} of 0", "hex", "0"),
-         ("list of 100 u64", "list", "0"))
+CALLS = data.rows("bench/figures.txt")["calls"]
 # Debian's packages librust-*-dev put their crates here; else they are those that cargo has.
 DEBIAN = pathlib.Path("/usr/share/cargo/registry")
 SOURCE = '[source.crates-io]\nreplace-with = "debian"\n[source.debian]\ndirectory = "%s"\n'

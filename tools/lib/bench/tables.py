@@ -9,6 +9,7 @@ from lib.model.document import list_of
 
 # ---- Each byte of a text that is converted, read or printed.
 
+FIGURES = data.rows("bench/figures.txt")
 SIZE = 1 << 20
 LEAVES = ("1.5", "-2.5e-7", "0..5", "12:34:56.789", "127.0.0.1:80", "std::fmt::Error", "1.5s", "2026-11-29T04:05:06Z")
 UNITS = {"ASCII": "All work and no play. ", "escapes": 'a\tb "c" d\\e\n', "accents": "été, où ça? ", "four bytes each": "\U0001F980\U0001F600 ok "}
@@ -39,9 +40,6 @@ def texts(room, _given):
 
 # ---- One `{:?}` of an `f64`, beside core::fmt and the kit's ryu, and one with a number of decimals, beside core::fmt.
 
-VALUES = "21.5 0.1 1.0 3.141592653589793 1e-7 1e23 1e-20 1.5e100 1e300 5e-324".split()
-# A float, and how many decimals it is printed with.
-FIXED = "21.5:2 0.125:2 0.1:3 3.141592653589793:15 -123456.789:0 0.1:20 1e23:2 1e300:2 1e-20:40 0.1:60 5e-324:300 5e-324:330".split()
 FEW, MANY = 1000, 3000
 
 
@@ -57,9 +55,9 @@ def floats(room, _given):
 
     made = [build_in(room / name) for name, build_in in (("ours", programs.ours), ("rustc", programs.theirs), ("ryu", programs.ryu))]
     print("%-24s%8s%12s%8s" % ("instructions", "ours", "core::fmt", "ryu"))
-    for value in VALUES:
+    for value, in FIGURES["floats"]:
         print("%-24s%8d%12d%8d" % (value, *(float_instructions(program, value) for program in made)), flush=True)
-    for value in FIXED:
+    for value in map(":".join, FIGURES["floats with decimals"]):
         print("%-24s%8d%12d" % (value, *(float_instructions(program, value) for program in made[:2])), flush=True)
 
 
@@ -85,9 +83,6 @@ def lines(room, given):
 
 # ---- Parsing, for each byte of a text and for each value, beside serde_json and ron; and the bytes of one more type that is parsed.
 
-ROWS = (("u64", "plain"), ("u32", "plain"), ("f64", "plain"), ("long-f64", "plain"), ("measurement", "plain"),
-        ("measurement", "pretty"), ("strings", "plain"), ("escapes", "plain"), ("options", "plain"), ("event", "plain"),
-        ("event", "pretty"), ("map", "plain"))
 # Of smaller texts a list is copied when it grows, not mapped to another place.
 SIZES = (500_000, 1_000_000)
 # Of a struct of two numbers, of three, and of an enum: the case with one type, and with a second one.
@@ -138,7 +133,7 @@ def parse(room, _given):
     none = [(None, None)] * (2 - len(peers))
     print("%-20s%18s%18s%18s" % ("instructions", "ours", "serde_json", "ron"))
     print("%-20s" % "" + "%9s%9s" % ("a byte", "a value") * 3)
-    for kind, mode in ROWS:
+    for kind, mode in FIGURES["parse"]:
         ours = parsing_cost(kind, mode, [program, kind, mode, "parse"], [program, kind, mode, "none"], b"1")
         theirs = [parsing_cost(kind, other, [peer, kind, other], [peer, kind, "none"], b"") for other in peers]
         parse_line(kind + " " + mode, [ours, *theirs, *none])

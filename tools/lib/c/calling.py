@@ -78,29 +78,20 @@ def wanted_of(case, room):
     return result, min(length, SIZE_MAX), case.text[: len(filled)] + filled[length:], False
 
 
-def wrong(case, room, *got):
-    """What is wrong with the result, the detail and the buffer that a call left, if anything is."""
-    *wanted, is_any = wanted_of(case, room)
-    if is_any and len(got[2]) == len(wanted[2]):
-        wanted[2] = got[2]
-    return None if tuple(wanted) == got else "wanted %d, detail %d, %r, got %d, detail %d, %r" % (*wanted, *got)
-
-
-def compare(faults, how, tried, answers):
-    for (case, room), answered in zip(tried, answers):
-        told = wrong(case, room, *answered)
-        if told:
-            faults.append("%s: %s%r in %s bytes: %s" % (how, case.call, case.arguments, room, told))
-    return len(tried)
-
-
 def answer(line):
     result, detail, left = line.split(" ")
     return int(result), int(detail), bytes.fromhex(left)
 
 
 def by_program(faults, program, tried, before=(), how="C", seconds=SECONDS):
-    return compare(faults, how, tried, map(answer, lines_of(program, tried, before, seconds=seconds)))
+    for (case, room), got in zip(tried, map(answer, lines_of(program, tried, before, seconds=seconds))):
+        *wanted, is_any = wanted_of(case, room)
+        if is_any and len(got[2]) == len(wanted[2]):
+            wanted[2] = got[2]
+        if tuple(wanted) != got:
+            told = how, case.call, case.arguments, room, *wanted, *got
+            faults.append("%s: %s%r in %s bytes: wanted %d, detail %d, %r, got %d, detail %d, %r" % told)
+    return len(tried)
 
 
 def without_detail(faults, program, tried):

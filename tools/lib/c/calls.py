@@ -1,7 +1,7 @@
 """The calls of libufmt_c: what each takes, and what it must return and leave, by models that share no code with the project: those
 of texts and of lines in tools/lib/model/ and tools/lib/log_model/, and Python's own decoding of UTF-8."""
 import re
-from typing import NamedTuple, Optional
+from collections import namedtuple
 
 from lib import data as tables, top
 from lib.log_model import log_model
@@ -26,20 +26,9 @@ NUMBER_SIZE = 8
 SIZE_MAX = 2**64 - 1
 # The longest buffer with which a text is tried that is longer than any.
 FRONT = 64
-
-
-class Case(NamedTuple):
-    """A call and its arguments: bytes, numbers, and tuples for structs. It writes a text; or it returns a result and,
-    if that is said, a detail. One without a buffer only returns, or leaves a number. Of a text whose length is said, only the
-    front is."""
-
-    call: str
-    arguments: tuple
-    text: Optional[bytes] = None
-    result: Optional[int] = None
-    detail: Optional[int] = None
-    length: Optional[int] = None
-    number: Optional[int] = None
+# A call and its arguments: bytes, numbers, and tuples for structs. It writes a text; or it returns a result and, if that is said, a detail.
+# One without a buffer only returns, or leaves a number. Of a text whose length is said, only the front is.
+Case = namedtuple("Case", "call arguments text result detail length number", defaults=(None, None, None, None, None))
 
 
 def has_buffer(case):
@@ -83,7 +72,7 @@ def in_other_mode(text_class, mode, data):
     """The text in the other mode; or None, and where the bytes stop being a text."""
     reader, text = READERS[MODES[mode], CLASSES[text_class].name], data.decode(errors="surrogateescape")
     document = reader.read(text)
-    return (None, reader.place(text)) if document is None else (PRINTERS[MODES[mode]](document).encode(), None)
+    return (None, reader.place(text)) if document is None else (PRINTERS[MODES[1 - mode]](document).encode(), None)
 
 
 def convert(text_class, to, data):
@@ -126,7 +115,6 @@ def parse_float(data):
 SPELLED = r'(?:\\(?:[0tnr"\\]|u\{(?:[1-8]|[bcef]|1[0-9a-f]|7f)\})|[^\x00-\x1f"\\\x7f])*'
 NUMBERED = r'\\u\{(?!d[89a-f][0-9a-f]{2}\})(?:0|[1-9a-f][0-9a-f]{0,4}|10[0-9a-f]{4})\}'
 DEBUG_SPELLED = r'(?:%s|\\[0tnr"\\]|[^\x00-\x1f"\\\x7f])*' % NUMBERED
-LETTERS = {"0": "\0", "t": "\t", "n": "\n", "r": "\r"}
 
 
 def unquote(spelled, data):
@@ -138,7 +126,7 @@ def unquote(spelled, data):
     if not matches('"%s"' % spelled, data):
         begins = [size for size in range(len(data) + 1) if matches('(?:"%s"?)?' % spelled, data[:size])]
         return {"result": NO_TEXT, "detail": begins[-1]}
-    text = re.sub(r"\\(?:u\{(\w+)\}|(.))", lambda it: chr(int(it[1], 16)) if it[1] else LETTERS.get(it[2], it[2]), data.decode()[1:-1])
+    text = re.sub(r"\\(?:u\{(\w+)\}|(.))", lambda it: chr(int(it[1], 16)) if it[1] else tables.LETTERS.get(it[2], it[2]), data.decode()[1:-1])
     return {"text": text.encode()}
 
 

@@ -9,7 +9,7 @@ from lib.expected.step import rows as printed_rows
 from lib.floats import patterns
 from lib.model import floats
 from lib.programs.cases import filled
-from lib.rows import formats
+from lib.rows import step as rows
 
 TEXTS = {part: [tables.data_of(row) for row in rows] for part, rows in tables.parts("c/texts.txt").items()}
 # Texts that no value prints, and some that are refused by token texts only; and such that aren't UTF-8.
@@ -53,7 +53,7 @@ def stored():
 def dumps():
     """The dumps of tools/data/rows."""
     for row in tables.rows_with_places():
-        for it, has_offsets, text in formats.dumps(row.words[1:], row.cells) if row.words[0] == "xxd" else ():
+        for it, has_offsets, text in rows.dumps(row.words[1:], row.cells) if row.words[0] == "xxd" else ():
             options = style("dump", it.per_row, it.group, it.offset, has_offsets, it.ascii)
             yield Case("dump", (it.payload, options), text=text.encode())
 
@@ -91,8 +91,7 @@ DEEP = (254, 255, 256, 300)
 
 
 def fields():
-    """The table of fields; lines that are cut, or longer, or have one byte changed; lines with many brackets; names that aren't
-    UTF-8."""
+    """The table of fields; lines that are cut, or longer, or have one byte changed; lines with many brackets; names that aren't UTF-8."""
     table, asked = tables.parts("c/fields.txt"), []
     for text_class, row in ((text_class, row) for text_class, part in enumerate(("token", "debug")) for row in table[part]):
         line, name, *found = map(tables.data_of, row.split(" => "))

@@ -8,20 +8,17 @@ import itertools
 import re
 import sys
 
-from lib import data, findings, measures, needs, running
-from lib.bench import build, frames
+from lib import data, findings, measures, running
+from lib.bench import build, stack
 from lib.c.calling import caller_in_c, here, request, run
 from lib.c.calls import CALLS, FRONT, Case, has_buffer
 from lib.c.cases import arguments, huge_options
 from lib.model.document import Block, list_of, plain, pretty, quoted, tuple_of
 
-TOLD = "Of `x try c`: steps"
 SIZES = (80, 160)
 # Of so many cases with huge options one is counted, in these buffers.
 HUGE_EACH, HUGE_ROOMS = 97, (None, FRONT, 4096)
-# What the rows of the table name, and what they are of each size.
-PIECES = {"escape": b'\x1b"', "space": b" ", "one": b"1", "word": b"word ", "then": b" word", "open": b"(a, ", "field": b"w: 1, ",
-          "struct": b'S { x: 1, y: "a", z: [1, 2] }', "structs": b'S { x: 1, y: "a", z: [1, 2] } '}
+# What the rows of the table name, as they are of each size.
 KINDS = {"letters": lambda size: b"a" * size, "escapes": lambda size: b'\n\x1b"' * size, "characters": lambda size: "\u20ac".encode() * size,
          "no UTF-8": lambda size: b"a" * size + b"\xff"}
 
@@ -47,11 +44,12 @@ def conversions(size):
 
 def tabled(size):
     """The calls of tools/data/c/sized.txt."""
-    texts = dict(PIECES)
+    tables = data.rows("c/sized.txt")
+    texts = {name: data.data_of(text) for name, text in tables.pop("pieces")}
     for number, text in enumerate(make(size) for make in KINDS.values()):
         quoted_text = quoted(text.decode(errors="replace")).encode()
         texts.update({"%d" % number: text, "%d-quoted" % number: quoted_text, "%d-lines" % number: text + b"\n" + b"b\n" * size})
-    for part, rows in data.rows("c/sized.txt").items():
+    for part, rows in tables.items():
         for (number, kind), (name, asked) in itertools.product(enumerate(KINDS if part == "each text" else [""]), rows):
             asked = asked.replace("SIZE", str(size)).replace("TWICE", str(2 * size)).replace("TEXT", str(number))
             call, *words = asked.split(" ")
@@ -85,12 +83,6 @@ def counted(program):
     return rows
 
 
-def compared_steps(faults, program):
-    rows = counted(program)
-    faults += measures.Table("c").faults(rows) if rows else []
-    return len(rows)
-
-
 def steps_of(program, name, asked):
     with running.room("c") as folder:
         counting = ["--tool=callgrind", "--combine-dumps=yes", "--toggle-collect=" + name, "--dump-after=" + name]
@@ -100,7 +92,7 @@ def steps_of(program, name, asked):
 
 
 def stacks(faults, program):
-    code, bounds = frames.Frames(program), measures.Table("stack").of("from C")
+    code, bounds = stack.Frames(program), measures.Table("stack").of("from C")
     for name in CALLS:
         most, (bound, _) = code.most("ufmt_" + name), bounds.get(name, (0, 0))
         if most.size > bound or most.level:
@@ -108,8 +100,5 @@ def stacks(faults, program):
             faults.append(findings.most(told, bound, found, "bytes of stack"))
 
 
-def measured_again(is_written):
-    needs.require("measure", "rt", "gcc", "valgrind")
-    with running.room("c") as room:
-        rows = counted(caller_in_c(room, build.library_for_c(room)))
-    return measures.measured_again("c", rows, TOLD, is_written)
+def measured(room):
+    return counted(caller_in_c(room, build.library_for_c(room))), []

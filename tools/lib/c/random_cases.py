@@ -26,12 +26,13 @@ class RandomCases:
         self.random = random.Random(seed)
         self.makers = Maker(seed), DebugMaker(seed)
         # The arguments of some calls together, and of the others each by its kind.
-        self.of_call = {"is_text": self.document_in_a_mode, "convert": self.document_to_a_mode, "field": self.field, "unquote": self.in_quotes,
-                        "unquote_debug": self.in_quotes, "parse_unsigned": self.digits, "parse_signed": self.digits, "parse_float": self.of_float,
-                        "difference": self.texts_alike, "first_difference": self.texts_alike}
+        self.of_call = {"is_text": self.document_in_a_mode, "convert": lambda: self.document_in_a_mode(is_other=True), "field": self.field,
+                        "unquote": self.in_quotes, "unquote_debug": self.in_quotes, "parse_unsigned": self.digits, "parse_signed": self.digits,
+                        "parse_float": self.of_float, "difference": self.texts_alike, "first_difference": self.texts_alike}
         self.of_kind = {"bytes": lambda: self.data(LONGEST), "text": lambda: self.data(LONGEST), "uint64_t": self.number,
-                        "int64_t": lambda: self.number() - 2**63, "size_t": self.decimals, "double": self.bits,
-                        "hex": self.hex_style, "dump": self.dump_style, "column": self.column_style}
+                        "int64_t": lambda: self.number() - 2**63, "size_t": lambda: self.random.choice((self.random.randrange(30), self.number())),
+                        "double": self.bits, "hex": self.hex_style, "column": self.column_style,
+                        "dump": lambda: (self.size("dump"), self.number(), self.number(), self.random.getrandbits(32), self.flag(), self.flag())}
 
     def made(self, count):
         found = []
@@ -84,9 +85,6 @@ class RandomCases:
         return self.random.choice((self.random.randrange(200), 2 ** self.random.randrange(64) - self.random.randrange(2),
                                    SIZE_MAX - self.random.randrange(3), self.random.getrandbits(64)))
 
-    def decimals(self):
-        return self.random.choice((self.random.randrange(30), self.number()))
-
     def bits(self):
         return self.random.choice((self.random.getrandbits(64), floats.reads("%d.5" % self.random.randrange(10**6), 64)))
 
@@ -103,9 +101,6 @@ class RandomCases:
         pad = self.mostly(self.random.randrange(128), self.random.randrange(128, 256))
         return self.size("hex"), self.number(), pad, self.flag(), self.flag()
 
-    def dump_style(self):
-        return self.size("dump"), self.number(), self.number(), self.random.getrandbits(32), self.flag(), self.flag()
-
     def column_style(self):
         fill = self.mostly(ord(self.random.choice((" ", "\0", any_character(self.random)))), self.random.choice((0xD800, 0x110000)))
         return self.size("column"), self.number(), fill, self.mostly(self.random.randrange(3), 3)
@@ -121,9 +116,6 @@ class RandomCases:
         data = self.document()
         is_pretty = b"\n" in data and self.random.randrange(9) or self.flag()
         return self.one_of_two(), self.one_of_two(int(bool(is_pretty) != is_other)), data
-
-    def document_to_a_mode(self):
-        return self.document_in_a_mode(is_other=True)
 
     def field(self):
         """A field that the line has, or nearly has: one of a document in it, with anything before and after."""

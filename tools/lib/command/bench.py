@@ -18,7 +18,7 @@ numbers each time. Without a NAME it measures all, one after another. The progra
 import pathlib
 
 from lib import needs, running, top
-from lib.command.arguments import add_names
+from lib.command.main import add_names
 
 # What prints the figures, of a folder and what is asked, and may return a status; and what it needs.
 TABLES = {"calls": ("lib.bench.calls:table", "rt valgrind gcc readelf"), "texts": ("lib.bench.tables:texts", "rt valgrind"),

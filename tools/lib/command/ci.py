@@ -14,7 +14,7 @@ import time
 
 from lib import needs, running, steps, top
 from lib.command import trying
-from lib.command.arguments import add_jobs
+from lib.command.main import add_jobs
 from lib.running import say
 
 # What `rt ci` says of a crate that it has checked, or need not check.

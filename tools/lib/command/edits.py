@@ -9,7 +9,7 @@ import shutil
 import subprocess
 
 from lib import running
-from lib.command.arguments import add_names
+from lib.command.main import add_names
 from lib.top import TOP
 
 SAYS = "rt: must-fail "

@@ -14,7 +14,7 @@ import shutil
 from lib import running
 from lib.bench import build
 from lib.command import check
-from lib.command.arguments import add_jobs, add_names
+from lib.command.main import add_jobs, add_names
 from lib.data import DATA
 from lib.findings import ended
 from lib.top import TOP, closure, listed

@@ -17,7 +17,7 @@ import shutil
 
 from lib import running
 from lib.bench import build
-from lib.command.arguments import add_names
+from lib.command.main import add_names
 from lib.findings import ended
 from lib.top import TOP, closure, listed
 

@@ -30,12 +30,6 @@ def add_arguments(parser):
     parser.add_argument("--check", action="store_true", help="compares the files, and prints a line for each that differs")
 
 
-def formatted(files):
-    """Formats the crates of these files, as docs/API.md shows lines of them."""
-    for crate in sorted({name.split("/")[1] for name, _ in files}):
-        output_of(["rt", "fmt"], cwd=TOP / "crates" / crate)
-
-
 def main(given):
     # These parts compare their files by this module.
     from lib.api import page as calls
@@ -46,5 +40,7 @@ def main(given):
         return max(part.main(given) for part in (by_count, calls, promises))
     needs.require("generate", "rt")
     write(by_count.files())
-    formatted(by_count.files())
+    # docs/API.md shows lines of these files.
+    for crate in sorted({name.split("/")[1] for name, _ in by_count.files()}):
+        output_of(["rt", "fmt"], cwd=TOP / "crates" / crate)
     return max(write(part.files()) for part in (calls, promises))

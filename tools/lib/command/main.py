@@ -4,24 +4,30 @@ import importlib
 import signal
 import sys
 
-from lib import running
+from lib import needs, running
 
-# Each command is a module, with the text of its help, `add_arguments` and `main`.
-COMMANDS = {
-    "new": "lib.command.new", "update": "lib.command.update", "check": "lib.command.check", "test": "lib.command.test", "try": "lib.command.trying",
-    "ci": "lib.command.ci", "bench": "lib.command.bench", "measure": "lib.command.measure", "dist": "lib.command.dist", "install": "lib.command.install",
-    "uninstall": "lib.command.uninstall", "edits": "lib.command.edits", "clauses": "lib.command.clauses", "forms": "lib.command.forms",
-    "fields": "lib.command.fields",
-    "generate": "lib.command.generate", "list": "lib.command.listing", "rust": "lib.rust.command",
-}
-
-
-def interrupted(_number, _frame):
-    raise KeyboardInterrupt
+# Each command is a module of this folder, by its own name or by another one, with the text of its help, `add_arguments` and `main`.
+COMMANDS = "new update check test try ci bench measure dist install uninstall edits clauses forms fields generate list rust".split()
+MODULES = {"try": "lib.command.trying", "list": "lib.command.listing", "rust": "lib.rust.command"}
 
 
 def module_of(command):
-    return importlib.import_module(COMMANDS[command])
+    return importlib.import_module(MODULES.get(command, "lib.command." + command))
+
+
+def add_names(parser, name, names, told, dest="names"):
+    """Any number of words, each of which must be one of these names."""
+
+    def known(word):
+        if word not in names:
+            raise argparse.ArgumentTypeError("there is no %s; there are %s" % (word, ", ".join(sorted(names))))
+        return word
+
+    parser.add_argument(dest, metavar=name, nargs="*", type=known, help=told)
+
+
+def add_jobs(parser, told):
+    parser.add_argument("--jobs", metavar="N", type=int, default=min(4, needs.processors()), help="how many %s side by side (%%(default)s)" % told)
 
 
 def parser():
@@ -40,7 +46,7 @@ def parser():
 def main(words):
     given = parser().parse_args(words)
     for number in (signal.SIGINT, signal.SIGTERM, signal.SIGHUP):
-        signal.signal(number, interrupted)
+        signal.signal(number, signal.default_int_handler)
     try:
         return module_of(given.command).main(given)
     except KeyboardInterrupt:

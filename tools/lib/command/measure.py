@@ -10,12 +10,13 @@ With `--write` it writes the tables in tools/data/measured again. What `costs`, 
 built with nothing proved; `texts` and `logs` count the proved programs that `rt ci` leaves.
 The status is 0 if each bound is in the band.
 """
-from lib import running, top
-from lib.command.arguments import add_names
+from lib import findings, measures, needs, running, top
+from lib.command.main import add_names
 
-# The module of each, with `measured_again(is_written)`, which returns the status.
-MEASURED = {"costs": "lib.costs.step", "c": "lib.c.costs", "floats": "lib.floats.step", "texts": "lib.model.step",
-            "logs": "lib.log_model.log_costs"}
+# What counts the rows of each in a folder, and may find faults; and what it needs.
+MEASURED = {"costs": ("lib.costs.step:measured", "rt cc valgrind"), "c": ("lib.c.costs:measured", "rt gcc valgrind"),
+            "floats": ("lib.floats.step:measured", "rt valgrind"), "texts": ("lib.model.step:measured", "cc valgrind"),
+            "logs": ("lib.log_model.log_costs:measured", "cc valgrind")}
 
 
 def add_arguments(parser):
@@ -25,4 +26,16 @@ def add_arguments(parser):
 
 def main(given):
     running.heartbeat("x measure")
-    return max(top.function_of(MEASURED[name] + ":measured_again")(given.write) for name in given.names or MEASURED)
+    return max(measured(name, given.write) for name in given.names or MEASURED)
+
+
+def measured(name, is_written):
+    """Writes a table again, or names each row whose bound left the band. Returns the status."""
+    place, needed = MEASURED[name]
+    needs.require("measure", *needed.split())
+    with running.room("measure") as room:
+        found, faults = top.function_of(place)(room)
+    table = measures.Table(name)
+    if is_written:
+        table.write(found)
+    return findings.ended([*faults, *([] if is_written else table.left(found))], "%s: %d calls counted" % (name, len(found)))

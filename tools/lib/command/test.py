@@ -11,7 +11,7 @@ import re
 import sys
 
 from lib import needs, running, top
-from lib.command.arguments import add_jobs
+from lib.command.main import add_jobs
 from lib.running import say
 
 TEST = re.compile(r"^\s*#\[test\]", re.M)

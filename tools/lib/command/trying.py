@@ -6,18 +6,16 @@ of each step's file say what it does in full.
 """
 import argparse
 import sys
-from typing import NamedTuple, Optional
+from collections import namedtuple
 
 from lib import needs, running, steps, top
-from lib.command.arguments import add_jobs, add_names
+from lib.command.main import add_jobs, add_names
 from lib.running import say
-
-KINDS = (steps.SOURCES, steps.UNPROVED, steps.BUILT)
 
 
 def epilog():
     lines = []
-    for kind in KINDS:
+    for kind in steps.KINDS:
         its = [step for step in sorted(steps.STEPS) if step.kind == kind]
         lines += ["", "Of %s:" % kind, *("  %-10s %s" % (step.name, step.told) for step in its)]
     return "\n".join(lines).strip() + "\n\nBuilt programs are those that `rt ci` leaves, or `rt run` in each program's crate."
@@ -51,13 +49,8 @@ def say_missing(tried):
         say("%s: %s" % (needs.told(name), "; ".join("%s: %s" % (kind, ", ".join(its)) for kind, its in kinds.items() if its)))
 
 
-class Result(NamedTuple):
+class Result(namedtuple("Result", "name seconds status found")):
     """How a step ended, with what it found in one line."""
-
-    name: str
-    seconds: float
-    status: Optional[int]
-    found: str
 
     def said(self):
         return {0: "passed", None: "skipped"}.get(self.status, "FAILED")
@@ -80,7 +73,7 @@ def main(given):
     say_missing(tried)
     if len(given.names) == 1:
         running.heartbeat("x try %s" % tried[0].name)
-        return 0 if needs.missing(tried[0].needs) else tried[0].main(given)
+        return 0 if needs.missing(tried[0].needs) else top.function_of(tried[0].place)(given)
     return closing(list(all_of(tried, words_of(given), given.jobs)))
 
 

@@ -55,8 +55,7 @@ def is_pub(source, at):
 
 
 def clauses_of(source, at):
-    """The clauses of the function at `at`: the kind of each, its names, and where its tokens begin and end; and where its
-    body begins."""
+    """The clauses of the function at `at`: the kind of each, its names, and where its tokens begin and end; and where its body begins."""
     found = []
     while source.name(at) not in ("", "{", ";"):
         if source.name(at) in CLAUSES:

@@ -38,8 +38,7 @@ def sum_of(path):
 
 
 class Kept:
-    """The file in this folder of crates. `sums` has each file's sum by its path below the folder, `lines` what each crate stands
-    on."""
+    """The file in this folder of crates. `sums` has each file's sum by its path below the folder, `lines` what each crate stands on."""
 
     def __init__(self, crates):
         self.path = crates / COPIED
@@ -169,16 +168,12 @@ class Copies:
 
     def end(self):
         """Writes what is kept and crates.txt, and says what stays as it is."""
-        self.kept.version = version()
+        self.kept.version = "%s, commit %s" % (top.version(), top.commit())
         (self.crates / COPIED).parent.mkdir(parents=True, exist_ok=True)
         self.kept.write()
         self.lines.write()
         for line in self.said:
             print(line)
-
-
-def version():
-    return "%s, commit %s" % (top.version(), top.commit())
 
 
 def repository_here(command):

@@ -1,14 +1,14 @@
 """Writes the tests of each form of each macro: every kind of piece in each place, and many numbers of fields,
 with and without the comma at the end. What is to be printed is written here, as core::fmt has it.
 
-Where the macros are called, `Result`, `Ok` and their like are names of other things, and what a macro names
-of the libraries has no name of its own. tools/data/crates/grammar has the file's head, the tests of enums,
-each kind of piece with its text, and the forms for each number of fields, where words in capitals stand for
-what depends on that number.
+Where the macros are called, `Result`, `Ok` and their like are names of other things, and what a macro names of the libraries has no name of
+its own. tools/data/crates/grammar has the file's head, the tests of enums, each kind of piece with its text, and the forms for each number
+of fields, where words in capitals stand for what depends on that number.
 """
 import re
 
 from lib import data
+from lib.model.document import quoted
 
 COUNTS = (0, 1, 2, 3, 12, 13, 14, 24, 25)
 MORE_COUNTS = tuple(range(26))
@@ -20,10 +20,6 @@ FOLDER = data.DATA / "crates" / "grammar"
 WRITTEN, ALONE = ([list(map(data.text_of, row.split(" => "))) for row in rows]
                   for rows in data.parts("crates/grammar/pieces.txt").values())
 FORMS = data.parts("crates/grammar/fields.txt")
-
-
-def quoted(text):
-    return '"%s"' % text.replace("\\", "\\\\").replace('"', '\\"').replace("\n", "\\n")
 
 
 def row(source, text, number):
@@ -113,33 +109,24 @@ def line(pieces, first):
     return ", ".join(source for source, _ in filled_in), "".join(text for _, text in filled_in)
 
 
-def pieces_tests():
-    for place, comma in enumerate(("", ",")):
-        rows = []
-        for number, pieces in enumerate(lines_of(WRITTEN + ALONE), 1):
-            source, text = line(pieces, 100 + 3 * number)
-            rows.append(row("pieces!(%s%s).print(out)" % (source, comma), text, number))
-        yield test("pieces_%d" % place, rows)
+# A test of lines: its name, its calls, the kinds of pieces, and what comes after their text.
+LINE_TESTS = (("pieces_0", ["pieces!(%s).print(out)"], WRITTEN + ALONE, ""), ("pieces_1", ["pieces!(%s,).print(out)"], WRITTEN + ALONE, ""),
+              ("uwrite_pieces", ["uwrite!(out, %s)", "uwrite!(out, %s,)"], WRITTEN, ""),
+              ("uwriteln_pieces", ["uwriteln!(out, %s)", "uwriteln!(out, %s,)"], WRITTEN, "\n"))
+
+
+def line_tests():
+    for name, calls, kinds, end in LINE_TESTS:
+        lines = [(number, *line(pieces, 100 + 3 * number)) for number, pieces in enumerate(lines_of(kinds), 1)]
+        yield test(name, [row(call % source, text + end, number) for number, source, text in lines for call in calls])
     yield test("no_pieces", [row("pieces!().print(out)", "", 1)])
-    rows = []
-    for count in LINES:
-        source, text = line([WRITTEN[place % 2] for place in range(count)], 100 + count)
-        rows.append(row("pieces!(%s).print(out)" % source, text, count))
-    yield test("numbers_of_pieces", rows)
-
-
-def uwrite_tests():
-    for name, end in (("uwrite", ""), ("uwriteln", "\n")):
-        rows = []
-        for number, pieces in enumerate(lines_of(WRITTEN), 1):
-            source, text = line(pieces, 100 + 3 * number)
-            rows += [row("%s!(out, %s%s)" % (name, source, comma), text + end, number) for comma in ("", ",")]
-        yield test("%s_pieces" % name, rows)
+    lines = [(count, *line([WRITTEN[place % 2] for place in range(count)], 100 + count)) for count in LINES]
+    yield test("numbers_of_pieces", [row("pieces!(%s).print(out)" % source, text, count) for count, source, text in lines])
 
 
 def source(is_all):
     counts = MORE_COUNTS if is_all else COUNTS
     parts = [(FOLDER / "head.rt.txt").read_text(), *map(types, sorted({*counts, *PARSED}))]
-    parts += [*map(fields_test, counts), *pieces_tests(), *uwrite_tests()]
+    parts += [*map(fields_test, counts), *line_tests()]
     parts += [part for count in PARSED for part in parse_fields_tests(count)]
     return "".join([*parts, "\n", (FOLDER / "variants.rt.txt").read_text()])

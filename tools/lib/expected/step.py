@@ -10,11 +10,11 @@ the calls of both classes say of them is compared with what the model says.
 """
 import itertools
 import re
-from typing import NamedTuple
+from collections import namedtuple
 from urllib.parse import unquote
 
 from lib import data, needs
-from lib.findings import case, ended
+from lib.findings import differences, ended
 from lib.model.reading import MODES, converted
 from lib.model.step import wrong_lines
 from lib.top import TOP
@@ -23,14 +23,8 @@ DATA = TOP / "tools" / "expected"
 CLASSES = ("token", "debug")
 OF_REASON = {"token": ("token",), "debug": ("debug",), "both": CLASSES}
 REASON = re.compile(r"(token|debug|both): (same|another|refused), (same|another|refused)\. (\S.*)")
-
-
-class Row(NamedTuple):
-    """A value's texts by `{:?}` and by `{:#?}`."""
-
-    name: str
-    plain: str
-    pretty: str
+# A value's texts by `{:?}` and by `{:#?}`.
+Row = namedtuple("Row", "name plain pretty")
 
 
 def rows():
@@ -83,16 +77,12 @@ def wrong_tables(stored, listed):
 
 
 def main(_given):
-    stored, listed, whole = rows(), reasons(), []
+    stored, listed = rows(), reasons()
+    found = {(row.name, name): outcomes(name, row) for name in CLASSES for row in stored}
+    whole = [sum(its == SAME for (_, of), its in found.items() if of == name) for name in CLASSES]
+    wanted = {key: listed.get(key, SAME) for key in found}
     faults = list(wrong_tables(stored, listed))
-    for name in CLASSES:
-        found = [outcomes(name, row) for row in stored]
-        whole.append(found.count(SAME))
-        for row, its in zip(stored, found):
-            wanted = listed.get((row.name, name), SAME)
-            if its != wanted:
-                why = "by its reason" if (row.name, name) in listed else "it has no reason"
-                faults.append(case("%s, %s" % (row.name, name), "%s, %s (%s)" % (*wanted, why), "%s, %s" % its))
+    faults += differences(wanted, found, lambda key: "%s, %s (%s reason)" % (*key, "by its" if key in listed else "without a"))
     if 150 * whole[1] < LEAST_OF_150 * len(stored):
         faults.append("debug texts: %d rows both ways, and not at least %d of 150" % (whole[1], LEAST_OF_150))
     texts = list(dict.fromkeys(text.encode() for row in stored for text in (row.plain, row.pretty)))

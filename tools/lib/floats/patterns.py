@@ -11,8 +11,7 @@ HARD = {part: " ".join(rows).split() for part, rows in data.parts("floats/hard.t
 
 
 def round_numbers():
-    """Whole numbers of Ryu's tests: those of the first digits, ten to a power and a lower one, powers of two, and a thousand of
-    these."""
+    """Whole numbers of Ryu's tests: those of the first digits, ten to a power and a lower one, powers of two, and a thousand of these."""
     yield from (int("123456789012345678"[:count]) for count in range(1, 17))
     yield from (10**15 + 10**power for power in range(15))
     for power in range(16):

@@ -12,14 +12,13 @@ import functools
 import shutil
 import subprocess
 
-from lib import findings, measures, needs, running
-from lib.bench import build, frames, tables
+from lib import findings, measures, running
+from lib.bench import build, stack, tables
 from lib.data import DATA
 from lib.findings import case, ended
 from lib.floats import patterns
 
 COUNT = 20_000
-TOLD = "Of `x try floats`: steps of a `{:?}` and the loop around it, and after a colon of one with decimals"
 
 
 def built(name, libraries, room):
@@ -66,7 +65,7 @@ def past_bounds(program, counts):
     """A line for each call that takes more steps than its bound, and for each function that is past a bound of stack, where there
     is objdump."""
     past = list(measures.Table("floats").faults(counts)) if counts else []
-    known = frames.Frames(program) if shutil.which("objdump") else None
+    known = stack.Frames(program) if shutil.which("objdump") else None
     for name, (most, own) in measures.Table("stack").of("float").items() if known else ():
         function = "by_ufmt::" + name
         taken = known.most(function).size, known.frames[known.addresses[function]].size
@@ -75,10 +74,8 @@ def past_bounds(program, counts):
     return past
 
 
-def measured_again(is_written):
-    needs.require("measure", "rt", "valgrind")
-    with running.room("floats") as room:
-        return measures.measured_again("floats", counted(by_ufmt(room)), TOLD, is_written)
+def measured(room):
+    return counted(by_ufmt(room)), []
 
 
 def main(given):

@@ -85,7 +85,7 @@ def sources():
     """The text of each source by its name below crates/."""
     crates = [path.name for path in CRATES.iterdir() if is_ours(path.name) or path.name.startswith("example_")]
     paths = [path for crate in sorted(set(crates) - LEFT_OUT) for path in sorted((CRATES / crate / "src").rglob("*.rt"))]
-    return {str(path.relative_to(CRATES)): path.read_text() for path in paths if not TESTS & set(path.parts)}
+    return {str(path.relative_to(CRATES)): path.read_text() for path in paths if not TESTS & set(path.relative_to(CRATES).parts)}
 
 
 def table():

@@ -9,21 +9,17 @@ import os
 import pathlib
 import socket
 import subprocess
-from typing import NamedTuple, Optional
+from collections import namedtuple
+
+from lib.findings import shown
 
 # The size that is asked for of a socket's buffer. Linux doubles it. The longest outputs have 270,000 bytes.
 ROOM = 200_000
 LONGEST = 350_000
 # An output that doesn't come in this time is a fault.
 SECONDS = 20
-
-
-class Ended(NamedTuple):
-    """The status of a run, and how many reads and writes it made, each None if the system doesn't count them."""
-
-    status: int
-    reads: Optional[int]
-    writes: Optional[int]
+# The status of a run, and how many reads and writes it made, each None if the system doesn't count them.
+Ended = namedtuple("Ended", "status reads writes")
 
 
 def ended(process):
@@ -61,10 +57,6 @@ def channel():
 def rest(end):
     """The messages up to the end. An empty one can't be told from the end."""
     return list(iter(lambda: end.recv(most(end)), b""))
-
-
-def shown(data):
-    return repr(data if len(data) <= 80 else data[:50] + b".." + data[-30:])
 
 
 def wrong_round(ours, number, chunk, writes):

@@ -1,32 +1,25 @@
 """What a run of ufmt_lines costs on logs of each shape, beside what was measured in the past:
 tools/data/measured/logs.txt (tools/lib/measures.py).
 
-Steps are counted on a log of 32 KiB, less those of a run on no log: with one step more for each pair of
-bytes, each byte would cost 16,384 steps more. Memory, reads and writes are those of a log of 512 KiB: most of
-them hold a line or a group.
+Steps are counted on a log of 32 KiB, less those of a run on no log: with one step more for each pair of bytes, each byte would cost 16,384
+steps more. Memory, reads and writes are those of a log of 512 KiB: most of them hold a line or a group.
 """
+from collections import namedtuple
 from concurrent.futures import ThreadPoolExecutor
-from typing import Callable, NamedTuple
 
 from lib import data, measures, needs, running
 from lib.model.counter import Counter
 from lib.model.document import list_of, pretty
 
 SIZE, LONG_SIZE = 32 * 1024, 512 * 1024
-MEASURED, TOLD = "logs", "Of `x try logs`: steps on a log of 32 KiB, less those of a run on no log; and memory, reads and writes"
+MEASURED = "logs"
 LABELS = ("allocations", "most", "left", "reads", "writes")
 # The arguments of ufmt_lines for each mode that it writes.
 ARGUMENTS = {"pretty": [], "plain": ["--plain"]}
 # A run that takes longer is a fault.
 SECONDS = 120
-
-
-class Shape(NamedTuple):
-    """A log of this shape for a size in bytes."""
-
-    name: str
-    mode: str
-    log: Callable[[int], bytes]
+# A log of this shape for a size in bytes.
+Shape = namedtuple("Shape", "name mode log")
 
 
 def repeated(row):
@@ -89,6 +82,5 @@ def faults(path):
     return list(measures.Table(MEASURED).faults(rows, is_whole=len(rows) > len(SHAPES)))
 
 
-def measured_again(is_written):
-    needs.require("measure", "cc", "valgrind")
-    return measures.measured_again(MEASURED, counted(needs.built("ufmt_lines")), TOLD, is_written)
+def measured(_room):
+    return counted(needs.built("ufmt_lines")), []

@@ -4,12 +4,10 @@ A mode is the name of the texts that are written: "pretty", or "plain" for `--pl
 """
 import re
 
-from lib.model.document import STRUCTS, plain, pretty
-from lib.model.reading import DEBUG, READERS, PlainReader, PrettyReader
+from lib.model.document import STRUCTS, decoded, encoded, plain
+from lib.model.reading import DEBUG, PRINTERS, READERS, PlainReader, PrettyReader
 
-# What prints the documents of each mode, and what reads its texts: those of the other one.
-PRINTERS = {"pretty": pretty, "plain": plain}
-MODES = tuple(PRINTERS)
+# What reads the texts for each mode: those of the other one.
 OTHERS = {"pretty": PlainReader(DEBUG), "plain": PrettyReader(DEBUG)}
 # How long a plain text is at most that stays, if nothing else is said.
 LONGER_THAN = 40
@@ -21,14 +19,6 @@ BRACKET = re.compile(r"[(\[{]")
 NAME_BYTE = re.compile(r"""[^\x00-\x1f\x7f "'(),\[\]{}]""")
 # The line of the first entry of a pretty block begins so.
 FIRST_LINE = "\n    "
-
-
-def decoded(log):
-    return log.decode("utf-8", "surrogateescape")
-
-
-def encoded(text):
-    return text.encode("utf-8", "surrogateescape")
 
 
 def name_start(text, at, end):
@@ -70,8 +60,7 @@ def start_of(mode, text, at, opening):
 
 
 def read_from(reader, text, start, is_alone=False):
-    """The document that begins here and where it ends. A reader looks back from a colon, for a quote: it sees nothing of what is
-    before."""
+    """The document that begins here and where it ends. A reader looks back from a colon, for a quote: it sees nothing of what is before."""
     if not is_alone and not text.startswith(":", start):
         return reader.document_at(text, start, 0)
     found = reader.document_at(text[start:], 0, 0)

@@ -13,9 +13,11 @@ import random
 import shutil
 
 from lib import data, needs
-from lib.findings import ended
+from lib.findings import ended, shown
 from lib.log_model import devices, log_costs, log_model, logs
 from lib.model import verdicts
+from lib.model.documents import Maker
+from lib.model.reading import MODES
 
 LIMITS = (0, 8, 40)
 NAMED, PIECES = ([data.data_of(row) for row in data.parts("logs/nasty.txt")[part]] for part in ("named", "pieces"))
@@ -51,8 +53,8 @@ def law_faults(count, seed):
     return found
 
 
-# How many logs there are, how many a process runs, and how many texts ufmt_conv reads.
-COUNT, BATCH, TEXTS = 60, 25, 40
+# How many logs there are, how many a process runs, and how many texts of each class ufmt_conv reads.
+COUNT, BATCH, TEXTS = 60, 25, 100
 COMMANDS = ("lengths", "pretty", "plain")
 
 
@@ -67,7 +69,7 @@ def sent(mode, log, chunks):
 
 def wrong_runs(paths, batch):
     faults = []
-    for (log, chunks), mode in itertools.product(batch, log_model.MODES):
+    for (log, chunks), mode in itertools.product(batch, MODES):
         pieces, rounds = sent(mode, log, chunks)
         for path in paths:
             fault = devices.fault(path, log_costs.ARGUMENTS[mode], pieces, rounds)
@@ -79,15 +81,16 @@ def wrong_runs(paths, batch):
 def wrong_texts(path, seed):
     """The faults of runs of ufmt_conv, which waits for the end of its input and writes its output at once. Its reads take a long
     text in chunks of 64 KiB: one that is in the middle of them takes only their rest."""
-    maker, faults = logs.Maker(seed), []
-    given = [(text, maker.chunks(text)) for text in (maker.text() for _ in range(TEXTS)) if len(text) < logs.CHUNK]
+    maker, tokens, faults = logs.Maker(seed), Maker(seed), []
+    texts = [make() for make in (maker.text, tokens.data) for _ in range(TEXTS)]
+    given = [(text, maker.chunks(text)) for text in texts if len(text) < logs.CHUNK]
     given += [(b"".join(chunks), chunks) for chunks in (logs.whole(b"a" * 150_000), logs.each_first_byte(), logs.each_last_byte())]
     for (text, chunks), command in itertools.product(given, COMMANDS):
         status, output, line = verdicts.outcome(command, text)
         last = [output.encode()] if output else []
         fault = devices.fault(path, [command], chunks, [[] for _ in chunks] + [last], status, line.encode())
         if fault:
-            faults.append("%s %s of %s: %s" % (path.name, command, devices.shown(text), fault))
+            faults.append("%s %s of %s: %s" % (path.name, command, shown(text), fault))
     return faults
 
 

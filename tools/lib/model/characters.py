@@ -6,7 +6,6 @@ TABLES = data.parts("texts/characters.txt")
 ENDS = [int(end, 16) for row in TABLES["ends"] for ends in row.split() for end in ends.split("-")]
 SINGLE = [int(code, 16) for row in TABLES["single"] for code in row.split()]
 NO_UTF_8 = [data.data_of(row) for row in TABLES["no UTF-8"]]
-PLANES = range(17)
 MARK = "\ufeff"
 ENCODINGS = ("utf-16-le", "utf-16-be", "utf-16", "utf-32-le", "utf-32-be", "utf-32")
 SAMPLES = ('[x, "y"]', '[\n    x,\n    "y",\n]', "Node { value: 1 }", "x", '"x"', "'x'", "()", "{a: (1,)}")
@@ -18,13 +17,9 @@ def is_scalar(code):
     return not 0xD800 <= code <= 0xDFFF
 
 
-def codes():
-    """The codes of each class: in each plane the first, one within, the last and the two before it."""
-    of_planes = {(plane << 16) + low for plane in PLANES for low in (0, 0x1234, 0x8000, 0xFFFD, 0xFFFE, 0xFFFF)}
-    return sorted(code for code in of_planes | set(ENDS) | set(SINGLE) | set(range(128)) if is_scalar(code))
-
-
-CODES = codes()
+# The codes of each class: in each plane the first, one within, the last and the two before it.
+OF_PLANES = {(plane << 16) + low for plane in range(17) for low in (0, 0x1234, 0x8000, 0xFFFD, 0xFFFE, 0xFFFF)}
+CODES = sorted(filter(is_scalar, {*OF_PLANES, *ENDS, *SINGLE, *range(128)}))
 
 
 def any_character(random):

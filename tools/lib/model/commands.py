@@ -1,9 +1,9 @@
 """Runs of ufmt_conv and ufmt_lines: what they take of steps, memory and calls of their devices, beside what was measured in the past,
-the rows of tools/data/measured/texts.txt; and texts of 16 MiB and a million lines, with outputs that are known by how they are made."""
+the rows of tools/data/measured/texts.txt; and texts of 16 MiB by the calls of the library."""
 import resource
 import subprocess
+from collections import namedtuple
 from concurrent.futures import ThreadPoolExecutor
-from typing import NamedTuple
 
 from lib import measures
 from lib.log_model import log_model
@@ -18,21 +18,12 @@ READ_BYTES, READS = 10, 2000
 LABELS = ("allocations", "bytes", "growths", "held", "most", "left", "reads", "writes")
 # What is before the text of a line, as in a log.
 STAMP = "12:00: "
-
-
-class Run(NamedTuple):
-    """A run of a program by its name, with its words, its input and its output, if that is known."""
-
-    name: str
-    program: str
-    words: tuple
-    data: bytes
-    output: bytes = None
+# A run of a program by its name, with its words, its input and its output, if that is known.
+Run = namedtuple("Run", "name program words data output", defaults=(None,))
 
 
 def conv_runs():
-    """Runs of ufmt_conv: on a list of each shape, on some shapes that are longer, and on lines of each
-    length."""
+    """Runs of ufmt_conv: on a list of each shape, on some shapes that are longer, and on lines of each length."""
     made = shapes.documents()
     few, many = (list_of(*(make(size) for make in made.values())) for size in (COUNTED_SIZE, 32 * COUNTED_SIZE))
     documents = {"a list of each shape": few, "a long list of each shape": many}
@@ -51,8 +42,7 @@ def conv_runs():
 
 
 def line_runs(is_plain):
-    """A run of ufmt_lines for each shape, on a group of lines, with its values in the other mode by the model
-    of logs."""
+    """A run of ufmt_lines for each shape, on a group of lines, with its values in the other mode by the model of logs."""
     name, mode = ("ufmt_lines --plain", "plain") if is_plain else ("ufmt_lines", "pretty")
     texts = {shape: (pretty if is_plain else plain)(make(4 * COUNTED_SIZE))
              for shape, make in {**shapes.documents(), **shapes.debug_documents()}.items()}
@@ -117,8 +107,7 @@ def faults_of(counter, programs, part):
 
 
 def short_reads():
-    """What is read in few bytes: of ufmt_conv one text, of ufmt_lines a line for each read, and a line or
-    group of all."""
+    """What is read in few bytes: of ufmt_conv one text, of ufmt_lines a line for each read, and a line or group of all."""
     yield Run("ufmt_conv pretty", "ufmt_conv", ("pretty",), plain(list_of(*["12345678"] * READS)).encode())
     for name, words in (("ufmt_lines", ()), ("ufmt_lines --plain", ("--plain",))):
         yield Run(name, "ufmt_lines", words, b"a line: 7\n" * READS)
@@ -151,7 +140,6 @@ def measured_rows(counter, programs):
 # ---- Large texts. None of their costs is counted.
 
 SIZE = 16 * 1024 * 1024
-LINES = 1_000_000
 # A run that takes more seconds of the processor is a fault.
 PROCESSOR_SECONDS = 60
 
@@ -160,63 +148,26 @@ def listed(leaf, count):
     return "[%s]" % ", ".join([leaf] * count), "[\n%s]" % ("    %s,\n" % leaf * count)
 
 
-# Each makes both texts of a document. The model judges a list of fewer words, in some minutes.
+# Each makes both texts of a document. Of a list of more words the model would take many minutes.
 DOCUMENTS = {
-    "a long word": lambda: ("x" * SIZE,) * 2,
-    "a long text": lambda: ('"%s"' % ("a" * SIZE),) * 2,
+    "a long word": lambda: ("x" * SIZE,),
+    "a long text": lambda: ('"%s"' % ("a" * SIZE),),
     "a list of long words": lambda: listed("x" * 65536, SIZE // 65536),
-    "a list of short words": lambda: listed("x", SIZE // 3),
-    "a list of fewer short words": lambda: listed("x", 1_500_000),
+    "a list of short words": lambda: listed("x", 1_500_000),
 }
-*CONVERTED, SHORT, FEWER = DOCUMENTS
-JUDGED, CONVERTED = (*CONVERTED, FEWER), (*CONVERTED, SHORT)
-# The runs of the commands on them are in so many parts.
-LARGE_PARTS = len(CONVERTED) + 1
 
 
-def document_runs(name):
-    """Runs of the commands: of which program, its arguments, its input and its output."""
-    by_plain, by_pretty = DOCUMENTS[name]()
-    lengths = ", ".join(str(len(line)) for line in by_pretty.split("\n"))
-    yield name, "ufmt_conv", ["pretty"], by_plain, by_pretty + "\n"
-    yield name, "ufmt_conv", ["plain"], by_pretty, by_plain + "\n"
-    yield name, "ufmt_conv", ["lengths"], by_pretty, "[%s]\n" % lengths
-    yield name, "ufmt_lines", [], STAMP + by_plain + "\n", STAMP + by_pretty + "\n"
-    yield name, "ufmt_lines", ["--plain"], STAMP + by_pretty + "\n", STAMP + by_plain + "\n"
-
-
-def runs_of_lines():
-    yield "a million lines", "ufmt_conv", ["lengths"], "x\n" * LINES, "[%s]\n" % ", ".join(["1"] * LINES)
-    short, long = STAMP + "[1, 2]\n", STAMP + "[\n    1,\n    2,\n]\n"
-    yield "a million lines", "ufmt_lines", ["--longer-than", "0"], short * LINES, long * LINES
-    yield "a million groups", "ufmt_lines", ["--plain"], long * LINES, short * LINES
-
-
-def verdict_runs():
-    """Runs of probe_model, and the lines that it should print."""
-    for name in JUDGED:
-        for text in dict.fromkeys(DOCUMENTS[name]()):
-            yield name, "probe_model", [], "%d\n%s" % (len(text), text), verdicts.verdict(text.encode())[0] + "\n"
-
-
-def run_fault(program, arguments, data, wanted):
-    ran = subprocess.run([str(program), *arguments], input=data.encode(), capture_output=True,
+def run_fault(program, text):
+    ran = subprocess.run([str(program)], input=b"%d\n%s" % (len(text), text), capture_output=True,
                          preexec_fn=lambda: resource.setrlimit(resource.RLIMIT_CPU, (PROCESSOR_SECONDS, PROCESSOR_SECONDS)))
-    if ran.returncode != 0:
-        return "status %d: %s" % (ran.returncode, ran.stderr[-200:].decode("utf-8", "replace"))
-    given = ran.stdout.decode()
-    return None if given == wanted else "wanted %d bytes, got %d that start with %r" % (len(wanted), len(given), given[:60])
+    wanted, given = verdicts.verdict(text)[0] + "\n", ran.stdout.decode()
+    if ran.returncode != 0 or given != wanted:
+        return "status %d, wanted %d bytes, got %d that start with %r; %s" % (ran.returncode, len(wanted), len(given), given[:60], ran.stderr[-200:])
+    return None
 
 
-def run_faults(programs, runs):
-    wrong, count = [], 0
-    for count, (name, program, arguments, data, wanted) in enumerate(runs, 1):
-        fault = run_fault(programs[program], arguments, data, wanted)
-        if fault:
-            wrong.append("%s of %s: %s" % (" ".join([program, *arguments]), name, fault))
-    return wrong, count
-
-
-def large_faults(programs, number):
-    """The faults of one part of the commands' runs."""
-    return run_faults(programs, document_runs(CONVERTED[number]) if number < len(CONVERTED) else runs_of_lines())[0], 0
+def large_faults(program):
+    """The faults of runs of probe_model on these texts, and how many there were."""
+    texts = [(name, text.encode()) for name, make in DOCUMENTS.items() for text in make()]
+    found = [(name, run_fault(program, text)) for name, text in texts]
+    return ["%s: %s" % it for it in found if it[1]], len(texts)

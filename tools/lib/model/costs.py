@@ -1,11 +1,10 @@
 """Compares what each call takes of memory and steps, on a text of each shape, with what was measured in the
 past: the rows of tools/data/measured/texts.txt (tools/lib/measures.py).
 
-Steps are counted on short texts. Memory is counted on long ones, and so are the steps of a text there with a
-call that took longer than its steps on the short one let expect: steps that grow in another order are far
-more.
+Steps are counted on short texts. Memory is counted on long ones, and so are the steps of a text there with a call that took longer than its
+steps on the short one let expect: steps that grow in another order are far more.
 """
-from typing import NamedTuple
+from collections import namedtuple
 
 from lib import findings, measures
 from lib.model import asked, shapes
@@ -24,14 +23,8 @@ MEMORY = ("allocations", "bytes", "growths", "held", "most", "left")
 SOME_TIME, NANOSECONDS = 10_000_000, 3
 # Steps grow as the size of a text, or at most so many times that: a text that grows is copied, and keys are sorted.
 GROWTH = 3
-
-
-class Sample(NamedTuple):
-    """A text, and its size with that of the text in the other mode."""
-
-    name: str
-    data: bytes
-    size: int
+# A text, and its size with that of the text in the other mode.
+Sample = namedtuple("Sample", "name data size")
 
 
 def part_of(shapes_of_kind, size, number):
@@ -40,8 +33,7 @@ def part_of(shapes_of_kind, size, number):
 
 
 def samples(size, number):
-    """The texts of one part: both texts of each document, and texts of none. A leaf of debug texts has one
-    text."""
+    """The texts of one part: both texts of each document, and texts of none. A leaf of debug texts has one text."""
     documents = [(name, document, list) for name, document in part_of(shapes.documents(), size, number)]
     documents += [(name, document, dict.fromkeys) for name, document in part_of(shapes.debug_documents(), size, number)]
     for name, document, kept in documents:
@@ -63,8 +55,7 @@ def calls_of(line):
 
 
 class Run:
-    """A run of the program that makes each call on these texts, with what was counted of each call: steps, or
-    memory."""
+    """A run of the program that makes each call on these texts, with what was counted of each call: steps, or memory."""
 
     def __init__(self, counter, program, texts, name, is_counted=False, seconds=SECONDS):
         data = b"".join(b"%d\n%s" % (len(one.data), one.data) for one in texts)
@@ -75,9 +66,6 @@ class Run:
         # What the marks around a call take is no step of the call.
         self.around = min(steps, default=0)
         self.made = [(one, *call) for one, line in zip(texts, self.lines) for call in calls_of(line)]
-
-    def is_whole(self):
-        return len(self.lines) == len(self.texts) and len(self.counts) >= len(self.made)
 
     def calls(self):
         return [(*call, counts) for call, counts in zip(self.made, self.counts)]
@@ -104,8 +92,7 @@ def most_steps(call, rows, small):
 
 
 def slow_faults(counter, program, run, small):
-    """The faults of texts with a slow call: its steps decide, since a machine that does other things may be
-    slow too."""
+    """The faults of texts with a slow call: its steps decide, since a machine that does other things may be slow too."""
     rows = measures.Table(MEASURED).rows
     slow = {call[0].name: call[0] for call in run.calls()
             if call[-1].nanoseconds > SOME_TIME + NANOSECONDS * most_steps(call, rows, small)}
@@ -118,14 +105,13 @@ def slow_faults(counter, program, run, small):
 
 
 def faults_of(run, rows):
-    if not run.is_whole():
+    if len(run.lines) != len(run.texts) or len(run.counts) < len(run.made):
         return ["%d lines and %d counts of %d texts" % (len(run.lines), len(run.counts), len(run.texts))], len(run.made)
     return list(measures.Table(MEASURED).faults(rows, is_whole=False)), len(run.made)
 
 
 def request_faults(counter, program, is_counted):
-    """The faults of calls with huge options, and how many calls were counted. Each must find its buffer full.
-    """
+    """The faults of calls with huge options, and how many calls were counted. Each must find its buffer full."""
     run = Run(counter, program, requested(), "requests", is_counted, REQUEST_SECONDS)
     wrong, count = faults_of(run, run.steps() if is_counted else run.memory())
     fitting = ["%s: a text fits: %s" % (one.name, line) for one, line in zip(run.texts, run.lines) if " yes" in line]

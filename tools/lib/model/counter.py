@@ -4,7 +4,7 @@ import pathlib
 import re
 import shutil
 import subprocess
-from typing import NamedTuple, Optional
+from collections import namedtuple
 
 from lib import needs
 from lib.top import TOP
@@ -23,32 +23,17 @@ def programs_of(program):
     return dict(found, probe_model=program)
 
 
-class Counts(NamedTuple):
+class Counts(namedtuple("Counts", "allocations bytes growths held most left reads writes nanoseconds")):
     """What a call takes. `held` is what is held with its result, `most` what was held at once, and `left` how many blocks were
     never freed, after the result was dropped."""
-
-    allocations: int
-    bytes: int
-    growths: int
-    held: int
-    most: int
-    left: int
-    reads: int
-    writes: int
-    nanoseconds: int
 
     def asked(self):
         """How many allocations there were, each growth among them."""
         return self.allocations + self.growths
 
 
-class Ended(NamedTuple):
+class Ended(namedtuple("Ended", "status output error counts")):
     """How a run ended: its status, or None if it didn't end in time; what it wrote; and its counts, or None if it was killed."""
-
-    status: Optional[int]
-    output: bytes
-    error: bytes
-    counts: Optional[Counts]
 
     def fault(self, statuses):
         """What is wrong with the end of a run that may have one of these statuses, or None."""
@@ -85,8 +70,7 @@ class Counter:
         return Ended(ran.returncode, ran.stdout, ran.stderr, counts[0] if counts else None)
 
     def steps(self, arguments, data, name, seconds=None, most_read=None):
-        """Runs a program with valgrind, and returns the steps of each part that it counts. A read takes at most so many
-        bytes."""
+        """Runs a program with valgrind, and returns the steps of each part that it counts. A read takes at most so many bytes."""
         path = self.written(name, "steps")
         asked = {"COUNTS_READ": most_read} if most_read is not None else {}
         self.ran([self.valgrind, *CALLGRIND, "--callgrind-out-file=%s" % path, *arguments], data, name, "/dev/null", seconds, **asked)

@@ -4,14 +4,13 @@ A cell is a tuple. It begins with the name of its table, and ends with the mode 
 """
 import itertools
 
-from lib.model import characters, debug_refused, types
-from lib.model.debug_leaves import SHAPES, shape
+from lib.model import characters, types
+from lib.model.debug_leaves import REASON_OF, REFUSED, SHAPES, shape
 from lib.model.document import STRUCTS, Block, unquoted
+from lib.model.documents import KINDS as BLOCKS, PLACES
 from lib.model.reading import MODES, is_debug_name, is_of_tokens
 
-PLACES = ("entry of a list", "entry of a set", "key", "value", "field of a struct", "field of a tuple", "field without names")
-DEBUG_PLACES = (*PLACES, "field of an open struct")
-BLOCKS = ("list", "set", "map", "struct", "tuple", "unnamed")
+DEBUG_PLACES = (*PLACES, "open struct")
 LEAVES = ("word", "unit", "text", "character", "empty list", "empty map")
 # Structs that end in dots, with fields and without. With other words and other leaves in quotes they are what only debug texts have.
 OPEN_STRUCTS = ("open struct", "empty open struct")
@@ -24,9 +23,6 @@ NOTED_LENGTH, NOTED_PIECES = 12, 3
 # So many entries of each kind are tried in one of the modes.
 MANY = 50_000
 DEPTHS = (1, 2, 4, 8, 16, 32, 64, 128, 256, 255)
-# The place of what is in a block of a kind.
-PLACE_IN = {"list": "entry of a list", "set": "entry of a set", "map": "value", "struct": "field of a struct", "open struct": "field of an open struct",
-            "tuple": "field of a tuple", "unnamed": "field without names"}
 
 
 def power(number, exact=0):
@@ -78,7 +74,7 @@ class Walk:
             for number, (before, value) in enumerate(document.entries):
                 if document.kind in STRUCTS:
                     self.add("length of a name", "field", power(len(before), EXACT_LENGTH))
-                for inner, inside in [(PLACE_IN[kind], value)] + [("key", before)] * (kind == "map"):
+                for inner, inside in [("value" if kind == "map" else kind, value)] + [("key", before)] * (kind == "map"):
                     self.add("kind in a place", inner, position(number, count), kind_of(inside))
                     stack.append((inside, depth + 1, inner, place))
         return self.cells
@@ -97,7 +93,7 @@ class Walk:
 def cells(data, document, mode, judged):
     """The cells that these bytes fill, which were read as this debug document in the mode, or as no text, and judged by types."""
     if document is None:
-        reasons = {("refused", debug_refused.REASON_OF[data], mode)} if data in debug_refused.REASON_OF else set()
+        reasons = {("refused", REASON_OF[data], mode)} if data in REASON_OF else set()
         return {("bytes of no text", power(len(data)), mode)} | reasons
     found = Walk(mode).walk(document) | {("bytes of a text", power(len(data)), mode)}
     stops, shapes = judged
@@ -112,7 +108,7 @@ def wanted():
     """The cells by their tables, without their modes."""
     inner, only_debug, of_length = (0, *DEPTHS[:-1]), DEBUG_LEAVES + OPEN_STRUCTS, powers(131072, EXACT_LENGTH)
     yield "kind in a place", pairs(PLACES, POSITIONS, BLOCKS + LEAVES) + pairs(DEBUG_PLACES, POSITIONS, only_debug)
-    yield "kind in a place", pairs(("field of an open struct",), POSITIONS, BLOCKS + LEAVES)
+    yield "kind in a place", pairs(("open struct",), POSITIONS, BLOCKS + LEAVES)
     yield "kind within kinds", pairs(PLACES, PLACES, BLOCKS + LEAVES)
     yield "kind by depth", pairs(inner, BLOCKS + LEAVES + only_debug) + pairs((255,), (*LEAVES, *DEBUG_LEAVES, "empty open struct"))
     yield "length of a leaf", pairs(("word", "debug word"), of_length) + pairs(("text", "quotes"), of_length[2:])
@@ -123,7 +119,7 @@ def wanted():
     yield "character in quotes", pairs(POSITIONS, characters.CODES)
     yield "type", pairs(types.TYPES)
     yield "shape", pairs(range(len(types.SHAPES)))
-    yield "refused", pairs(debug_refused.ROWS)
+    yield "refused", pairs(REFUSED)
     yield "bytes of a text", pairs(powers(131072))
     yield "bytes of no text", pairs([0, *powers(131072)])
 

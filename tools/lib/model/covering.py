@@ -1,11 +1,9 @@
 """Documents that fill each cell of the table of coverage, and of what only debug texts have. What a cell leaves open is chosen at
 random."""
-from lib.model.coverage import (BLOCKS, DEBUG_LEAVES, DEBUG_PLACES, DEPTHS, EXACT_ENTRIES, EXACT_LENGTH, LEAVES, MANY,
-                                OPEN_STRUCTS, PLACE_IN, PLACES, powers)
+from lib.model.coverage import BLOCKS, DEBUG_LEAVES, DEBUG_PLACES, DEPTHS, EXACT_ENTRIES, EXACT_LENGTH, LEAVES, MANY, OPEN_STRUCTS, PLACES, powers
 from lib.model.debug_leaves import ESCAPED, SHAPES
 from lib.model.document import DEEPEST, STRUCTS, Block, list_of, quoted, tuple_of
 
-KIND_OF_PLACE = {place: kind for kind, place in PLACE_IN.items()}
 # Blocks of blocks have about so many leaves.
 LEAVES_EACH = 500
 DOTS = ".."
@@ -22,7 +20,7 @@ class Covering:
     in_places = PLACES
 
     def __init__(self, maker):
-        self.maker, self.random = maker, maker.random
+        self.maker, self.random, self.inside = maker, maker.random, maker.inside
 
     def documents(self):
         yield from (self.of_kind(kind) for kind in BLOCKS + LEAVES)
@@ -42,12 +40,6 @@ class Covering:
         documents = [self.of_kind(kind) for kind in BLOCKS + LEAVES]
         self.random.shuffle(documents)
         return documents
-
-    def inside(self, place, documents):
-        """A block with these documents in the place."""
-        if place == "key":
-            return Block("map", "", [(document, self.maker.leaf()) for document in documents])
-        return self.maker.block(KIND_OF_PLACE[place], documents)
 
     def places(self):
         """Each kind in each place: alone, first, in the middle and last; and in each place of a block in each place."""
@@ -107,15 +99,13 @@ class Covering:
             named = [self.deep_named(kind, self.within(size)) for size in powers(512)]
             yield from named
             yield self.spine(lambda depth, named=named: list(named) if depth < DEEPEST else [], 1)
-        yield self.spine(self.deep_entries, 1)
+        sizes = powers(256)
+        yield self.spine(lambda depth: [self.wide(self.random.choice(BLOCKS), self.within(size)) for size in sizes if depth < DEEPEST], 1)
         yield from map(self.keys, (1, 2, 3))
 
     def deep_named(self, kind, length):
         field = self.maker.word(length) if kind == "struct" else None
         return Block(kind, self.maker.word(length), [(field, self.maker.small())])
-
-    def deep_entries(self, depth):
-        return [self.wide(self.random.choice(BLOCKS), self.within(size)) for size in powers(256)] if depth < DEEPEST else []
 
     def depths(self, less):
         """A depth of each class, less this."""

@@ -10,7 +10,7 @@ import re
 
 from lib import data
 from lib.model import characters
-from lib.model.document import QUOTED_CHARACTER, QUOTED_TEXT, WORD, quoted
+from lib.model.document import DEEPEST, QUOTED_CHARACTER, QUOTED_TEXT, STRUCTS, WORD, Block, plain, pretty, quoted
 from lib.model.reading import CONTROLS, IN_QUOTES, LIFETIME, START, UNIT, WORD_BYTES
 
 WORDS, QUOTES, COLONS, UNITS, LIFETIMES, STARTS = "wpu", "tco", "C", "U", "L", "WA"
@@ -150,3 +150,37 @@ class LeafMaker:
         if form < 0.9:
             return self.of_shape(self.random.choice(SHAPES), max(length // 3, 1))
         return self.of_pieces(min(length, 40))
+
+
+# ---- Texts that are no debug texts, by the reason why: those of tools/data/texts/refused.txt, and long ones.
+
+# What each of these in a row stands for.
+EACH = {
+    b"<control>": [bytes([code]) for code in (*range(0x20), 0x7F)],
+    b"<bad>": (b"\x80", b"\xff", b"\xc3", b"\xc0\x80", b"\xe2\x82", b"\xed\xa0\x80", b"\xf0\x9f\xa6", b"\xf4\x90\x80\x80"),
+    b"<past>": [character.encode() for character in "\u00e9\u0301\u20ac\U0001f980"],
+    b"<colons>": [b":" * count for count in (1, 2, 3, 999, 1000, 1001, 100_000)],
+}
+MANY_PIECES = 33_000
+
+
+def texts_of(row):
+    """The texts of a row: one, or one for each of what stands in it."""
+    text = data.data_of(row)
+    mark = next((mark for mark in EACH if mark in text), None)
+    return [text.replace(mark, each) for each in EACH[mark]] if mark else [text]
+
+
+def too_deep():
+    """Blocks of which one is too deep, with a leaf and with names that no token document has."""
+    for kind, name in (("list", ""), ("tuple", "a::B"), ("struct", "\u00e9"), ("open struct", "P")):
+        for document in ("1.5", Block("open struct", "P", [])):
+            for _ in range(DEEPEST + 1):
+                document = Block(kind, name, [("1.5" if kind in STRUCTS else None, document)])
+            yield from (plain(document).encode(), pretty(document).encode())
+
+
+REFUSED = {reason: [text for row in rows for text in texts_of(row)] for reason, rows in data.parts("texts/refused.txt").items()}
+REFUSED["many quotes of which the last isn't closed"] = [b'"a"' * MANY_PIECES + b'"', b"'a'.." * MANY_PIECES + b"'", b'""' * MANY_PIECES + b"'"]
+REFUSED["256 blocks"] = list(too_deep())
+REASON_OF = {text: reason for reason, texts in REFUSED.items() for text in texts}

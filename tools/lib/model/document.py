@@ -4,7 +4,9 @@ import functools
 import re
 import sys
 import zlib
-from typing import NamedTuple
+from collections import namedtuple
+
+from lib.data import LETTERS
 
 # A document is as deep as calls for it.
 sys.setrecursionlimit(20_000)
@@ -12,18 +14,19 @@ sys.setrecursionlimit(20_000)
 # How deep blocks with entries are nested at most.
 DEEPEST = 255
 INDENT = "    "
+# A list, a set, a map, a struct, an open struct or a tuple. An open struct ends in two dots.
+#
+# An entry is a pair: what is before the colon, and a document. Before the colon a map has a document, and a struct of either
+# kind has a name. The other kinds have None.
+Block = namedtuple("Block", "kind name entries")
 
 
-class Block(NamedTuple):
-    """A list, a set, a map, a struct, an open struct or a tuple. An open struct ends in two dots.
+def decoded(data):
+    return data.decode(errors="surrogateescape")
 
-    An entry is a pair: what is before the colon, and a document. Before the colon a map has a document, and a struct of either
-    kind has a name. The other kinds have None.
-    """
 
-    kind: str
-    name: str
-    entries: list
+def encoded(text):
+    return text.encode(errors="surrogateescape")
 
 
 def list_of(*values):
@@ -36,12 +39,13 @@ def tuple_of(*values, name=""):
 
 # ---- The layout of blocks: what opens a block after its name, and what closes it.
 
-PLAIN_FRAMES = {"list": ("[", "]"), "set": ("{", "}"), "map": ("{", "}"), "tuple": ("(", ")"),
-                "struct": (" { ", " }"), "open struct": (" { ", ", .. }")}
-PRETTY_FRAMES = {"list": ("[\n", "]"), "set": ("{\n", "}"), "map": ("{\n", "}"), "tuple": ("(\n", ")"),
-                 "struct": (" {\n", "}"), "open struct": (" {\n", "}")}
 # The kinds of blocks with a name before each value.
 STRUCTS = ("struct", "open struct")
+OPENING = {"list": "[", "set": "{", "map": "{", "tuple": "(", "struct": " {", "open struct": " {"}
+CLOSING = {"list": "]", "set": "}", "map": "}", "tuple": ")", "struct": "}", "open struct": "}"}
+PLAIN_CLOSING = {**CLOSING, "struct": " }", "open struct": ", .. }"}
+PLAIN_FRAMES = {kind: (mark + " " * (kind in STRUCTS), PLAIN_CLOSING[kind]) for kind, mark in OPENING.items()}
+PRETTY_FRAMES = {kind: (mark + "\n", CLOSING[kind]) for kind, mark in OPENING.items()}
 # What a block without entries has after its name.
 EMPTY = {"list": "[]", "map": "{}", "open struct": " { .. }"}
 
@@ -101,8 +105,7 @@ def unquoted(leaf):
     document has it."""
     if leaf[0] not in "\"'" or not (QUOTED_TEXT.fullmatch(leaf) or QUOTED_CHARACTER.fullmatch(leaf)):
         return None
-    letters = {"0": "\0", "t": "\t", "n": "\n", "r": "\r"}
-    return ESCAPE.sub(lambda found: chr(int(found[1], 16)) if found[1] else letters.get(found[2], found[2]), leaf[1:-1])
+    return ESCAPE.sub(lambda found: chr(int(found[1], 16)) if found[1] else LETTERS.get(found[2], found[2]), leaf[1:-1])
 
 
 def depth_of(document):
@@ -112,27 +115,22 @@ def depth_of(document):
     return 1 + max(map(depth_of, inside))
 
 
-
 # ---- Which pieces a writer is passed.
 
 # A piece is noted as `t` if it should come by `write_str`, or as `c` if it should come by `write_char`; then its bytes, and a byte that
 # no text has. Only a name or a leaf can be an empty piece.
 #
-# A document is printed in these: a bracket or a name with which a block begins; ` {` of a struct and `(` of a tuple with the first
-# entry; in plain mode a space before a struct's first field and `, ` between entries; in pretty mode each line feed with the comma
-# before it, and each level of indentation; a field's name; `: `; a leaf; what comes before a closing bracket in plain mode, and the
-# bracket. Dots are `, ..` in plain mode, and `..` with its line feed in pretty mode; without fields they are one piece with the braces.
-# Of a value a text or a character in it is a quote, each escape, each stretch without escapes, which comes by `write_char` in a
-# character, and a quote.
+# A document is printed in these: a bracket or a name with which a block begins; ` {` of a struct and `(` of a tuple with the first entry;
+# in plain mode a space before a struct's first field and `, ` between entries; in pretty mode each line feed with the comma before it, and
+# each level of indentation; a field's name; `: `; a leaf; what comes before a closing bracket in plain mode, and the bracket. Dots are `,
+# ..` in plain mode, and `..` with its line feed in pretty mode; without fields they are one piece with the braces. Of a value a text or a
+# character in it is a quote, each escape, each stretch without escapes, which comes by `write_char` in a character, and a quote.
 #
 # A conversion writes each event of a scan in at most two pieces, which are not empty, as `converted` above has them: a leaf; `[]` or
 # `{}`; a block's name, and what opens the block, with the whole indentation of its first entry; a field's name, and `: `; `: ` after a
 # key; what separates two entries, with the whole indentation of the second; and what closes a block, in pretty mode a comma, a line feed
 # and the whole indentation, and then the bracket. Dots come after what separates two entries, with what closes the block in the same way.
 END = b"\xff"
-# Blocks that begin with a bracket, and what closes each kind.
-OPENING = {"list": "[", "set": "{", "map": "{"}
-CLOSING = {"list": "]", "set": "}", "map": "}", "struct": "}", "open struct": "}", "tuple": ")"}
 # The end of an open struct in plain mode. A conversion writes it in two pieces, of which the first separates entries.
 PLAIN_DOTS = (", ..", " ", "}")
 
@@ -177,7 +175,8 @@ def groups(document, is_pretty, depth, out):
         out.append(document)
         return out
     kind, name, entries = document
-    has_name, is_struct = kind not in OPENING, kind in STRUCTS
+    is_struct = kind in STRUCTS
+    has_name = is_struct or kind == "tuple"
     if has_name:
         out.append((name,))
     if not entries:
@@ -185,7 +184,7 @@ def groups(document, is_pretty, depth, out):
         out += [(EMPTY[kind],)] if kind == "open struct" else [] if has_name else [(OPENING[kind], CLOSING[kind])]
         return out
     inner, outer = (INDENT,) * (depth + 1), (INDENT,) * depth
-    between = (OPENING.get(kind, " {" if is_struct else "("), *(("\n", *inner) if is_pretty else (" ",) * is_struct))
+    between = (OPENING[kind], *(("\n", *inner) if is_pretty else (" ",) * is_struct))
     for before, value in entries:
         out.append(between)
         between = (",\n", *inner) if is_pretty else (", ",)

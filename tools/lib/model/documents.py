@@ -22,8 +22,8 @@ DEPTHS = (1, 2, 3, 4, 5, 8, 12, 13, 16, 17, 31, 32, 33, 64, 100, 127, 128, 129, 
 MOST_NODES = 1500
 MOST_BYTES = 6000
 KINDS = ("list", "set", "map", "struct", "tuple", "unnamed")
-# The places that a document can have in a block of a chain.
-PLACES = ("list", "set", "key", "value", "struct", "tuple", "unnamed", "last of two", "first of two")
+# The places that a document can have in a block.
+PLACES = ("list", "set", "key", "value", "struct", "tuple", "unnamed")
 # What a change puts in, and into debug texts besides; and bytes that are no UTF-8.
 CHANGES = data.parts("texts/pieces.txt")
 PIECES, DEBUG_PIECES = (list(map(data.text_of, CHANGES[part])) for part in ("token", "debug"))
@@ -43,7 +43,7 @@ class Maker:
 
     pieces = PIECES
     kinds = KINDS
-    places = PLACES
+    places = (*PLACES, "last of two", "first of two")
 
     def __init__(self, seed):
         self.random = random.Random(seed)
@@ -115,12 +115,16 @@ class Maker:
         inside = nodes - 1 if self.random.random() < 0.7 else self.random.randint(0, nodes - 1)
         return self.grown(nodes - 1 - inside, depth), self.grown(inside, depth)
 
+    def inside(self, place, documents):
+        """A block with these documents in the place."""
+        if place == "key":
+            return Block("map", "", [(document, self.leaf()) for document in documents])
+        return self.block("map" if place == "value" else place, documents)
+
     def deeper(self, place, document):
-        if place in ("key", "value"):
-            return Block("map", "", [(document, self.leaf()) if place == "key" else (self.leaf(), document)])
         if place == "last of two":
             return Block(self.random.choice(("list", "set")), "", [(None, self.leaf()), (None, document)])
-        return tuple_of(document, self.leaf()) if place == "first of two" else self.block(place, [document])
+        return tuple_of(document, self.leaf()) if place == "first of two" else self.inside(place, [document])
 
     def chain(self):
         """Nested blocks with one document inside, at one place or at any. They can be one deeper than allowed."""
@@ -184,7 +188,7 @@ class DebugMaker(Maker):
 
     pieces = [*PIECES, *DEBUG_PIECES, *PRINTED]
     kinds = (*KINDS, "open struct")
-    places = (*PLACES, "open struct")
+    places = (*Maker.places, "open struct")
 
     def __init__(self, seed):
         super().__init__(seed)

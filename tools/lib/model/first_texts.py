@@ -2,10 +2,10 @@
 import itertools
 
 from lib import data
-from lib.model import characters, debug_refused, types
+from lib.model import characters, types
 from lib.model.coverage import powers
 from lib.model.covering import Covering, DebugCovering
-from lib.model.debug_leaves import PRINTED
+from lib.model.debug_leaves import PRINTED, REFUSED
 from lib.model.document import DEEPEST, list_of, plain, pretty, quoted
 from lib.model.documents import CHARACTERS, KINDS_OF_CHARACTERS, LENGTHS, DebugMaker, Maker
 from lib.model.reading import document_of
@@ -65,7 +65,7 @@ def first_texts(seed):
     for each in (too_deep(maker), too_deep(debug_maker), covering.documents(), debug_covering.documents()):
         yield from in_both_modes(each)
     yield from in_both_modes([*PRINTED, list_of(*PRINTED)])
-    yield from debug_refused.texts()
+    yield from itertools.chain(*REFUSED.values())
     yield from changed()
     for number, document in enumerate(covering.many()):
         yield (plain, pretty)[(number + seed) % 2](document).encode()

@@ -7,7 +7,7 @@ A set or a map whose keys don't ascend, and an array of another length, stops wh
 import re
 import string
 
-from lib.model.document import DEEPEST, unquoted
+from lib.model.document import CLOSING, DEEPEST, OPENING, unquoted
 from lib.model.reading import DEBUG, NO_UTF8, PlainReader, PrettyReader
 
 WORDS = {"Name": "a name of the type", "Number": "a number of the type", "Character": "a character in apostrophes",
@@ -21,9 +21,7 @@ WORD_BYTES = NAME_BYTES + b"-+."
 NAME_ENDS = re.compile(rb": (?!\})|\((?!\))|[ ,\[\]{})]|\Z")
 # A leaf in these quotes, as far as its end shows: a backslash takes the next byte with it.
 IN_QUOTES = {b'"': re.compile(rb'"[^"\\]*(?:\\.[^"\\]*)*"', re.DOTALL), b"'": re.compile(rb"'[^'\\]*(?:\\.[^'\\]*)*'", re.DOTALL)}
-# What `{:?}` writes: of a block with entries its beginning, and its end.
-OPENINGS = {"struct": b" {", "tuple": b"(", "list": b"[", "set": b"{", "map": b"{"}
-CLOSINGS = {"struct": b"}", "tuple": b")", "list": b"]", "set": b"}", "map": b"}"}
+OPENINGS, CLOSINGS = ({kind: mark.encode() for kind, mark in marks.items()} for marks in (OPENING, CLOSING))
 READERS = (PlainReader(DEBUG), PrettyReader(DEBUG))
 
 

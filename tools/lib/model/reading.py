@@ -1,6 +1,6 @@
 """The readers of the model: the leaves of each class of texts, and the documents of plain and pretty texts."""
 import re
-from typing import Callable, NamedTuple
+from collections import namedtuple
 
 from lib.model.document import (DEEPEST, EMPTY, INDENT, PLAIN_FRAMES, PRETTY_FRAMES, QUOTED_CHARACTER, QUOTED_TEXT, WORD, Block,
                                 is_single, plain, pretty)
@@ -9,15 +9,8 @@ from lib.model.document import (DEEPEST, EMPTY, INDENT, PLAIN_FRAMES, PRETTY_FRA
 
 # A byte that isn't UTF-8, as `surrogateescape` decodes it.
 NO_UTF8 = re.compile("[\ud800-\udfff]")
-
-
-class TextClass(NamedTuple):
-    """A class of texts: its name, the leaf at a place, whether a leaf is a name, and whether a struct may end in dots."""
-
-    name: str
-    leaf_at: Callable
-    is_name: Callable
-    has_open_structs: bool
+# A class of texts: its name, the leaf at a place, whether a leaf is a name, and whether a struct may end in dots.
+TextClass = namedtuple("TextClass", "name leaf_at is_name has_open_structs")
 
 
 def leaf_at(text, at):
@@ -211,16 +204,17 @@ class PrettyReader(Reader):
 
 
 MODES = ("plain", "pretty")
-# A reader of each class of texts, by its mode and the name of the class, and what prints its documents in the other mode.
+OTHER = {"plain": "pretty", "pretty": "plain"}
+# A reader of each class of texts, by its mode and the name of the class, and what prints documents in a mode.
 READERS = {(mode, text_class.name): maker(text_class)
            for mode, maker in zip(MODES, (PlainReader, PrettyReader)) for text_class in (TOKEN, DEBUG)}
-PRINTERS = {"plain": pretty, "pretty": plain}
+PRINTERS = {"plain": plain, "pretty": pretty}
 
 
 def converted(mode, name, text):
     """The text in the other mode of what is a text of this mode, in the class of this name; or None."""
     document = READERS[mode, name].read(text)
-    return None if document is None else PRINTERS[mode](document)
+    return None if document is None else PRINTERS[OTHER[mode]](document)
 
 
 def document_of(text):

@@ -1,21 +1,20 @@
 """Values that no text makes: columns, numbers with options, dumps, lines, and values of std's types. A request asks the program to
 print them to a writer that notes pieces. The rules are those of document.py, and these:
 
-- Before and after a value in a column spaces come by `write_str`, 64 in a piece and last what is left; another fill comes by
-  `write_char`, each in a piece of its own.
-- A number in a radix is a prefix, if it has one, each pad byte by `write_char`, and the digits; a prefix comes after spaces. A
-  decimal number to a width is its sign, each zero by `write_char`, and the digits; with places, then a point, and again zeros and
-  digits.
-- A row of a dump is one piece if rows have at most 32 bytes. In a longer row the pieces are the zeros and the digits of the
-  offset; `: `; each byte, with the space before it; spaces in place of the bytes that a last row doesn't have, once for each of
-  their digits and once for the spaces between their groups; two spaces; the bytes as text, 64 in a piece; and the line feed.
-- A number that fits is the bits of a float too; the text of a float is one piece. With a number of decimals it is written to a
-  text first, and the program writes that as one piece. A range is its ends and dots between them. A
-  mark of a line adds no pieces. What is between the items of a slice is a piece, also if it is empty.
+- Before and after a value in a column spaces come by `write_str`, 64 in a piece and last what is left; another fill comes by `write_char`,
+  each in a piece of its own.
+- A number in a radix is a prefix, if it has one, each pad byte by `write_char`, and the digits; a prefix comes after spaces. A decimal
+  number to a width is its sign, each zero by `write_char`, and the digits; with places, then a point, and again zeros and digits.
+- A row of a dump is one piece if rows have at most 32 bytes. In a longer row the pieces are the zeros and the digits of the offset; `: `;
+  each byte, with the space before it; spaces in place of the bytes that a last row doesn't have, once for each of their digits and once for
+  the spaces between their groups; two spaces; the bytes as text, 64 in a piece; and the line feed.
+- A number that fits is the bits of a float too; the text of a float is one piece. With a number of decimals it is written to a text first,
+  and the program writes that as one piece. A range is its ends and dots between them. A mark of a line adds no pieces. What is between the
+  items of a slice is a piece, also if it is empty.
 """
 import re
+from collections import namedtuple
 from decimal import Decimal
-from typing import NamedTuple
 
 from lib.model import floats
 from lib.model.document import (Block, by_character, by_text, digest, list_of, of_value, printed, quoted, text_of, tuple_of,
@@ -28,21 +27,11 @@ DEEPEST_LISTS = 260
 BITS = (8, 16, 32, 64, 128, 64)
 
 
-class Request(NamedTuple):
-    """What is in the first line of a request, and what follows it. An offset past a `u32` is none."""
+REQUEST = "width align fill upper_case pad pad_length prefix per_row group offset ascii payload"
 
-    width: int = 0
-    align: int = 0
-    fill: int = 32
-    upper_case: int = 0
-    pad: int = 48
-    pad_length: int = 0
-    prefix: int = 0
-    per_row: int = 16
-    group: int = 1
-    offset: int = 0
-    ascii: int = 1
-    payload: bytes = b""
+
+class Request(namedtuple("Request", REQUEST, defaults=(0, 0, 32, 0, 48, 0, 0, 16, 1, 0, 1, b""))):
+    """What is in the first line of a request, and what follows it. An offset past a `u32` is none."""
 
     def data(self):
         return REQUEST_PREFIX + b" ".join(b"%d" % number for number in self[:-1]) + b"\n" + self.payload

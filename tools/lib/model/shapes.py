@@ -3,19 +3,16 @@ from functools import partial
 
 from lib import data
 from lib.model.document import STRUCTS, Block, list_of, plain, quoted, tuple_of
+from lib.model.documents import PLACES
 from lib.model.reading import document_of
 
-PLACES = ("list", "set", "key", "value", "struct", "tuple", "unnamed")
 # The kind and the name of the block of a place, and what is before the value.
 BLOCKS = {"key": ("map", "", None), "value": ("map", "", "k"), "tuple": ("tuple", "N", None), "unnamed": ("tuple", "", None),
           "struct": ("struct", "S", "f"), "open struct": ("open struct", "S", "f")}
-TREE, ONLY_DOTS = document_of("Tree { size: 1, children: [] }"), document_of("S { .. }")
+TREE = document_of("Tree { size: 1, children: [] }")
 # Leaves and rows of pieces, by their names.
 TABLES = {part: {name: [text.decode() for text in texts] for name, texts in rows.items()}
           for part, rows in data.named("texts/shapes.txt").items()}
-# Values of types that have no long texts.
-VALUES = {"a number": "-170141183460469231731687303715884105728", "a character": quoted("\x1b", "'"),
-          "an option of a number": tuple_of("-128", name="Some")}
 
 
 def placed(place, document):
@@ -88,7 +85,7 @@ def ordered_map(size):
     return Block("map", "", [(quoted("%06d" % number), tuple_of("7", name="Some")) for number in range(size // 19)])
 
 
-def named(size, kind="struct"):
+def named(kind, size):
     fields = [("f" * (size // 16) + str(number), "x") for number in range(8)]
     return list_of(Block(kind, "S" * (size // 4), fields), tuple_of("x", name="T" * (size // 4)))
 
@@ -97,8 +94,29 @@ def repeated(document, size):
     return list_of(*[document] * (size // (len(plain(document).encode()) + 2)))
 
 
-def numbers(size, *more):
+def numbers(*more):
+    *more, size = more
     return Block("set", "", [(None, str(number)) for number in (*range(size // 6), *more)])
+
+
+def in_a_row(row, size):
+    """A text of this size: a piece so many times, between what is before and after."""
+    before, piece, after = row
+    return before + piece * (size // len(piece.encode())) + after
+
+
+def unended(row, size):
+    begin, piece = row
+    return begin + ", ".join([piece] * (size // (len(piece) + 2)))
+
+
+MAKERS = {"around": around, "wide": wide, "deep": deep, "deep and wide": deep_and_wide, "repeated": repeated, "named": named, "halved": halved,
+          "trees": trees, "chain": chain, "ordered map": ordered_map, "numbers": numbers, "row": lambda piece, size: piece * size,
+          "value": lambda document, _size: document}
+
+
+def tabled(part):
+    return {name: partial(MAKERS[maker], *(document_of(text) or text for text in texts)) for name, (maker, *texts) in TABLES[part].items()}
 
 
 def documents():
@@ -112,49 +130,17 @@ def documents():
         shapes.update({"a wide " + place: partial(wide, place, "x"), "a wide list of a %s each" % place: partial(repeated, one),
                        "a deep " + place: partial(deep, place), "a deep and wide " + place: partial(deep_and_wide, place),
                        "a deep %s, of a %s each" % (place, place): partial(around, place, one)})
-    return {
-        **shapes,
-        "a deep list of letters": partial(around, "list", "x"),
-        "lists of two": halved,
-        "a wide list of trees": partial(repeated, TREE),
-        "trees in trees": trees,
-        "a chain of nodes": chain,
-        "a map of keys in order": ordered_map,
-        "a set of numbers with one twice": lambda size: numbers(size, 7),
-        "a set of numbers in order": numbers,
-        "long names": named,
-        "a long number": lambda size: "7" * size,
-        **{name: lambda _size, value=value: value for name, value in VALUES.items()},
-    }
-
-
-def in_a_row(row, size):
-    """A text of this size: a piece so many times, between what is before and after."""
-    before, piece, after = row
-    return before + piece * (size // len(piece.encode())) + after
+    return {**shapes, **tabled("documents")}
 
 
 def debug_documents():
     """Each shape of debug documents that aren't token documents, in the same way."""
-    one, place = placed("open struct", "x"), "open struct"
     return {
         **{"a long leaf, " + name: partial(in_a_row, row) for name, row in TABLES["long debug leaves"].items()},
         **{"a wide list of " + name: partial(repeated, leaf) for name, (leaf,) in TABLES["debug leaves"].items()},
         **{"a wide %s of points" % place: partial(wide, place, "1.5") for place in PLACES},
-        # Nearly all of these texts is indentation, which is the same in both classes. So there are only two.
-        **{"a deep %s of paths" % place: partial(around, place, "a::B") for place in ("list", "struct")},
-        "a wide open struct": partial(wide, place, "x"),
-        "a wide list of an open struct each": partial(repeated, one),
-        "a wide list of only dots": partial(repeated, ONLY_DOTS),
-        "a wide set of only dots": partial(wide, "set", ONLY_DOTS),
-        "a wide open struct of only dots": partial(wide, place, ONLY_DOTS),
-        "a wide open struct of dots": partial(wide, place, ".."),
-        "a deep open struct": partial(deep, place),
-        "a deep and wide open struct": partial(deep_and_wide, place),
-        "a deep open struct, of an open struct each": partial(around, place, one),
-        "a deep list of only dots": partial(around, "list", ONLY_DOTS),
-        "long names of an open struct": partial(named, kind=place),
-        "a long name and only dots": lambda size: Block(place, "S" * size, []),
+        **tabled("debug documents"),
+        "a long name and only dots": lambda size: Block("open struct", "S" * size, []),
         "long names past ASCII": lambda size: list_of(Block("struct", "\u20ac" * (size // 6), [("a:" * (size // 4) + "a", "x")])),
     }
 
@@ -163,13 +149,8 @@ def no_texts():
     """Texts of no token document, in the same way. They are wrong at the end or at the start."""
     return {
         **{name: partial(in_a_row, row) for name, row in TABLES["no texts"].items()},
-        "an open list": lambda size: "[" + ", ".join("x" * (size // 3)),
-        "an open list of numbers": lambda size: "[" + ", ".join(["65535"] * (size // 7)),
-        "an open list of texts": lambda size: "[" + ", ".join(['"ab"'] * (size // 6)),
-        "an open set of numbers in order": lambda size: "{" + ", ".join(map(str, range(size // 6))),
+        **{name: partial(unended, row) for name, row in TABLES["open texts"].items()},
+        "an open set of numbers in order": lambda size: plain(numbers(size))[:-1],
         # Without the last value's end too, which would be a text at the end of a line.
         "an open map of keys in order": lambda size: plain(ordered_map(size))[:-2],
-        "an open map": lambda size: "{" + ", ".join(["k: v"] * (size // 6)),
-        "an open pretty list": lambda size: "[\n" + "    x,\n" * (size // 7),
-        "dots and a comma": lambda size: "S {\n" + "    a: x,\n" * (size // 10) + "    ..,\n}",
     }

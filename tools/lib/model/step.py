@@ -1,36 +1,26 @@
-"""Makes random texts, passes each to every call of the library, and compares the results with those of a model, which shares no
-code with the project. Values that no text makes are printed by random options. What is compared also has the pieces that a writer
-is passed.
+"""Makes random texts, passes each to every call of the library, and compares the results with those of a model, which shares no code with
+the project. Values that no text makes are printed by random options. What is compared also has the pieces that a writer is passed.
 
-The built probe_model makes the calls, and the built ufmt_conv is run on some of the texts. The texts that come first fill each
-cell of the table of shapes (coverage.py): a cell that no text fills is a fault. With 3000 or more, each character there is comes in
-apostrophes too.
+The built probe_model makes the calls. The texts that come first fill each cell of the table of shapes (coverage.py): a cell that no text
+fills is a fault. With 3000 or more, each character there is comes in apostrophes too.
 
-Then each call is made by itself on a text of each shape, and its memory and its steps are compared with what was measured
-(costs.py); and so are runs of both programs (commands.py), which are also run on texts of 16 MiB and on a million lines.
-Memory is counted if there is a C compiler, and steps if there is valgrind too. With `--full` it only passes texts of 16 MiB, and one
-of 1,500,000 words, to every call of the library, in some minutes.
+Then each call is made by itself on a text of each shape, and its memory and its steps are compared with what was measured (costs.py); and
+so are runs of both programs (commands.py). Memory is counted if there is a C compiler, and steps if there is valgrind too. With `--full` it
+only passes texts of 16 MiB, and one of 1,500,000 words, to every call of the library, in some minutes.
 """
 import concurrent.futures
 import subprocess
 
-from lib import measures, needs, running
-from lib.findings import case, ended
+from lib import running
+from lib.findings import case, ended, shown
 from lib.model import asked, characters, commands, costs, counter, coverage, documents, first_texts, verdicts
 from lib.programs import cases
 from lib.top import TOP
 
-# How many bytes of texts a run of the program takes. ufmt_conv is run on one of so many texts.
+# How many bytes of texts a run of the program takes.
 BATCH_BYTES = 2_000_000
-CONVERTED_EACH = 40
-COMMANDS = ("lengths", "pretty", "plain")
 # So many random texts there are. From BULK on the run takes minutes, and has all texts that there are.
 COUNT, BULK = 1000, 3000
-TOLD = "Of `x try texts`: steps of each call, in the order of its line, and memory (lib/model/costs.py, commands.py)"
-
-
-def shown(data):
-    return repr(data if len(data) <= 80 else data[:60] + b".." + data[-20:])
 
 
 def batches(texts):
@@ -56,24 +46,6 @@ def wrong_lines(program, texts, name=shown):
     return faults, cells
 
 
-def wrong_outcomes(program, texts):
-    """The faults of runs of ufmt_conv on some of the texts, with each command."""
-    faults = []
-    for text in texts[::CONVERTED_EACH]:
-        for command in COMMANDS:
-            ran = cases.run([program, command], text)
-            given = ran.status, ran.output.decode(), ran.error.decode()
-            wanted = verdicts.outcome(command, text)
-            if given != wanted:
-                faults.append(case("%s of %s" % (command, shown(text)), str(wanted)[:200], str(given)[:200]))
-    return faults
-
-
-def judged(program, converter, texts):
-    faults, cells = wrong_lines(program, texts)
-    return faults + wrong_outcomes(converter, texts), cells
-
-
 def made(count, seed):
     makers = documents.Maker(seed), documents.DebugMaker(seed)
     yield from first_texts.first_texts(seed)
@@ -88,8 +60,8 @@ def made(count, seed):
 
 
 def cost_jobs(pool, programs, meter):
-    """The jobs that count, and those that run the commands on large texts."""
-    jobs = [pool.submit(commands.large_faults, programs, number) for number in range(commands.LARGE_PARTS)]
+    """The jobs that count."""
+    jobs = []
     if meter.library is None:
         return jobs
     for is_counted in (True, False) if meter.valgrind else (False,):
@@ -100,13 +72,9 @@ def cost_jobs(pool, programs, meter):
     return jobs + [pool.submit(commands.faults_of, meter, programs, part) for part in commands.PARTS]
 
 
-def measured_again(is_written):
-    needs.require("measure", "cc", "valgrind")
-    programs = counter.programs_of(None)
-    with running.room("texts") as room:
-        meter = counter.Counter(room)
-        rows = {**costs.measured_rows(meter, programs["probe_model"]), **commands.measured_rows(meter, programs)}
-    return measures.measured_again(costs.MEASURED, rows, TOLD, is_written)
+def measured(room):
+    programs, meter = counter.programs_of(None), counter.Counter(room)
+    return {**costs.measured_rows(meter, programs["probe_model"]), **commands.measured_rows(meter, programs)}, []
 
 
 def result_of(job):
@@ -126,14 +94,14 @@ def counted(meter, number):
 def main(given):
     programs = counter.programs_of(given.program)
     if given.full:
-        wrong, count = commands.run_faults(programs, commands.verdict_runs())
+        wrong, count = commands.large_faults(programs["probe_model"])
         return ended(wrong, "%d texts of 16 MiB" % count)
     faults, cells, costs_counted = [], set(), 0
     with running.room("texts") as room, concurrent.futures.ProcessPoolExecutor() as pool:
         meter = counter.Counter(room)
         costing = cost_jobs(pool, programs, meter)
         texts = batches(made(COUNT if given.count is None else given.count, given.seed))
-        for job in [pool.submit(judged, programs["probe_model"], programs["ufmt_conv"], batch) for batch in texts]:
+        for job in [pool.submit(wrong_lines, programs["probe_model"], batch) for batch in texts]:
             wrong, found = job.result()
             faults += wrong
             cells |= found

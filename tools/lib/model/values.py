@@ -40,14 +40,12 @@ class Number:
         """A number of the type, or one past its bounds, or what is nearly a number."""
         form = random.random()
         if form < 0.8:
-            return str(random.choice((self.low, self.high, 0, 1, self.sized(random), random.randint(self.low, self.high))))
+            size = 10 ** random.randrange(len(str(self.high)))
+            sized = max(self.low, min(self.high, random.randrange(size, 10 * size)))
+            return str(random.choice((self.low, self.high, 0, 1, sized, random.randint(self.low, self.high))))
         if form < 0.95:
             return str(random.choice((self.low - 1, self.high + 1, -1, 10 * self.high)))
         return random.choice(("-0", "00", "01", "-01", "-", "1_000", "0x1"))
-
-    def sized(self, random):
-        size = 10 ** random.randrange(len(str(self.high)))
-        return max(self.low, min(self.high, random.randrange(size, 10 * size)))
 
 
 def spelled(text, is_number, at):

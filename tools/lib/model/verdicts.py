@@ -2,9 +2,9 @@
 import string
 
 from lib.model import coverage, places, requests, types
-from lib.model.document import (DEEPEST, STRUCTS, by_text, converted as converted_pieces, depth_of, digest as digest_of, of_values, plain,
-                                pretty, printed, quoted, unquoted)
-from lib.model.reading import DEBUG, MODES, NO_UTF8, READERS, TOKEN, converted
+from lib.model.document import (DEEPEST, STRUCTS, by_text, converted as converted_pieces, decoded, depth_of, digest as digest_of, of_values,
+                                plain, pretty, printed, quoted, unquoted)
+from lib.model.reading import DEBUG, MODES, NO_UTF8, OTHER, READERS, TOKEN, converted
 
 # How many fields of a struct are asked for, besides its last.
 MOST_FIELDS = 8
@@ -106,12 +106,6 @@ def of_classes(text, document, debug_document, is_pretty):
     return "%s, in a list %s; debug: %s" % (reading(document, is_pretty, True), in_a_list, debug)
 
 
-def half(text, documents, is_pretty, judged):
-    """What the calls of one mode say of a text: of its token document, of its debug document, and of values."""
-    of_values = parsed(documents[1], text.encode(errors="surrogateescape"), is_pretty, judged)
-    return "%s; values: %s" % (of_classes(text, *documents, is_pretty), of_values)
-
-
 def kinds(text_class, text):
     found = text_class.leaf_at(text, 0)
     is_leaf = bool(found) and found[1] == len(text)
@@ -128,23 +122,20 @@ def verdict(data):
     """The line that the program prints of these bytes, and the cells of the table of coverage that they fill."""
     if data.startswith(requests.REQUEST_PREFIX):
         return requests.verdict(data), set()
-    text, halves, cells = data.decode(errors="surrogateescape"), [], set()
+    text, halves, cells = decoded(data), [], set()
     for mode in MODES:
         is_pretty = mode == "pretty"
         documents, judged = [READERS[mode, name].read(text) for name in ("token", "debug")], types.judged(data, is_pretty)
-        halves.append(half(text, documents, is_pretty, judged))
+        halves.append("%s; values: %s" % (of_classes(text, *documents, is_pretty), parsed(documents[1], data, is_pretty, judged)))
         cells |= coverage.cells(data, documents[1], mode, judged)
     leaf = "no UTF-8" if NO_UTF8.search(text) else leaf_verdict(text)
     return "plain: %s; pretty: %s; leaf: %s" % (*halves, leaf), cells
 
 
-# The mode that each command of ufmt_conv reads.
-READ = {"pretty": "plain", "plain": "pretty"}
-
-
 def outcome(command, data):
+    """The status, the output and the error of a command of ufmt_conv. One that converts has the name of the mode that it writes."""
     if command == "lengths":
         lines = data.removesuffix(b"\n").split(b"\n") if data else []
         return 0, "[%s]\n" % ", ".join(str(len(line)) for line in lines), ""
-    other = converted(READ[command], "token", data.decode(errors="surrogateescape").removesuffix("\n"))
-    return (1, "", "ufmt_conv: not a %s text\n" % READ[command]) if other is None else (0, other + "\n", "")
+    other = converted(OTHER[command], "token", decoded(data).removesuffix("\n"))
+    return (1, "", "ufmt_conv: not a %s text\n" % OTHER[command]) if other is None else (0, other + "\n", "")

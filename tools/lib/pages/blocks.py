@@ -1,8 +1,7 @@
 """Compares the code blocks of the pages with the files that they are from.
 
-Before each block stands a comment. `<!-- PATH -->` says that the block's lines are in a row in that file of the repository, which
-the gate proves. `<!-- form -->` says that the block is a shape to fill in, a list of signatures, a command or an example that is
-refused.
+Before each block stands a comment. `<!-- PATH -->` says that the block's lines are in a row in that file of the repository, which the gate
+proves. `<!-- form -->` says that the block is a shape to fill in, a list of signatures, a command or an example that is refused.
 """
 import re
 

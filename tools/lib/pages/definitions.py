@@ -1,19 +1,17 @@
 """Compares "The definitions to trust" in docs/PROMISES.md with what its headline rests on.
 
-A promise rests on each definition of specs/ in the clauses of its calls, on each that such a definition
-cites, and so on. The list of that section must have every one of the headline's, and nothing else of this
-repository. An item lists a file of specs/ whole, or `without` some of its definitions, or only those that it
-names.
+A promise rests on each definition of specs/ in the clauses of its calls, on each that such a definition cites, and so on. The list of that
+section must have every one of the headline's, and nothing else of this repository. An item lists a file of specs/ whole, or `without` some
+of its definitions, or only those that it names.
 
-A fault is a name of the page that is nothing, a definition that isn't listed, or one that is listed and not
-cited. `x list definitions` first prints, for each section of promises, the definitions that these rest on
-beside the headline's, by file.
+A fault is a name of the page that is nothing, a definition that isn't listed, or one that is listed and not cited. `x list definitions`
+first prints, for each section of promises, the definitions that these rest on beside the headline's, by file.
 """
 import re
 
 from lib.contracts.source import Source, closing
 from lib.findings import ended
-from lib.pages.items import PAGE, items_of, promises_of, section
+from lib.pages.edits import PAGE, items_of, promises_of, section
 from lib.promises.page import Reader, defined
 from lib.top import TOP, is_ours
 
@@ -35,8 +33,7 @@ def typed_name(line):
 
 
 def definitions_of(text):
-    """The lines of each definition of a file of specs/, by the name that its first line types. A record has
-    its fields."""
+    """The lines of each definition of a file of specs/, by the name that its first line types. A record has its fields."""
     found, fields, its = {}, None, []
     for line in re.sub(r"(?m)^\s*(?:--|pub use |use |pub mod |mod ).*|\s*--.*", "", text).split("\n"):
         name, is_record = typed_name(line)
@@ -65,7 +62,7 @@ def crate_of(path):
 def promised(pattern):
     """The files of the crates of this repository, but for tests. A user's crate may stand beside these."""
     ours = [path for path in sorted(CRATES.glob(pattern)) if is_ours(crate_of(path))]
-    return [path for path in ours if not {"tests", "tests.rt"} & set(path.parts)]
+    return [path for path in ours if not {"tests", "tests.rt"} & set(path.relative_to(CRATES).parts)]
 
 
 class Tree:
@@ -106,8 +103,7 @@ class Tree:
 
 
 def ghost_identifiers(path, wanted):
-    """The identifiers of the ghost values of a file's implementations, as of `seen`, where a clause has their
-    name."""
+    """The identifiers of the ghost values of a file's implementations, as of `seen`, where a clause has their name."""
     source = Source(path)
     values = [at + 3 for at in source.all("ghost") if source.name(at + 1) in wanted and source.name(at + 2) == "="]
     return {token.name for at in values for token in source.tokens[at : source.tokens[at].pair]}

@@ -8,15 +8,30 @@ one that replaces a text that doesn't stand once in its file, is a fault. `x lis
 import re
 
 from lib.findings import ended
-from lib.pages.items import PAGE, items_of, promises_of
 from lib.top import TOP
+
+PAGE = TOP / "docs" / "PROMISES.md"
+
+
+def items_of(text):
+    """What comes before the last colon of each item, and what comes after it."""
+    return re.findall(r"(?m)^- (.*): (.*)$", text)
+
+
+def section(text, title):
+    return re.search(r"(?ms)^%s\n.*?(?=^%s |\Z)" % (re.escape(title), title.split(" ")[0]), text)[0]
+
+
+def promises_of(page):
+    """The part of the page that has promises with contracts, each an item."""
+    return section(page, "## What is proved").partition("\n### What calls ask for")[0]
+
 
 NONE = "none: "
 
 
 class Edit:
-    """A wrong body: its crate and name, the first words of the promises that it guards, and the lines that say what it
-    changes."""
+    """A wrong body: its crate and name, the first words of the promises that it guards, and the lines that say what it changes."""
 
     def __init__(self, listed, number, lines):
         self.crate, self.name = listed.parent, lines[0]

@@ -6,11 +6,11 @@ that is of no function, or of one that asks for nothing. `x list requires` print
 """
 import fnmatch
 import re
-from typing import NamedTuple
+from collections import namedtuple
 
 from lib.contracts.functions import public_functions
 from lib.findings import ended
-from lib.pages.items import PAGE, items_of, section
+from lib.pages.edits import PAGE, items_of, section
 from lib.top import TOP, libraries
 
 SECTION = "### What calls ask for"
@@ -18,12 +18,8 @@ SECTION = "### What calls ask for"
 OTHERS = ("ufmt_c", "ufmt_conv", "ufmt_lines")
 
 
-class Row(NamedTuple):
+class Row(namedtuple("Row", "where name words")):
     """A name in the list, its place in the page, and what the list says that it asks for."""
-
-    where: str
-    name: str
-    words: str
 
     def means(self, name):
         return fnmatch.fnmatchcase("::" + name, "*::" + self.name)

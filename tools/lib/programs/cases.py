@@ -8,15 +8,12 @@ import os
 import pathlib
 import re
 import resource
-import select
 import shutil
-import signal
 import socket
 import subprocess
 import sys
 import tempfile
-import threading
-from typing import NamedTuple, Optional
+from collections import namedtuple
 
 from lib import data, findings, needs
 from lib.log_model import devices
@@ -24,8 +21,6 @@ from lib.model.counter import Counter
 
 # A run that takes longer is a fault.
 SECONDS = 120
-# So long a wait for an output that must come.
-LATE = 60
 CLOSED, FOLDER = "closed", "folder"
 # A message on standard error has fewer bytes.
 MESSAGE = 64 * 1024
@@ -34,14 +29,8 @@ NOBODY = 65534
 # Variables that other programs look at.
 OTHERS = ("NO_COLOR CLICOLOR CLICOLOR_FORCE FORCE_COLOR COLUMNS LINES TERM LANG LC_ALL TZ PAGER CI DEBUG POSIXLY_CORRECT RUST_LOG "
           "RUST_BACKTRACE HOME PATH TMPDIR UFMT_LINES UFMT_LINES_LONGER_THAN").split()
-
-
-class Ran(NamedTuple):
-    """How a run ended. `None` stands for a run that didn't end in time."""
-
-    status: Optional[int]
-    output: bytes
-    error: bytes
+# How a run ended. `None` stands for a run that didn't end in time.
+Ran = namedtuple("Ran", "status output error")
 
 
 class Cases:
@@ -84,16 +73,12 @@ class Cases:
                 self.judge_row(part, row)
 
     def judge_row(self, part, row):
-        """Judges a run: the words, the text on standard input, the status, the output, the line on standard error, and what is
-        special."""
+        """Judges a run: the words, the text on standard input, the status, the output, the line on standard error, and what is special."""
         words, text, status, output, line, special = row + ["%", "%", ""][len(row) - 3 :]
         name, given = "%s: %s %s, of %s" % (part, words, special, text[:40]), dict(it.partition("=")[::2] for it in special.split())
-        ran = self.run_row(self.arguments(words), self.filled(text), given, len(self.filled(output)))
-        self.judge(name, ran, int(status), self.filled(output), self.filled(line))
+        self.judge(name, self.run_row(self.arguments(words), self.filled(text), given), int(status), self.filled(output), self.filled(line))
 
-    def run_row(self, arguments, text, given, size):
-        if "leaves" in given:
-            return self.leaves(arguments, text, size, "endless" in given, "ignores" in given)
+    def run_row(self, arguments, text, given):
         variables = dict.fromkeys(OTHERS if "others" in given else (), given.get("others"))
         if "bytewise" in given:
             variables.update({"LD_PRELOAD": str(self.meter.library), "COUNTS_READ": "1", "COUNTS_WRITE": "1"})
@@ -161,24 +146,6 @@ class Cases:
         rounds = [[] if wanted in (b"", b"soon") else [wanted] for wanted in (*steps[1::2], last)]
         self.same("a slow producer: " + name, None, devices.fault(self.program, arguments, steps[::2], rounds))
 
-    def leaves(self, arguments, text, size, endless=False, ignores=False):
-        """Runs the program before a reader that takes so many bytes of the output and goes away. The input is the text, or
-        without an end that text again and again. The program is started with the signal for a closed pipe as a shell starts it,
-        or so that it `ignores` that."""
-        process = self.start(arguments, ignores)
-        feeder = threading.Thread(target=fed, args=(process.stdin, text, endless), daemon=True)
-        feeder.start()
-        output = taken(process.stdout, size, LATE)
-        process.stdout.close()
-        status, error = process.wait(SECONDS), process.stderr.read()
-        feeder.join(SECONDS)
-        return Ran(status, output, error)
-
-    def start(self, arguments, ignores=False):
-        prepared = (lambda: signal.signal(signal.SIGPIPE, signal.SIG_IGN)) if ignores else None
-        return subprocess.Popen([self.program, *arguments], stdin=subprocess.PIPE, stdout=subprocess.PIPE, stderr=subprocess.PIPE,
-                                cwd=self.room, preexec_fn=prepared)
-
 
 def filled(texts, column):
     """A column of a row as bytes: `$NAME;` is a text of that name, and `$NAME*N;` the text so often."""
@@ -225,25 +192,6 @@ def answers(program, texts):
     if ran.status == 0 and len(lines) == len(texts):
         return lines, []
     return lines, ["a run ended with status %s after %d of %d lines; the first text is %s" % (ran.status, len(lines), len(texts), texts[0][:80])]
-
-
-def taken(stream, size, seconds):
-    """So many bytes of a stream, or fewer if no more comes in this time."""
-    found = b""
-    while len(found) < size and select.select([stream], [], [], seconds)[0]:
-        more = os.read(stream.fileno(), size - len(found))
-        if not more:
-            break
-        found += more
-    return found
-
-
-def fed(stream, text, endless):
-    with contextlib.suppress(BrokenPipeError, ValueError):
-        stream.write(text)
-        while endless:
-            stream.write(text)
-        stream.close()
 
 
 def shown(ran):

@@ -53,17 +53,9 @@ def conversions(cases):
             cases.judge("%s: %s stays" % (" ".join(row), name), cases.run(*row, text=log), 0, log)
 
 
-def runs_of_table(cases):
-    (cases.room / "folder").mkdir()
-    os.symlink("loop", cases.room / "loop")
-    (cases.room / "secret").touch(0o200)
-    cases.table("lines.txt", TEXTS)
-
-
 def terminals(cases):
-    """A terminal is read to its first end of file, and isn't asked again while the next file is opened. One that goes away fails
-    in the middle: the reason is said, and a line that had begun continues in the next file. Nor can one that went away be
-    written."""
+    """A terminal is read to its first end of file, and isn't asked again while the next file is opened. One that goes away fails in the
+    middle: the reason is said, and a line that had begun continues in the next file. Nor can one that went away be written."""
     leader, follower = pty.openpty()
     os.write(leader, LONG + b"\x04")
     ran = cases.run("-", "none", source=follower)
@@ -84,11 +76,24 @@ def terminals(cases):
     os.close(follower)
 
 
-def lines(cases):
-    for part in (conversions, runs_of_table, terminals):
-        part(cases)
-    found, count = sessions.faults("lines.txt", PROGRAM=str(cases.program))
+def in_a_shell(cases, file):
+    found, count = sessions.faults(file, PROGRAM=str(cases.program))
     cases.faults, cases.count = cases.faults + found, cases.count + count
+
+
+def lines(cases):
+    conversions(cases)
+    (cases.room / "folder").mkdir()
+    os.symlink("loop", cases.room / "loop")
+    (cases.room / "secret").touch(0o200)
+    cases.table("lines.txt", TEXTS)
+    terminals(cases)
+    in_a_shell(cases, "lines.txt")
+
+
+def conv(cases):
+    of_table("conv.txt")(cases)
+    in_a_shell(cases, "conv.txt")
 
 
 def of_table(file):
@@ -100,7 +105,7 @@ def print_program(cases):
     cases.judge_calls("what it prints", [], b"", 0, 1)
 
 
-TRIED = {"ufmt_conv": of_table("conv.txt"), "ufmt_lines": lines}
+TRIED = {"ufmt_conv": conv, "ufmt_lines": lines}
 EXAMPLES = {"example_parse_program": of_table("parse.txt"), "example_print_program": print_program}
 
 

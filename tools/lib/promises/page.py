@@ -5,7 +5,7 @@ and the names of the clauses that do, and with `Also:` and further functions tha
 clause is a fault, and so is the name of a function or a clause that isn't there.
 """
 import re
-from typing import NamedTuple
+from collections import namedtuple
 
 from lib.command.generate import compare
 from lib.contracts.functions import functions_of, public_functions
@@ -18,14 +18,8 @@ COMMENT = re.compile(r"Promise \((\w+)\): (.*?)\.(?: Clauses: (.*?)\.)?(?: Also:
 IMPORT = re.compile(r"ghost use Rattle\.ufmt\w*\.specs\.(?!declared)[\w.]+\.\{([^}]*)\}")
 
 
-class Promise(NamedTuple):
+class Promise(namedtuple("Promise", "section text place clauses functions")):
     """A promise with its section, the place of its comment, and the functions that carry it, each with its crate and name."""
-
-    section: str
-    text: str
-    place: str
-    clauses: list
-    functions: list
 
     def shown(self, edits):
         crates = [None, *(crate for crate, _, _ in self.functions)]
@@ -98,8 +92,7 @@ class Reader:
         return next((name for name, one in self.public[crate] if (one.path, one.line) == (function.path, function.line)), function.name)
 
     def named(self, crate, place, also):
-        """The functions that the rest of a comment names: `name`, or `crate::name` of another crate, by the ends of their
-        paths."""
+        """The functions that the rest of a comment names: `name`, or `crate::name` of another crate, by the ends of their paths."""
         for told in re.findall(r"`([\w:]+)`", also or ""):
             first, _, rest = told.partition("::")
             other, name = (first, rest) if rest and first in self.public else (crate, told)

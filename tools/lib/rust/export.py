@@ -63,8 +63,7 @@ def with_uses(path):
 
 
 def test_files():
-    """The text of each file of the shared crates, and of the tests, which are below a folder `tests`, by its path in the
-    workspace."""
+    """The text of each file of the shared crates, and of the tests, which are below a folder `tests`, by its path in the workspace."""
     found = {}
     for crate in SHARED:
         folder = CRATES / crate / "src"
@@ -82,14 +81,7 @@ def test_files():
     return found
 
 
-# The packages, each with those that it depends on, and what docs.rs says of it.
-PACKAGES = {
-    "ufmt_float": ((), "The shortest decimals of floats, and their texts as Rust prints them"),
-    "ufmt_core": (("ufmt_float",), "Writers, the formatter, its builders and the trait uDebug"),
-    "ufmt_fixed": (("ufmt_float", "ufmt_core"), "Floats with a number of decimals, exactly"),
-    "ufmt_grammar": ((), "The classes of texts that can be read again"),
-    "ufmt": (("ufmt_float", "ufmt_core", "ufmt_fixed", "ufmt_grammar"), "Formatting without core::fmt, exported from proved sources"),
-}
+PACKAGES = {name: (needs.split(), told) for name, needs, told in table.rows("packages", 3)}
 # The packages of the sources' own tests, each with those that it stands on.
 OF_TESTS = {"rattle": (), "test_rows": ("rattle",), "example_print": ("rattle",), "ufmt_rows": ("rattle", "test_rows", "example_print", "ufmt_fixed", "ufmt_float")}
 # The file by which a folder is known that an earlier call wrote.

@@ -56,6 +56,8 @@ def faults_of_tool(room):
     for name, (text,) in rows["kept"].items():
         if through(text.decode()) != text.decode():
             yield findings.case(name, "a text that stays", through(text.decode()))
+    if table.of_page() not in (TOP / "docs" / "RUST.md").read_text():
+        yield "docs/RUST.md:1: hasn't the table that `x rust --table` prints"
 
 
 LIBRARY = '[lib]\npath = "lib.rs"\ncrate-type = ["staticlib"]'
@@ -80,8 +82,7 @@ class Trial:
         return None if status else said
 
     def build(self, name, source, profile, features, target=HOST, **form):
-        """Builds this source over the package, with this in its manifest. Its result is the folder of what cargo made, or
-        None."""
+        """Builds this source over the package, with this in its manifest. Its result is the folder of what cargo made, or None."""
         folder = self.room / name
         folder.mkdir(exist_ok=True)
         (folder / "lib.rs").write_text(source)
@@ -95,11 +96,10 @@ class Trial:
         made, kept = self.build(name, source, profile, features, target, **form), features.replace(",", "-") or "plain"
         return made and shutil.copy(made / ("lib%s.a" % name), self.room / ("%s-%s-%s.a" % (name, profile, kept)))
 
-    def panics(self, target=HOST):
+    def panics(self, target):
         """No call's program has a symbol of `core::panicking` with `proved`. Without it most have: so the test finds them.
 
-        One program of all calls has what the programs of each have together. Only if it has such a symbol, each call is linked
-        alone.
+        One program of all calls has what the programs of each have together. Only if it has such a symbol, each call is linked alone.
         """
         source = (DATA / "calls" / "lib.rs").read_text()
         linker = linking.Linker(self.room, target)
@@ -130,18 +130,8 @@ class Trial:
             if size is None or size > bound:
                 self.faults.append(findings.most(name, bound, size, "bytes"))
 
-    def sessions(self):
-        found, _ = sessions.faults("rust.txt", PACKAGE=str(self.package), TARGET=self.environment["CARGO_TARGET_DIR"])
-        self.faults += found
-
-    def tool(self):
-        self.faults += faults_of_tool(self.room)
-        if table.of_page() not in (TOP / "docs" / "RUST.md").read_text():
-            self.faults.append("docs/RUST.md:1: hasn't the table that `x rust --table` prints")
-
     def rows_of_32_bits(self):
-        """The worked rows hold in a program without a C library, with tests of overflow, where this machine runs 32-bit
-        programs."""
+        """The worked rows hold in a program without a C library, with tests of overflow, where this machine runs 32-bit programs."""
         library = self.library("narrow", (DATA / "narrow" / "lib.rs").read_text(), "tested", "", NARROW_HOST)
         made = linking.Linker(self.room, NARROW_HOST).link(library, "_start") if library else None
         status = subprocess.run([made]).returncode if made else "that no program is linked with"
@@ -158,13 +148,13 @@ class Trial:
 def main(_given):
     with running.room("rust") as room:
         trial = Trial(room)
-        trial.tool()
+        trial.faults += faults_of_tool(room)
         export.export(trial.package)
-        for part in (trial.sessions, trial.panics, trial.sizes):
-            part()
+        trial.faults += sessions.faults("rust.txt", PACKAGE=str(trial.package), TARGET=trial.environment["CARGO_TARGET_DIR"])[0]
         targets = trial.narrow_targets()
-        for target in targets:
+        for target in (HOST, *targets):
             trial.panics(target)
+        trial.sizes()
         if NARROW_HOST in targets:
             trial.rows_of_32_bits()
     if not targets:

@@ -2,7 +2,7 @@
 function whose contract requires something, since Rust checks no contract. docs/RUST.md has the substitutions in short, and the
 package with their files."""
 import re
-from typing import NamedTuple
+from collections import namedtuple
 
 from lib.contracts.functions import functions_of
 from lib.contracts.source import Fault
@@ -15,16 +15,8 @@ PAGE_HEAD = ["| Why | In the sources → in Rust |", "|---|---|"]
 TESTS_HEAD = ["", "Of the sources' own tests it replaces these patterns, as Python writes them.", "", "| Pattern | In Rust |", "|---|---|"]
 FILE_HEAD = ["# Substitutions", "", "`x rust` puts each of these texts in the place of that of the sources.", "",
              "| File | In the sources | In Rust | Why |", "|---|---|---|---|"]
-
-
-class Substitution(NamedTuple):
-    """In this file, `old` is `new`, so many times. `shown` has shorter forms of both for a page."""
-    path: str
-    why: str
-    shown: str
-    times: int
-    old: str
-    new: str
+# In this file, `old` is `new`, so many times. `shown` has shorter forms of both for a page.
+Substitution = namedtuple("Substitution", "path why shown times old new")
 
 
 def rows(name, columns=2):
@@ -99,8 +91,7 @@ def code(text):
 
 # Each kind of decision, with what is added to the function's page, and what begins its body.
 KINDS = {kind: (page, code.replace("\\n", "\n")) for kind, page, code in rows("kinds", 3)}
-# The file, the name and the kind of each decision. Two are of structs whose fields a user sets, and whose invariant a proof
-# reads.
+# The file, the name and the kind of each decision. Two are of structs whose fields a user sets, and whose invariant a proof reads.
 DECISIONS = rows("decisions", 3)
 # A function with its page. A function of an impl has none.
 FUNCTION = r"(?m)((?:^ *///.*\n)+)((?: *(?:#\[|// ).*\n)*)^( *)(pub )?((?:const )?)(fn %s\b[^{;]*[{;])"

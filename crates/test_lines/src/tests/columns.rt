@@ -1,21 +1,21 @@
 //! Tests of columns. Spaces come in pieces of up to 64, other fills one in a piece. Texts in columns of each width are rows of
 //! tools/data/rows.
 ghost use Rattle.std.specs.Prelude.{codes};
-ghost use Rattle.ufmt.specs.Document.{leaf};
 ghost use Rattle.ufmt.specs.Hex.{padded};
 
 use super::asserts::{has_wanted_rows, same};
+use super::counting::Counting;
 use example_print::{Counter, write_row};
 use std::alloc::{AllocError, Global};
 use std::cell::Cell;
 use std::test::Fail;
-use test_rows::printed::{PREFIXED, Printed, column, decimal};
+use test_rows::printed::{PREFIXED, Printed, PrintedLine, column, decimal, in_column};
 use test_rows::rows::Table;
-use test_rows::{put_filled, rows_of};
-use ufmt::pieces::{Debug, Display, InColumn};
+use test_rows::{put_filled, put_rows, rows_of};
+use ufmt::pieces::{Debug, Display};
 use ufmt::{
-    Align, Column, Formatter, HexOptions, Line, laws, line_into, pieces, uDebug, uDisplayHex,
-    uWrite, uwrite, write_line,
+    Align, Column, Formatter, HexOptions, Line, laws, line_into, pieces, uDisplayHex, uWrite,
+    uwrite, write_line,
 };
 
 fn left(width: usize) -> Column {
@@ -28,20 +28,6 @@ fn center(width: usize) -> Column {
 
 fn right(width: usize) -> Column {
     column(Align::Right, ' ', width)
-}
-
-fn in_column<M>(mark: M, column: Column) -> InColumn<M> {
-    InColumn { mark, column }
-}
-
-// A line, which prints in either mode.
-#[derive(Drop)]
-struct InEitherMode<L>(L);
-
-impl<L: Line> Printed for InEitherMode<L> {
-    fn print<W: uWrite>(&self, f: &mut Formatter<W>) -> Result<(), W::Error> {
-        self.0.print(f)
-    }
 }
 
 /// Columns by other calls than those of a line.
@@ -90,7 +76,7 @@ impl Printed for Columns {
 // Adds a row of the pieces of each line, and after an arrow what is wanted of it.
 macro_rules! put_lines {
     ($table:ident; $(($($line:tt)*) => $wanted:tt)*) => {
-        $($table.pieces(&InEitherMode(pieces!($($line)*)));
+        $($table.pieces(&PrintedLine(pieces!($($line)*)));
         $table.wants($wanted);)*
     };
 }
@@ -153,8 +139,7 @@ fn values_are_padded_as_their_texts_and_as_the_laws_say(rt: HostRuntime) {
         Columns::ByUwrite => "n=|   |5|, |0x|0|0|ff|!\n|";
         Columns::ByLaws => "7|    |\"|a|\"|  |()|   |0x|0|0|ff|7|    |\"|a|\"|  |()|   |0x|0|0|ff|\"|b|\"|  |0x|0|0|10|-|0x|0|0|11|";
     ] {
-        table.pieces(&columns);
-        table.wants(wanted);
+        put_rows!(table; pieces(&columns) => wanted;);
     }
     laws::columns_are_filled();
     has_wanted_rows(&rt, &table);
@@ -229,29 +214,10 @@ fn a_padded_number_has_fills_up_to_the_width(rt: HostRuntime) -> Result<(), Fail
     Ok(())
 }
 
-// A text that counts the calls of its `fmt`.
-#[derive(Drop)]
-struct Counting<'a> {
-    text: &'static str,
-    calls: &'a Cell<u8>,
-}
-
-impl uDebug for Counting<'_> {
-    ghost document = { λ v. leaf v.text.now };
-
-    fn fmt<W: uWrite>(&self, f: &mut Formatter<W>) -> Result<(), W::Error> {
-        self.calls.set(self.calls.get().saturating_add(1));
-        f.write_str(self.text)
-    }
-}
-
 // How often `fmt` of this text is called for a column in a buffer of 16 bytes, and whether the column fits.
 fn calls_in(within: Column, text: &'static str) -> (u8, bool) {
     let calls = Cell::new(0);
-    let counting = Counting {
-        text,
-        calls: &calls,
-    };
+    let counting = Counting::new(text, &calls);
     let outcome = line_into(&mut [0; 16], &pieces!(debug counting in within));
     (calls.get(), outcome.is_ok())
 }
@@ -278,10 +244,7 @@ fn a_value_is_printed_twice_and_once_where_no_width_is_asked_for(rt: HostRuntime
 #[test]
 fn a_value_in_a_column_in_a_column_is_printed_three_times(rt: HostRuntime) {
     let calls = Cell::new(0);
-    let counting = Counting {
-        text: "a",
-        calls: &calls,
-    };
+    let counting = Counting::new("a", &calls);
     let outer = in_column(in_column(Debug, right(3)), right(9));
     let fits = line_into(&mut [0; 16], &pieces!(each [counting] by outer between "")).is_ok();
     same(&rt, (calls.get(), fits), (3, true), "calls of `fmt`");

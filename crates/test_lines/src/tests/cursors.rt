@@ -1,7 +1,7 @@
 //! Tests of `Cursor`, of `write_to_buffer`, and of a formatter that continues after a failed entry.
 use super::asserts::{has_wanted_rows, same};
 use test_rows::rows::Table;
-use test_rows::rows_of;
+use test_rows::{put_rows, rows_of};
 use ufmt::{Cursor, Formatter, Full, laws, uWrite};
 
 #[test]
@@ -9,29 +9,22 @@ fn a_cursor_takes_pieces_that_fit(rt: HostRuntime) {
     let mut table = Table::new(rt.alloc());
     let mut buffer = *b"......";
     let mut cursor = Cursor::new(&mut buffer);
-    for (
-        piece,
-        wanted,
-    ) in rows_of!["" => "Ok(6) "; "ab" => "Ok(4) ab"; "cdefg" => "Err(Full) ab";] {
-        let outcome = cursor.write_str(piece);
-        table.put_written(outcome, cursor.remaining(), cursor.written());
-        table.wants(wanted);
+    for (piece, wanted) in [
+        ("", "Ok(6) "),
+        ("ab", "Ok(4) ab"),
+        ("cdefg", "Err(Full) ab"),
+    ] {
+        put_rows!(table; put_written(cursor.write_str(piece), cursor.remaining(), cursor.written()) => wanted;);
     }
     for (character, wanted) in [('é', "Ok(2) abé"), ('€', "Err(Full) abé")] {
-        let outcome = cursor.write_char(character);
-        table.put_written(outcome, cursor.remaining(), cursor.written());
-        table.wants(wanted);
+        put_rows!(table; put_written(cursor.write_char(character), cursor.remaining(), cursor.written()) => wanted;);
     }
-    let outcome = cursor.write_str("");
-    table.put_written(outcome, cursor.remaining(), cursor.written());
-    table.wants("Ok(2) abé");
+    put_rows!(table; put_written(cursor.write_str(""), cursor.remaining(), cursor.written()) => "Ok(2) abé";);
     same(&rt, cursor.remaining(), 2, "what remains");
     same(&rt, buffer.as_slice(), "abé..".as_bytes(), "the buffer");
     let mut cursor = Cursor::new(&mut []);
     for (piece, wanted) in [("", "Ok(0) "), ("a", "Err(Full) ")] {
-        let outcome = cursor.write_str(piece);
-        table.put_written(outcome, cursor.remaining(), cursor.written());
-        table.wants(wanted);
+        put_rows!(table; put_written(cursor.write_str(piece), cursor.remaining(), cursor.written()) => wanted;);
     }
     same(&rt, cursor.remaining(), 0, "what remains");
     has_wanted_rows(&rt, &table);
@@ -74,17 +67,14 @@ fn entry_then_text_to<W: uWrite<Error = Full>>(
 #[test]
 fn a_formatter_continues_after_a_failed_entry(rt: HostRuntime) {
     let mut table = Table::new(rt.alloc());
-    for (
-        size,
-        is_pretty,
-        wanted,
-    ) in rows_of![1, false => "Err(Full) ["; 1, true => "Err(Full) ["; 3, true => "Ok(0) [\nx";] {
+    for (size, is_pretty, wanted) in rows_of![
+        1, false => "Err(Full) ["; 1, true => "Err(Full) ["; 3, true => "Ok(0) [\nx";
+    ] {
         let mut buffer = [0; 3];
         let writer = Cursor::new(&mut buffer[..size]);
         let (outcome, left, cursor) = entry_then_text_to(is_pretty, writer);
         same(&rt, left, (false, 0), "what is left");
-        table.put_written(outcome, cursor.remaining(), cursor.written());
-        table.wants(wanted);
+        put_rows!(table; put_written(outcome, cursor.remaining(), cursor.written()) => wanted;);
     }
     has_wanted_rows(&rt, &table);
 }

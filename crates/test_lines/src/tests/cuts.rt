@@ -1,18 +1,16 @@
 //! Tests of a text that is cut where the buffer ends: `Truncating`, and the calls that print as much as
 //! fits. The rows of the calls are rustc's, for buffers of no byte, of one byte, and so on. `tools/expected/show VALUE`
 //! prints the whole text again.
-ghost use Rattle.std.specs.Prelude.{codes};
-ghost use Rattle.ufmt.specs.Document.{leaf};
-
 use super::asserts::{has_wanted_rows, same};
+use super::counting::Counting;
 use example_print::{Pair, log_cut};
 use std::cell::Cell;
 use test_rows::printed::PREFIXED;
 use test_rows::rows::{Table, repeated};
-use test_rows::rows_of;
+use test_rows::{put_rows, rows_of};
 use ufmt::{
-    Cut, Formatter, Full, Truncating, debug_cut_into, display_cut_into, line_cut_into, pieces,
-    pretty_cut_into, uDebug, uDisplay, uWrite, write_debug,
+    Cut, Full, Truncating, debug_cut_into, display_cut_into, line_cut_into, pieces,
+    pretty_cut_into, uWrite, write_debug,
 };
 
 trait CutRows {
@@ -112,26 +110,18 @@ fn after_a_cut_nothing_more_is_taken_and_characters_are_taken_whole(rt: HostRunt
         "d" => "Err(Full) abé";
         "" => "Ok(0) abé";
     ] {
-        let outcome = writer.write_str(piece);
-        table.put_written(outcome, writer.remaining(), writer.written());
-        table.wants(wanted);
+        put_rows!(table; put_written(writer.write_str(piece), writer.remaining(), writer.written()) => wanted;);
     }
-    let outcome = writer.write_char('e');
-    table.put_written(outcome, writer.remaining(), writer.written());
-    table.wants("Err(Full) abé");
+    put_rows!(table; put_written(writer.write_char('e'), writer.remaining(), writer.written()) => "Err(Full) abé";);
     let left = (writer.is_cut(), writer.remaining());
     same(&rt, left, (true, 0), "after the cut");
     same(&rt, buffer.as_slice(), "abé.".as_bytes(), "the buffer");
     let mut buffer = *b"....";
     let mut writer = Truncating::new(&mut buffer);
-    for (
-        character,
-        wanted,
-    ) in rows_of!['a' => "Ok(3) a"; 'é' => "Ok(1) aé"; 'é' => "Err(Full) aé"; 'b' => "Err(Full) aé";]
-    {
-        let outcome = writer.write_char(character);
-        table.put_written(outcome, writer.remaining(), writer.written());
-        table.wants(wanted);
+    for (character, wanted) in rows_of![
+        'a' => "Ok(3) a"; 'é' => "Ok(1) aé"; 'é' => "Err(Full) aé"; 'b' => "Err(Full) aé";
+    ] {
+        put_rows!(table; put_written(writer.write_char(character), writer.remaining(), writer.written()) => wanted;);
     }
     same(&rt, buffer.as_slice(), "aé.".as_bytes(), "the whole buffer");
     has_wanted_rows(&rt, &table);
@@ -150,40 +140,10 @@ fn a_full_buffer_is_not_yet_cut(rt: HostRuntime) {
     same(&rt, buffer, *b"12", "the whole buffer");
 }
 
-// Counts how often it prints itself.
-#[derive(Drop)]
-struct Counting<'a> {
-    prints: &'a Cell<u32>,
-}
-
-impl Counting<'_> {
-    fn count(&self) {
-        self.prints.set(self.prints.get().saturating_add(1));
-    }
-}
-
-impl uDebug for Counting<'_> {
-    ghost document = { λ _. leaf (codes "abc") };
-
-    fn fmt<W: uWrite>(&self, f: &mut Formatter<W>) -> Result<(), W::Error> {
-        self.count();
-        f.write_str("abc")
-    }
-}
-
-impl uDisplay for Counting<'_> {
-    ghost display = { λ _. leaf (codes "abc") };
-
-    fn fmt<W: uWrite>(&self, f: &mut Formatter<W>) -> Result<(), W::Error> {
-        self.count();
-        f.write_str("abc")
-    }
-}
-
 #[test]
 fn a_value_is_printed_once(rt: HostRuntime) {
     let prints = Cell::new(0);
-    let value = Counting { prints: &prints };
+    let value = Counting::new("abc", &prints);
     let mut buffer = [b'.'; 2];
     let _cut = debug_cut_into(&mut buffer, &value);
     same(&rt, prints.get(), 1, "debug_cut_into");

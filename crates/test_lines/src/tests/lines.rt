@@ -1,10 +1,11 @@
 //! Tests of `pieces!`, `write_line` and `line_into`.
 use super::asserts::{has_wanted_rows, same};
 use example_print::{Measurement, dump_packet, list_measurements};
-use test_rows::printed::{PREFIXED, Printed};
-use test_rows::put_filled;
+use test_rows::printed::{PREFIXED, PrintedLine};
 use test_rows::rows::{Table, are_ok};
-use ufmt::{Formatter, Full, Line, line_into, pieces, uWrite, write_line};
+use test_rows::{put_filled, put_rows};
+use ufmt::pieces::Display;
+use ufmt::{line_into, pieces, write_line};
 
 #[test]
 fn line_into_a_short_buffer_writes_the_first_pieces(rt: HostRuntime) {
@@ -47,39 +48,23 @@ fn each_prints_items_with_a_text_between_them(rt: HostRuntime) {
 }
 
 // Empty texts, items and separators are pieces too.
-struct EmptyPieces;
-
-impl Printed for EmptyPieces {
-    fn print<W: uWrite>(&self, f: &mut Formatter<W>) -> Result<(), W::Error> {
-        pieces!(text "").print(f)?;
-        pieces!(text "", display "", each debug [1u8, 2, 3] between "", text "").print(f)?;
-        pieces!(each display ["", ""] between "").print(f)?;
-        pieces!(each hex [1u8, 2] with PREFIXED between "").print(f)?;
-        pieces!(each ["a", "b"] by (ufmt::pieces::Display) between "").print(f)
-    }
-}
-
 #[test]
 fn empty_pieces_are_passed_to_the_writer(rt: HostRuntime) {
     let mut table = Table::new(rt.alloc());
-    table.pieces(&EmptyPieces);
-    table.wants("|||1||2||3|||||0x|0|0|0|1||0x|0|0|0|2|a||b|");
+    put_rows!(table;
+        pieces(&PrintedLine(pieces!(text ""))) => "|";
+        pieces(&PrintedLine(pieces!(text "", display "", each debug [1u8, 2, 3] between "", text ""))) => "||1||2||3||";
+        pieces(&PrintedLine(pieces!(each display ["", ""] between ""))) => "|||";
+        pieces(&PrintedLine(pieces!(each hex [1u8, 2] with PREFIXED between ""))) => "0x|0|0|0|1||0x|0|0|0|2|";
+        pieces(&PrintedLine(pieces!(each ["a", "b"] by Display between ""))) => "a||b|";
+    );
     has_wanted_rows(&rt, &table);
-}
-
-struct ALine;
-
-impl Printed for ALine {
-    fn print<W: uWrite>(&self, f: &mut Formatter<W>) -> Result<(), W::Error> {
-        pieces!(text "a", debug (1u8,)).print(f)
-    }
 }
 
 #[test]
 fn a_line_prints_in_pretty_mode(rt: HostRuntime) {
     let mut table = Table::new(rt.alloc());
-    table.pieces(&ALine);
-    table.wants("a||(|1|,|)|~\na||(|\n|    |1|,\n|)|");
+    put_rows!(table; pieces(&PrintedLine(pieces!(text "a", debug (1u8,)))) => "a||(|1|,|)|~\na||(|\n|    |1|,\n|)|";);
     has_wanted_rows(&rt, &table);
 }
 

@@ -2,10 +2,10 @@
 //! numbers in each radix, with options.
 use super::asserts::has_wanted_rows;
 use std::num::{NonZeroI16, NonZeroU8, Saturating, Wrapping};
-use test_rows::printed::{BITS, Digits, PREFIXED, Printed};
+use test_rows::printed::{BITS, Digits, PREFIXED, Printed, PrintedLine};
 use test_rows::put_rows;
 use test_rows::rows::Table;
-use ufmt::{Formatter, Line, Radix, pieces, uDisplayRadix, uWrite, uwrite};
+use ufmt::{Formatter, Radix, pieces, uDisplayRadix, uWrite, uwrite};
 
 trait BinaryRows {
     // Adds a row of the pieces of the number's binary digits.
@@ -45,25 +45,12 @@ fn numbers_print_in_binary(rt: HostRuntime) {
     has_wanted_rows(&rt, &table);
 }
 
-/// Pieces in each radix, by each macro.
-#[derive(Clone, Copy)]
-enum Written {
-    ByUwrite,
-    ByPieces,
-    Each,
-}
+/// Pieces in each radix, by `uwrite!`.
+struct Written;
 
 impl Printed for Written {
     fn print<W: uWrite>(&self, f: &mut Formatter<W>) -> Result<(), W::Error> {
-        match self {
-            Written::ByUwrite => uwrite!(f, bin 37u8 with BITS, text " ", oct (37i16) with BITS),
-            Written::ByPieces => pieces!(bin 37u8 with BITS, oct 37i16 with BITS).print(f),
-            Written::Each => {
-                pieces!(each bin [1u8, 2] with BITS between ",", each oct [8u8] with BITS between "").print(
-                    f,
-                )
-            }
-        }
+        uwrite!(f, bin 37u8 with BITS, text " ", oct (37i16) with BITS)
     }
 }
 
@@ -71,9 +58,10 @@ impl Printed for Written {
 fn pieces_print_in_binary_and_octal(rt: HostRuntime) {
     let mut table = Table::new(rt.alloc());
     put_rows!(table;
-        pieces(&Written::ByUwrite) => "0b|0|0|100101| |0o|0|0|0|0|0|0|45|";
-        pieces(&Written::ByPieces) => "0b|0|0|100101|0o|0|0|0|0|0|0|45|";
-        pieces(&Written::Each) => "0b|0|0|0|0|0|0|0|1|,|0b|0|0|0|0|0|0|10|0o|0|0|0|0|0|0|10|";
+        pieces(&Written) => "0b|0|0|100101| |0o|0|0|0|0|0|0|45|";
+        pieces(&PrintedLine(pieces!(bin 37u8 with BITS, oct 37i16 with BITS))) => "0b|0|0|100101|0o|0|0|0|0|0|0|45|";
+        pieces(&PrintedLine(pieces!(each bin [1u8, 2] with BITS between ",", each oct [8u8] with BITS between "")))
+            => "0b|0|0|0|0|0|0|0|1|,|0b|0|0|0|0|0|0|10|0o|0|0|0|0|0|0|10|";
     );
     has_wanted_rows(&rt, &table);
 }

@@ -4,12 +4,12 @@ use std::num::{
     NonZeroI8, NonZeroI16, NonZeroI32, NonZeroI64, NonZeroI128, NonZeroIsize, NonZeroU8,
     NonZeroU16, NonZeroU32, NonZeroU64, NonZeroU128, NonZeroUsize, Saturating, Wrapping,
 };
-use test_rows::printed::{PREFIXED, column, decimal};
+use test_rows::printed::{PREFIXED, column, decimal, in_column};
+use test_rows::put_rows;
 use test_rows::rows::Table;
-use test_rows::{put_rows, rows_of};
-use ufmt::pieces::{Display, InColumn};
+use ufmt::pieces::Display;
 use ufmt::{
-    Align, Column, HexDump, Line, hex_dump_into, line_cut_into, line_into, pieces, uDisplayHex,
+    Align, HexDump, Line, hex_dump_into, line_cut_into, line_into, pieces, uDisplayHex,
     uDisplayRadix, uDisplayZeros,
 };
 
@@ -83,32 +83,31 @@ const FILLS: &str = "Err(Full) ************";
 
 const TEXT_AND_FILLS: &str = "Err(Full) x***********";
 
-// Lines with such a text in a column, and with a column of this width in it, around `x`. `wanted` is of the first, and `nested`
-// of the second.
-fn put_in_a_column(
-    table: &mut Table,
-    width: usize,
-    within: Column,
-    wanted: [&str; 4],
-    nested: &str,
-) {
+// What is wanted of a number in a column of this width, and of a column in it. A column around a text that is as wide as it, or wider,
+// has no fills; around a narrower one it has, at the left after it.
+fn wanted_within(width: usize, align: Align, padded: usize) -> ([&'static str; 4], &'static str) {
+    match align {
+        Align::Left => (VALUES, TEXT_AND_FILLS),
+        Align::Center | Align::Right if width > padded => ([FILLS; 4], FILLS),
+        Align::Center | Align::Right => (VALUES, FILLS),
+    }
+}
+
+// Lines with a text that is padded to the width `padded` in a column of this width, and with a column of the width `padded` in it,
+// around `x`.
+fn put_in_a_column(table: &mut Table, padded: usize, align: Align, width: usize) {
+    let (wanted, nested) = wanted_within(width, align, padded);
     let (mut zeros, mut spaces) = (PREFIXED, PREFIXED);
-    zeros.pad_length = width;
+    zeros.pad_length = padded;
     spaces.pad_char = b' ';
     spaces.ox_prefix = false;
-    spaces.pad_length = width;
-    let wide = InColumn {
-        mark: Display,
-        column: Column { width, ..within },
-    };
-    let narrow = InColumn {
-        mark: wide,
-        column: within,
-    };
+    spaces.pad_length = padded;
+    let within = column(align, '*', width);
+    let narrow = in_column(in_column(Display, column(align, '*', padded)), within);
     put_lines!(table;
         (hex 7u8 with zeros in within) => (wanted[0])
         (bin 5i64 with spaces in within) => (wanted[1])
-        (zeros (-7i8) to width in within) => (wanted[2])
+        (zeros (-7i8) to padded in within) => (wanted[2])
         (each hex [1u8, 2] with zeros in within between ",") => (wanted[3])
         (each ["x"] by narrow between "") => nested
     );
@@ -118,18 +117,14 @@ const WIDTHS: [usize; 2] = [1 << 63, usize::MAX];
 
 #[test]
 fn a_width_that_no_buffer_holds_fails_with_full(rt: HostRuntime) {
-    for width in WIDTHS {
+    for padded in WIDTHS {
         let mut table = Table::new(rt.alloc());
-        put_padded(&mut table, width);
-        for (
-            align,
-            nested,
-        ) in rows_of![Align::Left => TEXT_AND_FILLS; Align::Center => FILLS; Align::Right => FILLS;]
-        {
-            put_in_a_column(&mut table, width, column(align, '*', 3), VALUES, nested);
+        put_padded(&mut table, padded);
+        for width in [3, 1 << 63, usize::MAX] {
+            for align in [Align::Left, Align::Center, Align::Right] {
+                put_in_a_column(&mut table, padded, align, width);
+            }
         }
-        let widest = column(Align::Left, '*', usize::MAX);
-        put_in_a_column(&mut table, width, widest, VALUES, TEXT_AND_FILLS);
         has_wanted_rows(&rt, &table);
     }
 }
@@ -162,36 +157,6 @@ fn every_number_is_counted_without_its_padding(rt: HostRuntime) {
         all_nonzero_pad!(NonZeroI8 NonZeroI16 NonZeroI32 NonZeroI64 NonZeroI128 NonZeroIsize);
     same(&rt, signed, [[true; 3]; 6], "nonzero, signed");
     same(&rt, decimal(-125, 1).pads_zeros(), true, "a decimal");
-}
-
-// What is wanted of a number in a column of this width, and of a column in it. A column around a text that is as wide as it, or wider,
-// has no fills; around a narrower one it has, at the left after it.
-fn wanted_within(width: usize, align: Align, padded: usize) -> ([&'static str; 4], &'static str) {
-    match align {
-        Align::Left => (VALUES, TEXT_AND_FILLS),
-        Align::Center | Align::Right if width > padded => ([FILLS; 4], FILLS),
-        Align::Center | Align::Right => (VALUES, FILLS),
-    }
-}
-
-#[test]
-fn a_huge_column_around_a_huge_number_ends_with_its_buffer(rt: HostRuntime) {
-    for width in WIDTHS {
-        for padded in WIDTHS {
-            let mut table = Table::new(rt.alloc());
-            for align in [Align::Left, Align::Center, Align::Right] {
-                let (wanted, nested) = wanted_within(width, align, padded);
-                put_in_a_column(
-                    &mut table,
-                    padded,
-                    column(align, '*', width),
-                    wanted,
-                    nested,
-                );
-            }
-            has_wanted_rows(&rt, &table);
-        }
-    }
 }
 
 #[test]

@@ -2,10 +2,9 @@
 //! more widths are rows of tools/data/rows.
 use super::asserts::has_wanted_rows;
 use std::num::{NonZeroI16, NonZeroU8, Saturating, Wrapping};
-use test_rows::printed::{BITS, Printed, ZeroPadded, column};
+use test_rows::printed::{BITS, Printed, PrintedLine, ZeroPadded, column};
 use test_rows::put_rows;
 use test_rows::rows::Table;
-use ufmt::pieces::Line;
 use ufmt::{Align, Formatter, laws, pieces, uDisplayZeros, uWrite, uwrite};
 
 trait ZeroRows {
@@ -39,11 +38,10 @@ fn numbers_print_with_zeros(rt: HostRuntime) {
     has_wanted_rows(&rt, &table);
 }
 
-/// Pieces of numbers, by each macro and by the laws of both.
+/// Pieces of numbers, by `uwrite!` and by the laws of both macros.
 #[derive(Clone, Copy)]
 enum Written {
     ByUwrite,
-    ByPieces,
     ByTheLaw,
     ByTheLawOfLines,
 }
@@ -55,11 +53,6 @@ impl Printed for Written {
             Written::ByUwrite => {
                 uwrite!(f, zeros 7u8 to 2, text ":", zeros (-7i16) to 3, text " ", zeros 7u32 to 2 in right)
             }
-            Written::ByPieces => pieces!(
-                zeros 7u8 to 2, text ":", zeros (-7i16) to 3, text " ", zeros 7u32 to 2 in right,
-                each zeros [1u8, 23] to 2 between ".", each zeros [4i8] to 2 in right between "."
-            )
-            .print(f),
             Written::ByTheLaw => laws::uwrite_numbers(f, &5u8, BITS, &-5i8, 3),
             Written::ByTheLawOfLines => {
                 laws::line_of_numbers(f, ", ", &5u8, BITS, &-5i8, &[1i8, -1], 3, right)
@@ -70,10 +63,13 @@ impl Printed for Written {
 
 #[test]
 fn pieces_print_with_zeros(rt: HostRuntime) {
-    let mut table = Table::new(rt.alloc());
+    let (mut table, right) = (Table::new(rt.alloc()), column(Align::Right, ' ', 6));
     put_rows!(table;
         pieces(&Written::ByUwrite) => "0|7|:|-|0|7| |    |0|7|";
-        pieces(&Written::ByPieces) => "0|7|:|-|0|7| |    |0|7|0|1|.|23|    |0|4|";
+        pieces(&PrintedLine(pieces!(
+            zeros 7u8 to 2, text ":", zeros (-7i16) to 3, text " ", zeros 7u32 to 2 in right,
+            each zeros [1u8, 23] to 2 between ".", each zeros [4i8] to 2 in right between "."
+        ))) => "0|7|:|-|0|7| |    |0|7|0|1|.|23|    |0|4|";
         pieces(&Written::ByTheLaw) => "0b|0|0|0|0|0|101|0o|0|0|0|0|0|0|0|5|-|0|5|";
         pieces(&Written::ByTheLawOfLines) => "0b|0|0|0|0|0|101|0o|0|0|0|0|0|0|0|5|-|0|5|   |0|0|1|, |   |-|0|1|";
     );

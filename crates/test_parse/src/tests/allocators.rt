@@ -11,10 +11,7 @@ type Lent<'a> = &'a Global;
 // Whether the value prints as the text.
 fn has_text<T: uDebug>(value: &T, text: &str) -> bool {
     let mut printed = [0; 64];
-    match debug_into(&mut printed, value) {
-        Ok(len) => printed.get(..len) == Some(text.as_bytes()),
-        Err(_) => false,
-    }
+    debug_into(&mut printed, value).is_ok_and(|len| printed.get(..len) == Some(text.as_bytes()))
 }
 
 // Whether a value is parsed with this allocator, and prints as the text.

@@ -8,10 +8,8 @@ use ufmt_parse::{parse, round_trip, round_trip_in};
 #[test]
 fn numbers_in_a_struct_a_tuple_and_a_list(rt: HostRuntime) {
     let alloc = rt.alloc();
-    let supply = Supply {
-        channel: 2,
-        volts: decimal(-1250, 2),
-    };
+    let (channel, volts) = (2, decimal(-1250, 2));
+    let supply = Supply { channel, volts };
     let text = b"Supply { channel: 2, volts: -12.50 }";
     same(&rt, parse((), text), Ok(supply), "a struct");
     same(&rt, round_trip(alloc, &supply), Ok(supply), "again");

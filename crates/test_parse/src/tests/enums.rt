@@ -1,3 +1,3 @@
 //! Tests of enums: each shape of variant, structs in variants beside other values, and long names.
 pub(super) mod shapes;
-mod structs;
+pub mod structs;

@@ -9,16 +9,6 @@ use ufmt_parse::{
 /// What was parsed, and how many bytes were taken.
 type Taken<T> = (Option<T>, usize);
 
-type Four = (u8, bool, u8, u8);
-
-type Five = (u8, bool, u8, u8, u8);
-
-type Six = (u8, bool, u8, u8, u8, u8);
-
-type Seven = (u8, bool, u8, u8, u8, u8, u8);
-
-type Twelve = (u8, bool, u8, u8, u8, u8, u8, u8, u8, u8, u8, u8);
-
 // What this call takes of a struct `Row` with these fields, each parsed by its type.
 macro_rules! by_types {
     ($call:ident $text:ident $($name:literal)+) => {{
@@ -28,23 +18,23 @@ macro_rules! by_types {
     }};
 }
 
-fn four<M: ParseMode>(text: &str) -> Taken<Four> {
+fn four<M: ParseMode>(text: &str) -> Taken<(u8, bool, u8, u8)> {
     by_types!(parse_struct_4 text "a" "b" "c" "d")
 }
 
-fn five<M: ParseMode>(text: &str) -> Taken<Five> {
+fn five<M: ParseMode>(text: &str) -> Taken<(u8, bool, u8, u8, u8)> {
     by_types!(parse_struct_5 text "a" "b" "c" "d" "e")
 }
 
-fn six<M: ParseMode>(text: &str) -> Taken<Six> {
+fn six<M: ParseMode>(text: &str) -> Taken<(u8, bool, u8, u8, u8, u8)> {
     by_types!(parse_struct_6 text "a" "b" "c" "d" "e" "f")
 }
 
-fn seven<M: ParseMode>(text: &str) -> Taken<Seven> {
+fn seven<M: ParseMode>(text: &str) -> Taken<(u8, bool, u8, u8, u8, u8, u8)> {
     by_types!(parse_struct_7 text "a" "b" "c" "d" "e" "f" "g")
 }
 
-fn twelve<M: ParseMode>(text: &str) -> Taken<Twelve> {
+fn twelve<M: ParseMode>(text: &str) -> Taken<(u8, bool, u8, u8, u8, u8, u8, u8, u8, u8, u8, u8)> {
     by_types!(parse_struct_12 text "a" "b" "c" "d" "e" "f" "g" "h" "i" "j" "k" "l")
 }
 

@@ -34,7 +34,7 @@ impl uParse<Global> for Notes {
         prove_fields!(Global, self, Notes { count, lines })
     }
 
-    fn parse_from<M: ParseMode>(alloc: Global, parser: &mut Parser<'_, M>) -> Result<Notes, Fault> {
+    fn parse_from<M: ParseMode>(alloc: Global, parser: &mut Parser<'_, M>) -> Result<Self, Fault> {
         parse_fields!(alloc, parser, Notes { count, lines })
     }
 }
@@ -61,7 +61,7 @@ impl uParse<Global> for Table {
         prove_fields!(Global, self, Table { rows, columns })
     }
 
-    fn parse_from<M: ParseMode>(alloc: Global, parser: &mut Parser<'_, M>) -> Result<Table, Fault> {
+    fn parse_from<M: ParseMode>(alloc: Global, parser: &mut Parser<'_, M>) -> Result<Self, Fault> {
         parse_fields!(alloc, parser, Table { rows, columns })
     }
 }
@@ -86,10 +86,7 @@ impl uParse<Global> for Person {
         prove_fields!(Global, self, Person(name, nickname, age))
     }
 
-    fn parse_from<M: ParseMode>(
-        alloc: Global,
-        parser: &mut Parser<'_, M>,
-    ) -> Result<Person, Fault> {
+    fn parse_from<M: ParseMode>(alloc: Global, parser: &mut Parser<'_, M>) -> Result<Self, Fault> {
         parse_fields!(alloc, parser, Person(name, nickname, age))
     }
 }
@@ -112,7 +109,7 @@ impl uParse<Global> for Mark {
         prove_fields!(Global, self, Mark(at, letter, other))
     }
 
-    fn parse_from<M: ParseMode>(alloc: Global, parser: &mut Parser<'_, M>) -> Result<Mark, Fault> {
+    fn parse_from<M: ParseMode>(alloc: Global, parser: &mut Parser<'_, M>) -> Result<Self, Fault> {
         parse_fields!(alloc, parser, Mark(at, letter, other))
     }
 }
@@ -149,10 +146,7 @@ impl<T: uParse<Global>> uParse<Global> for Holder<T> {
         prove_fields!(Global, self, Holder { value, boxed, .. })
     }
 
-    fn parse_from<M: ParseMode>(
-        alloc: Global,
-        parser: &mut Parser<'_, M>,
-    ) -> Result<Holder<T>, Fault> {
+    fn parse_from<M: ParseMode>(alloc: Global, parser: &mut Parser<'_, M>) -> Result<Self, Fault> {
         parse_fields!(
             alloc,
             parser,
@@ -185,10 +179,7 @@ impl uParse<Global> for Switches {
         prove_fields!(Global, self, Switches(is_on, all, last))
     }
 
-    fn parse_from<M: ParseMode>(
-        alloc: Global,
-        parser: &mut Parser<'_, M>,
-    ) -> Result<Switches, Fault> {
+    fn parse_from<M: ParseMode>(alloc: Global, parser: &mut Parser<'_, M>) -> Result<Self, Fault> {
         parse_fields!(alloc, parser, Switches(is_on, all, last))
     }
 }
@@ -213,7 +204,7 @@ impl uParse<Global> for Curve {
         prove_fields!(Global, self, Curve(points, peak, unit))
     }
 
-    fn parse_from<M: ParseMode>(alloc: Global, parser: &mut Parser<'_, M>) -> Result<Curve, Fault> {
+    fn parse_from<M: ParseMode>(alloc: Global, parser: &mut Parser<'_, M>) -> Result<Self, Fault> {
         parse_fields!(alloc, parser, Curve(points, peak, unit))
     }
 }
@@ -239,7 +230,7 @@ impl uParse<Global> for Order {
         prove_fields!(Global, self, Order(first, letters, ids, text))
     }
 
-    fn parse_from<M: ParseMode>(alloc: Global, parser: &mut Parser<'_, M>) -> Result<Order, Fault> {
+    fn parse_from<M: ParseMode>(alloc: Global, parser: &mut Parser<'_, M>) -> Result<Self, Fault> {
         parse_fields!(alloc, parser, Order(first, letters, ids, text))
     }
 }

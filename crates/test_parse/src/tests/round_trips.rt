@@ -14,10 +14,8 @@ fn a_value_comes_back_from_memory(rt: HostRuntime) {
     let alloc = rt.alloc();
     same(&rt, round_trip(alloc, &SET), Ok(SET), "a struct");
     same(&rt, round_trip(alloc, &'\''), Ok('\''), "a character");
-    let sample = Sample {
-        channel: 3,
-        celsius: -4.5,
-    };
+    let (channel, celsius) = (3, -4.5);
+    let sample = Sample { channel, celsius };
     same(&rt, round_trip(alloc, &sample), Ok(sample), "a float");
     let pair = (1u8, Some(false));
     same(&rt, round_trip(alloc, &pair), Ok(pair), "a tuple");

@@ -3,13 +3,10 @@
 ghost use Rattle.std.specs.Prelude.{[], ◌∷◌, ⊤};
 ghost use Rattle.ufmt.specs.ValueDocuments.{named_struct, named_tuple};
 
-use super::{first_other, first_wrong, same};
+use super::{first_other, first_wrong, not_text, same};
 use example_parse::{Measurement, Set, Switch, parse_command, parse_measurement};
 use ufmt::{Formatter, fields, uDebug, uWrite};
-use ufmt_parse::ParseError::NotText;
-use ufmt_parse::{
-    Expected, Fault, ParseError, ParseMode, Parser, parse_fields, parse_pretty, uParse,
-};
+use ufmt_parse::{Expected, Fault, ParseMode, Parser, parse_fields, parse_pretty, uParse};
 
 /// Two truth values, each of which is one document or another.
 #[derive(Clone, Copy, PartialEq, Eq, Debug, Drop)]
@@ -95,27 +92,17 @@ fn structs_are_parsed_up_to_what_does_not_fit(rt: HostRuntime) {
     );
 }
 
-fn punctuation_at(at: usize) -> Result<Both, ParseError> {
-    Err(NotText {
-        at,
-        expected: Expected::Punctuation,
-    })
-}
-
 #[test]
 fn pretty_texts_are_parsed_with_their_indentation(rt: HostRuntime) {
-    let flags = Flags {
-        on: false,
-        off: true,
-    };
+    let (on, off) = (false, true);
     let text =
         "Both(\n    Flags {\n        on: false,\n        off: true,\n    },\n    Some(\n        true,\n    ),\n)";
     let less = "Both(\n    Flags {\n        on: false,\n       off: true,\n    },\n    None,\n)";
     let plain = "Both(Flags { on: false, off: true }, None)";
     let rows = [
-        (text, Ok(Both(flags, Some(true)))),
-        (less, punctuation_at(37)),
-        (plain, punctuation_at(4)),
+        (text, Ok(Both(Flags { on, off }, Some(true)))),
+        (less, Err(not_text(37, Expected::Punctuation))),
+        (plain, Err(not_text(4, Expected::Punctuation))),
     ];
     for (text, wanted) in rows {
         same(&rt, parse_pretty((), text.as_bytes()), wanted, text);
@@ -124,16 +111,11 @@ fn pretty_texts_are_parsed_with_their_indentation(rt: HostRuntime) {
 
 #[test]
 fn lines_are_parsed_by_the_calls_of_the_examples(rt: HostRuntime) {
-    let set = Set {
-        channel: 3,
-        level: -4,
-    };
+    let (channel, level) = (3, -4);
     let given = parse_command(b"Set { channel: 3, level: -4 }");
-    same(&rt, given, Ok(set), "a command");
-    let measurement = Measurement {
-        channel: 255,
-        celsius: -2147483648,
-    };
+    same(&rt, given, Ok(Set { channel, level }), "a command");
+    let (channel, celsius) = (255, -2147483648);
+    let measurement = Measurement { channel, celsius };
     let given = parse_measurement(b"Measurement { channel: 255, celsius: -2147483648 }");
     same(&rt, given, Ok(measurement), "a measurement");
     all_stop!(rt, Measurement;

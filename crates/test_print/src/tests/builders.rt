@@ -3,7 +3,7 @@ use super::asserts::has_wanted_rows;
 use std::collections::BTreeMap;
 use test_rows::printed::Printed;
 use test_rows::rows::{Table, map};
-use test_rows::rows_of;
+use test_rows::{put_rows, rows_of};
 use ufmt::{Formatter, uDebug, uWrite};
 
 /// What builders write.
@@ -107,8 +107,7 @@ S| {|\n|    |m|: |{|\n|    |    |1|: |2|,\n|    |}|,\n|    |n|: |3|,\n|}|",
         Built::FieldsAndDots("S") => "S| {| |m|: |1|, |n|: |2|, ..| |}|~\nS| {|\n|    |m|: |1|,\n|    |n|: |2|,\n|    |..\n|}|";
         Built::DotsInOneCall => "A| { .. }|S| {| |m|: |1|, |n|: |2|, ..| |}|~\nA| { .. }|S| {|\n|    |m|: |1|,\n|    |n|: |2|,\n|    |..\n|}|";
     ] {
-        table.pieces(&built);
-        table.wants(wanted);
+        put_rows!(table; pieces(&built) => wanted;);
     }
     has_wanted_rows(&rt, &table);
 }

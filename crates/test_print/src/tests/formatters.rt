@@ -56,29 +56,16 @@ fn write_char_calls_write_char_of_the_writer(rt: HostRuntime) {
         characters: 0,
     };
     let mut reference = &mut noted;
-    let outcome = uWrite::write_char(&mut reference, 'é');
-    same(
-        &rt,
-        (outcome.is_ok(), noted.characters),
-        (true, 1),
-        "by a reference",
-    );
-    let outcome = Formatter::new(&mut noted).write_char('a');
-    same(
-        &rt,
-        (outcome.is_ok(), noted.characters),
-        (true, 2),
-        "over a reference",
-    );
+    let is_ok = uWrite::write_char(&mut reference, 'é').is_ok();
+    same(&rt, (is_ok, noted.characters), (true, 1), "by a reference");
+    let is_ok = Formatter::new(&mut noted).write_char('a').is_ok();
+    let given = (is_ok, noted.characters);
+    same(&rt, given, (true, 2), "over a reference");
     let mut f = Formatter::new(noted);
     let outcomes = [f.write_char('b'), f.write_str("c")];
     let noted = f.into_inner();
-    same(
-        &rt,
-        (are_ok(&outcomes), noted.characters),
-        (true, 3),
-        "by a formatter",
-    );
+    let given = (are_ok(&outcomes), noted.characters);
+    same(&rt, given, (true, 3), "by a formatter");
     same(&rt, noted.text.as_str(), "éabc", "the text");
 }
 

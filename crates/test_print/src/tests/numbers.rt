@@ -33,10 +33,8 @@ fn numbers_print_as_one_piece(rt: HostRuntime) {
 fn is_decimal<N: uDebug + Display + Drop>(alloc: Global, n: N) -> bool {
     let mut text = String::new(alloc);
     let printed = uDebug::fmt(&n, &mut Formatter::new(&mut text));
-    match n.to_string(alloc) {
-        Ok(expected) => printed.is_ok() && text.as_str() == expected.as_str(),
-        Err(_) => false,
-    }
+    let expected = n.to_string(alloc);
+    printed.is_ok() && expected.is_ok_and(|expected| text.as_str() == expected.as_str())
 }
 
 #[test]

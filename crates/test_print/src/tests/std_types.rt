@@ -204,11 +204,9 @@ fn ranges_print_as_by_core_fmt(rt: HostRuntime) {
     let (mut range, mut from_back) = (1u8..=2, -1i8..=0);
     let (mut last, mut backward) = (u8::MAX..=u8::MAX, 5u8..=1);
     range.next();
-    table.texts(&range);
-    table.wants("2..=2");
+    put_rows!(table; texts(&range) => "2..=2";);
     range.next();
-    table.pieces(&range);
-    table.wants("2|..=|2| (exhausted)|");
+    put_rows!(table; pieces(&range) => "2|..=|2| (exhausted)|";);
     range.next();
     from_back.next_back();
     from_back.next_back();

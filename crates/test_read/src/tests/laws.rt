@@ -20,10 +20,7 @@ const TEXTS: [(Class, Mode, &str); 6] = rows_of![
 ];
 
 fn is_text<T: Drop>(outcome: Result<(T, String), ReadError>, text: &str) -> bool {
-    match outcome {
-        Ok((_, again)) => again.as_str() == text,
-        Err(_) => false,
-    }
+    outcome.is_ok_and(|(_, again)| again.as_str() == text)
 }
 
 #[test]

@@ -22,12 +22,8 @@ fn fields_are_found(rt: HostRuntime) {
     for (line, name, wanted) in FIELDS {
         let wanted = wanted.map(|(start, text)| (start, text.as_bytes()));
         let found = find_field(Class::Debug, line.as_bytes(), name);
-        same(
-            &rt,
-            found.map(|field| (field.start, field.text)),
-            wanted,
-            line,
-        );
+        let found = found.map(|field| (field.start, field.text));
+        same(&rt, found, wanted, line);
         let text = field_of(Class::Debug, line.as_bytes(), name);
         same(&rt, text, wanted.map(|(_, text)| text), line);
     }
@@ -44,10 +40,6 @@ fn fields_are_found_in_token_texts_and_past_other_bytes(rt: HostRuntime) {
     ] {
         same(&rt, field_of(class, line, name), wanted, name);
     }
-    same(
-        &rt,
-        field_of(Class::Debug, b"\xffS { x: 1 }", "x"),
-        None,
-        "x",
-    );
+    let text = field_of(Class::Debug, b"\xffS { x: 1 }", "x");
+    same(&rt, text, None, "x");
 }

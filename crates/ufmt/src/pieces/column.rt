@@ -9,7 +9,7 @@ use super::Mark;
 use crate::column::{Align, Column};
 use ufmt_core::{Formatter, uWrite};
 
-/// By another mark, in a column. What that mark writes is counted, up to the width and without its own
+/// Writes a value by another mark, padded to a column. What that mark writes is counted, up to the width and without its own
 /// padding, and written: at the left before it is counted, else after it.
 #[derive(Clone, Copy, Drop)]
 pub struct InColumn<M> {

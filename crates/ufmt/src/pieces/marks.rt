@@ -37,7 +37,7 @@ pub trait Mark<T> {
     }
 }
 
-/// By `uDebug`, in the formatter's mode.
+/// Writes a value by `uDebug`, in the formatter's mode.
 #[derive(Clone, Copy, Drop)]
 pub struct Debug;
 
@@ -51,7 +51,7 @@ impl<T: uDebug> Mark<T> for Debug {
     }
 }
 
-/// By `uDisplay`.
+/// Writes a value by `uDisplay`.
 #[derive(Clone, Copy, Drop)]
 pub struct Display;
 
@@ -77,7 +77,7 @@ impl<T: uDebug> Mark<T> for Pretty {
     }
 }
 
-/// In hexadecimal digits, with these options. The pad byte is ASCII.
+/// Writes a number in hexadecimal digits, with these options. The pad byte is ASCII.
 #[derive(Clone, Copy, Drop)]
 pub struct Hex {
     pub options: HexOptions,
@@ -97,7 +97,7 @@ impl<T: uDisplayHex> Mark<T> for Hex {
     }
 }
 
-/// In the digits of a radix, with these options. The pad byte is ASCII.
+/// Writes a number in the digits of a radix, with these options. The pad byte is ASCII.
 #[derive(Clone, Copy, Drop)]
 pub struct InRadix {
     pub radix: Radix,
@@ -122,7 +122,7 @@ impl<T: uDisplayRadix> Mark<T> for InRadix {
     }
 }
 
-/// In decimal digits, with zeros after the sign up to this width in bytes.
+/// Writes a number in decimal digits, with zeros after the sign up to this width in bytes.
 #[derive(Clone, Copy, Drop)]
 pub struct Zeros {
     pub width: usize,
@@ -141,7 +141,7 @@ impl<T: uDisplayZeros> Mark<T> for Zeros {
     }
 }
 
-/// With this number of decimals.
+/// Writes a float with this number of decimals.
 #[derive(Clone, Copy, Drop)]
 pub struct Decimals {
     pub count: usize,

@@ -24,7 +24,7 @@ pub trait StructName: Drop {
     fn ends_in_dots(&self) -> bool
         ensures { result ≡ (shown self.now).1 };
 
-    /// Takes its text, and leaves an empty one. `alloc` is only for the empty text.
+    /// Moves its text out, and leaves an empty text. `alloc` is only for the empty text.
     fn take_text(&mut self, alloc: Global) -> String
         ensures text { string_bytes result ≡ (shown self.old).0 }
         ensures left { shown self.new ≡ ([], (shown self.old).1) };

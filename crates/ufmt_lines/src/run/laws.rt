@@ -29,8 +29,8 @@ pub fn plain_logs_come_back()
 {}
 
 // Promise (programs): A value whose text is longer than the limit becomes pretty, whatever follows, if there
-// is no opening bracket and no quotation mark before it. It stays if it is one leaf, or a map that would read
-// as a struct. If bytes of a name stand right before it, they must be UTF-8, and the value must not be a tuple
+// is no opening bracket and no quotation mark before it. It stays if it has only one leaf, or is a map that
+// would read as a struct. If bytes of a name stand right before it, they must be UTF-8, and the value must not be a tuple
 // without a name.
 /// The plain text of a value that is longer than the limit becomes its pretty text, unless it has one leaf
 /// only, or is a map that would read as a struct. Before it may be any bytes without an opening bracket and

@@ -7,7 +7,7 @@ ghost use Rattle.ufmt_values.specs.Values.{value_from};
 
 use std::convert::Infallible;
 use ufmt::class::Class;
-use ufmt::layout::{COLON, Count, Kind, Mode};
+use ufmt::layout::{COLON, Count, Kind, Mode, ONLY_DOTS};
 use ufmt_scan::scan::{Event, Sink, scan};
 use ufmt_scan::strip::begins_with;
 use ufmt_scan::{FrontText, front_text};
@@ -102,7 +102,7 @@ impl Tries {
         ensures known { IsKnown text.now self.new }
     {
         let start = value_start(Mode::Pretty, text, low, bracket);
-        if self.is_barren(start) {
+        if self.reach_barren(start) {
             return None;
         }
         let found = value_at(Mode::Pretty, text, low, bracket);
@@ -113,13 +113,13 @@ impl Tries {
         found
     }
 
-    fn is_barren(&mut self, place: usize) -> bool
+    fn reach_barren(&mut self, place: usize) -> bool
         ensures known { (text : List ℕ) → IsKnown text self.old → IsKnown text self.new }
         ensures none { result ≡ true → (text : List ℕ) → IsKnown text self.old
             → value_from Mode.Pretty (drop place text) ≡ None }
     {
-        let is_first = self.first.has(place);
-        let is_second = self.second.has(place);
+        let is_first = self.first.reach(place);
+        let is_second = self.second.reach(place);
         is_first || is_second
     }
 
@@ -133,7 +133,7 @@ impl Tries {
         if start < self.deep {
             return;
         }
-        let Some(innermost) = self.open.innermost(text, start) else {
+        let Some(innermost) = self.open.find_innermost(text, start) else {
             return;
         };
         if value_from(Mode::Pretty, &text[innermost..]).is_some() {
@@ -207,7 +207,7 @@ impl Barren {
     }
 
     // Whether the place is kept. Those before it are forgotten.
-    fn has(&mut self, place: usize) -> bool
+    fn reach(&mut self, place: usize) -> bool
         ensures kept { (text : List ℕ) → IsBarren text self.old → IsBarren text self.new }
         ensures none { result ≡ true → (text : List ℕ) → IsBarren text self.old
             → value_from Mode.Pretty (drop place text) ≡ None }
@@ -242,7 +242,7 @@ impl OpenStarts {
     }
 
     // Where the innermost block begins that is open where a scan from here stops, if it begins later.
-    fn innermost(&mut self, text: &[u8], start: usize) -> Option<usize>
+    fn find_innermost(&mut self, text: &[u8], start: usize) -> Option<usize>
         requires { start ≤ length text.now }
         ensures { IfSome result (λ place. place ≤ length text.now) }
     {
@@ -294,19 +294,31 @@ impl Sink for OpenStarts {
         match event {
             Event::Leaf(text) => self.pass(text.len()),
             Event::Empty(_) => self.pass("[]".len()),
-            Event::OnlyDots(name) => self.pass(name.len().saturating_add(" { .. }".len())),
-            Event::Open(Kind::Struct, name) => self.open(name.len().saturating_add(" { ".len())),
-            Event::Open(_, name) => self.open(name.len().saturating_add("(".len())),
+            Event::OnlyDots(name) => self.pass(name.len().saturating_add(ONLY_DOTS.len())),
+            Event::Open(kind, name) => self.open(name.len().saturating_add(opening_len(kind))),
             Event::FieldName(name) => self.pass(name.len().saturating_add(COLON.len())),
             Event::Colon => self.pass(COLON.len()),
-            Event::Next => self.pass(", ".len()),
-            Event::Close(Kind::Struct, _) => self.close(" }".len()),
-            Event::Close(Kind::Unnamed, Count::One) => self.close(",)".len()),
-            Event::Close(_, _) => self.close(")".len()),
+            Event::Next => self.pass(Mode::Plain.later_lead().len()),
+            Event::Close(kind, count) => self.close(closing_len(kind, count)),
             Event::Dots => self.close(".. }".len()),
         }
         Ok(())
     }
+}
+
+// How many bytes open a block with entries in a plain text: a bracket, and a space after a struct's.
+fn opening_len(kind: Kind) -> usize {
+    let (bracket, space) = kind.start(Mode::Plain);
+    let before = kind.opening().len();
+    before
+        .saturating_add(bracket.len())
+        .saturating_add(space.len())
+}
+
+// How many bytes close a block with so many entries in a plain text.
+fn closing_len(kind: Kind, count: Count) -> usize {
+    let (before, bracket) = kind.closing(Mode::Plain, count);
+    before.len().saturating_add(bracket.len())
 }
 
 // Whether a value at `outer` has one at `inner`.

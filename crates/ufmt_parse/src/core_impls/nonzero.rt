@@ -19,6 +19,7 @@ use std::num::{
     NonZeroU16, NonZeroU32, NonZeroU64, NonZeroU128, NonZeroUsize,
 };
 use ufmt::uDebug;
+use ufmt_parser::detail::Detail;
 use ufmt_parser::mode::ParseMode;
 use ufmt_parser::need::Need;
 use ufmt_parser::parser::{Fault, Parser};
@@ -69,7 +70,7 @@ fn parse_non_zero<A, N: uParse<A>, T: NonZero<A, N>, M: ParseMode>(
     match T::from_number(number) {
         None => {
             parser.skip_to(before);
-            Err(parser.refuse(Need::Number))
+            Err(parser.refuse_in_detail(Need::Number, Detail::NonZero))
         }
         Some(value) => Ok(value),
     }

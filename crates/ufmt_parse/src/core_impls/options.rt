@@ -4,7 +4,9 @@ ghost use Rattle.std.specs.Prelude.{◌<◌, IfSome, Ok, Err, suc};
 use crate::uparse::{ByType, uParse};
 use ufmt::uDebug;
 use ufmt_parser::by_count::tuples::parse_tuple_1;
+use ufmt_parser::detail::Detail;
 use ufmt_parser::mode::ParseMode;
+use ufmt_parser::need::Need;
 use ufmt_parser::parser::{Fault, Parser};
 use ufmt_parser::parses_by::ParsesBy;
 
@@ -44,6 +46,9 @@ impl<A: Copy, M: ParseMode, T: uDebug + Drop, P: ParsesBy<A, M, T>> ParsesBy<A, 
         if parser.eat("None") {
             return Ok(None);
         }
+        if M::keeps_detail() && !parser.is_named("Some") {
+            return Err(parser.refuse_in_detail(Need::Name, Detail::Variant("Option")));
+        }
         let value = tri!(parse_tuple_1(alloc, parser, "Some", &self.0));
         Ok(Some(value))
     }
@@ -68,6 +73,9 @@ impl<A: Copy, T: uParse<A>, E: uParse<A>> uParse<A> for Result<T, E> {
         if parser.is_named("Ok") {
             let value = tri!(parse_tuple_1(alloc, parser, "Ok", &ByType));
             return Ok(Ok(value));
+        }
+        if M::keeps_detail() && !parser.is_named("Err") {
+            return Err(parser.refuse_in_detail(Need::Name, Detail::Variant("Result")));
         }
         let error = tri!(parse_tuple_1(alloc, parser, "Err", &ByType));
         Ok(Err(error))

@@ -4,6 +4,7 @@ ghost use Rattle.ufmt_parse.specs.Places.{IsPiece};
 ghost use Rattle.ufmt_parse.specs.declared.expected.Expected.TheVariants.{Name, Punctuation};
 
 use crate::uparse::uParse;
+use ufmt_parser::detail::Detail;
 use ufmt_parser::mode::ParseMode;
 use ufmt_parser::need::Need;
 use ufmt_parser::parser::{Fault, Parser};
@@ -26,7 +27,7 @@ impl<A: Copy> uParse<A> for bool {
         if parser.eat("false") {
             return Ok(false);
         }
-        Err(parser.refuse(Need::Name))
+        Err(parser.refuse_in_detail(Need::Name, Detail::Truth))
     }
 }
 

@@ -28,7 +28,7 @@ impl<'p, Alloc: Copy, M: ParseMode, A: uDebug + Drop, P: ParsesBy<Alloc, M, A>> 
         parser: &mut Parser<'_, M>,
         kind: Kind,
         count: Count,
-        names: &[&str],
+        names: &[&'static str],
     ) -> Result<(A,), Fault> {
         let (a, ()) = tri!(parse_first(alloc, parser, kind, count, names, self.0, &()));
         Ok((a,))
@@ -59,7 +59,7 @@ impl<
         parser: &mut Parser<'_, M>,
         kind: Kind,
         count: Count,
-        names: &[&str],
+        names: &[&'static str],
     ) -> Result<(A, B), Fault> {
         let (a, (b,)) = tri!(parse_first(alloc, parser, kind, count, names, self.0, &(self.1,)));
         Ok((a, b))
@@ -92,7 +92,7 @@ impl<
         parser: &mut Parser<'_, M>,
         kind: Kind,
         count: Count,
-        names: &[&str],
+        names: &[&'static str],
     ) -> Result<(A, B, C), Fault> {
         let (a, (b, c)) = tri!(parse_first(
             alloc,
@@ -135,7 +135,7 @@ impl<
         parser: &mut Parser<'_, M>,
         kind: Kind,
         count: Count,
-        names: &[&str],
+        names: &[&'static str],
     ) -> Result<(A, B, C, D), Fault> {
         let (a, (b, c, d)) = tri!(parse_first(
             alloc,
@@ -180,7 +180,7 @@ impl<
         parser: &mut Parser<'_, M>,
         kind: Kind,
         count: Count,
-        names: &[&str],
+        names: &[&'static str],
     ) -> Result<(A, B, C, D, E), Fault> {
         let (a, (b, c, d, e)) = tri!(parse_first(
             alloc,
@@ -227,7 +227,7 @@ impl<
         parser: &mut Parser<'_, M>,
         kind: Kind,
         count: Count,
-        names: &[&str],
+        names: &[&'static str],
     ) -> Result<(A, B, C, D, E, F), Fault> {
         let (a, (b, c, d, e, f)) = tri!(parse_first(
             alloc,
@@ -277,7 +277,7 @@ impl<
         parser: &mut Parser<'_, M>,
         kind: Kind,
         count: Count,
-        names: &[&str],
+        names: &[&'static str],
     ) -> Result<(A, B, C, D, E, F, G), Fault> {
         let (a, (b, c, d, e, f, g)) = tri!(parse_first(
             alloc,
@@ -329,7 +329,7 @@ impl<
         parser: &mut Parser<'_, M>,
         kind: Kind,
         count: Count,
-        names: &[&str],
+        names: &[&'static str],
     ) -> Result<(A, B, C, D, E, F, G, H), Fault> {
         let (a, (b, c, d, e, f, g, h)) = tri!(parse_first(
             alloc,
@@ -393,7 +393,7 @@ impl<
         parser: &mut Parser<'_, M>,
         kind: Kind,
         count: Count,
-        names: &[&str],
+        names: &[&'static str],
     ) -> Result<(A, B, C, D, E, F, G, H, I), Fault> {
         let (a, (b, c, d, e, f, g, h, i)) = tri!(parse_first(
             alloc,
@@ -462,7 +462,7 @@ impl<
         parser: &mut Parser<'_, M>,
         kind: Kind,
         count: Count,
-        names: &[&str],
+        names: &[&'static str],
     ) -> Result<(A, B, C, D, E, F, G, H, I, J), Fault> {
         let (a, (b, c, d, e, f, g, h, i, j)) = tri!(parse_first(
             alloc,
@@ -534,7 +534,7 @@ impl<
         parser: &mut Parser<'_, M>,
         kind: Kind,
         count: Count,
-        names: &[&str],
+        names: &[&'static str],
     ) -> Result<(A, B, C, D, E, F, G, H, I, J, K), Fault> {
         let (a, (b, c, d, e, f, g, h, i, j, k)) = tri!(parse_first(
             alloc,
@@ -609,7 +609,7 @@ impl<
         parser: &mut Parser<'_, M>,
         kind: Kind,
         count: Count,
-        names: &[&str],
+        names: &[&'static str],
     ) -> Result<(A, B, C, D, E, F, G, H, I, J, K, L), Fault> {
         let (a, (b, c, d, e, f, g, h, i, j, k, l)) = tri!(parse_first(
             alloc,

@@ -13,7 +13,7 @@ use crate::mode::ParseMode;
 use crate::scan::{Event, Sink};
 use std::marker::PhantomData;
 use ufmt_core::ascii::text_from;
-use ufmt_core::layout::{COLON, Count, Kind, Mode, Setting};
+use ufmt_core::layout::{COLON, Count, Kind, Mode, ONLY_DOTS, Setting};
 use ufmt_core::uWrite;
 
 // The front of a line and its indentation at this depth. They are cut from a line at the greatest
@@ -88,7 +88,7 @@ pub(crate) fn pieces<'a>(setting: Setting, event: Event<&'a str>) -> (&'a str, &
         (Event::Empty(Kind::Brackets), _) => ("", "[]"),
         (Event::Empty(Kind::Braces), _) => ("", "{}"),
         (Event::Empty(_), _) => ("", ""),
-        (Event::OnlyDots(name), _) => (name, " { .. }"),
+        (Event::OnlyDots(name), _) => (name, ONLY_DOTS),
         (Event::Open(kind, name), _) => (name, opening(kind, setting.inside())),
         (Event::FieldName(name), _) => (name, COLON),
         (Event::Colon, _) => ("", COLON),
@@ -132,13 +132,10 @@ fn closing(mode: Mode, kind: Kind, count: Count) -> &'static str
     ensures { result.now ≡ (frame mode kind).closing count }
 {
     match (kind, count, mode) {
-        (Kind::Brackets, _, _) => "]",
-        (Kind::Braces, _, _) => "}",
-        (_, Count::Zero, _) => "",
+        (Kind::Struct | Kind::Tuple | Kind::Unnamed, Count::Zero, _) => "",
         (Kind::Struct, _, Mode::Plain) => " }",
-        (Kind::Struct, _, Mode::Pretty) => "}",
         (Kind::Unnamed, Count::One, Mode::Plain) => ",)",
-        (Kind::Tuple | Kind::Unnamed, _, _) => ")",
+        _ => kind.closing_bracket(),
     }
 }
 

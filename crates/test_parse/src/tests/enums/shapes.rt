@@ -160,12 +160,9 @@ fn variants_of_each_shape_are_parsed(rt: HostRuntime) {
         "Third(1, 1)" => "9 Name";
         "Fifth { level: false, channel: 3 }" => "8 Name";
     );
-    let fifth = Eight::Fifth {
-        channel: 3,
-        level: false,
-    };
-    let text = b"Fifth { channel: 3, level: false }";
-    same(&rt, parse::<Eight<bool>, ()>((), text), Ok(fifth), "fields");
+    let (channel, level) = (3, false);
+    let given = parse::<Eight<bool>, ()>((), b"Fifth { channel: 3, level: false }");
+    same(&rt, given, Ok(Eight::Fifth { channel, level }), "fields");
 }
 
 #[test]

@@ -4,10 +4,9 @@ ghost use Rattle.ufmt.specs.ValueDocuments.{integer, named, named_struct, named_
 ghost use Rattle.test_parse.specs.declared.tests.enums.structs.Order.TheVariants.{Up, Interrupted, Apply, HoldPosition, CrossFadeBetween, AwaitingCalibrationOfSensor, Pulse};
 ghost use Rattle.ufmt_parse.specs.Values.{is_i16, is_u8, is_u32, is_u64};
 
-use crate::tests::{first_other, same};
+use crate::tests::{first_other, not_text, same};
 use example_parse::Set;
 use ufmt::{Formatter, uDebug, uWrite, variants};
-use ufmt_parse::ParseError::NotText;
 use ufmt_parse::{
     Expected, Fault, ParseMode, Parser, parse, parse_pretty, parse_variants, prove_variants, uParse,
 };
@@ -110,26 +109,18 @@ fn structs_and_long_names_in_variants_are_parsed(rt: HostRuntime) {
         "Pulsed(3, None, -1)" => "0 Name";
     );
     let seconds_since_the_last_value = 7;
-    let given = parse(
-        (),
-        b"AwaitingCalibrationOfSensor { seconds_since_the_last_value: 7 }",
-    );
+    let text = b"AwaitingCalibrationOfSensor { seconds_since_the_last_value: 7 }";
     let wanted = Order::AwaitingCalibrationOfSensor {
         seconds_since_the_last_value,
     };
-    same(&rt, given, Ok(wanted), "its field");
-    let high = Set {
-        channel: 255,
-        level: 32767,
-    };
+    same(&rt, parse((), text), Ok(wanted), "its field");
+    let (channel, level) = (255, 32767);
+    let high = Set { channel, level };
     let pretty =
         "HoldPosition(\n    Set {\n        channel: 255,\n        level: 32767,\n    },\n    true,\n)";
     let held = parse_pretty((), pretty.as_bytes());
     same(&rt, held, Ok(Order::HoldPosition(high, true)), pretty);
     let refused = parse_pretty::<Order, ()>((), fading.as_bytes());
-    let wanted = NotText {
-        at: 16,
-        expected: Expected::Punctuation,
-    };
-    same(&rt, refused, Err(wanted), fading);
+    let wanted = Err(not_text(16, Expected::Punctuation));
+    same(&rt, refused, wanted, fading);
 }

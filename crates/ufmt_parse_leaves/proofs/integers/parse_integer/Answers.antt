@@ -10,14 +10,14 @@ use Rattle.ufmt_parse_leaves.proofs.integers.parse_integer.Goals as goal
 pub returns-in-None-clause-none : goal.returns-in-None-clause-none
 returns-in-None-clause-none g c =
     let splits = rw c.rest.ensures.rest at c.split_sign-negative.ensures in
-    rw c.refuse.ensures.fault (none_clause g.M.ParseMode.mode g.T.Integer.in_range (λ v. leaf (decimal (g.T.Integer.int v))) c.args.parser.now c.refuse.new.self (Err NotText)
+    rw c.refuse_outside.ensures.fault (none_clause g.M.ParseMode.mode g.T.Integer.in_range (λ v. leaf (decimal (g.T.Integer.int v))) c.args.parser.now c.refuse_outside.new.parser (Err NotText)
     (magnitude_refused g.T.Integer.in_range g.T.Integer.int (open_blocks c.args.parser.now) (rest c.args.parser.now) _ _ splits (λ n. n < g.N.Magnitude.bound) _
     (rw c.in-None.is at c.split_magnitude.ensures) c.prove_fits.ensures))
 
 pub returns-in-None-from_magnitude-clause-none : goal.returns-in-None-from_magnitude-clause-none
 returns-in-None-from_magnitude-clause-none g c =
     let splits = rw c.rest.ensures.rest at c.split_sign-negative.ensures in
-    rw c.refuse-in-None-from_magnitude.ensures.fault (none_clause g.M.ParseMode.mode g.T.Integer.in_range (λ v. leaf (decimal (g.T.Integer.int v))) c.args.parser.now c.refuse-in-None-from_magnitude.new.self (Err NotText)
+    rw c.refuse_outside-in-None-from_magnitude.ensures.fault (none_clause g.M.ParseMode.mode g.T.Integer.in_range (λ v. leaf (decimal (g.T.Integer.int v))) c.args.parser.now c.refuse_outside-in-None-from_magnitude.new.parser (Err NotText)
     (integer_refused g.T.Integer.in_range g.T.Integer.int (open_blocks c.args.parser.now) (rest c.args.parser.now) _ _ splits _ _ _ c.in-Some.ensures.0
     c.in-None-from_magnitude.ensures))
 

@@ -18,8 +18,8 @@ use ufmt_core::uDebug;
 pub fn parse_struct_1<Alloc: Copy, M: ParseMode, A: uDebug + Drop, P: ParsesBy<Alloc, M, A>>(
     alloc: Alloc,
     parser: &mut Parser<'_, M>,
-    name: &str,
-    a: &str,
+    name: &'static str,
+    a: &'static str,
     a_by: &P,
 ) -> Result<A, Fault>
     requires named { are_debug_names (name.now ∷ a.now ∷ []) ≡ true }
@@ -61,10 +61,10 @@ pub fn parse_struct_2<
 >(
     alloc: Alloc,
     parser: &mut Parser<'_, M>,
-    name: &str,
-    a: &str,
+    name: &'static str,
+    a: &'static str,
     a_by: &P,
-    b: &str,
+    b: &'static str,
     b_by: &Q,
 ) -> Result<(A, B), Fault>
     requires named { are_debug_names (name.now ∷ a.now ∷ b.now ∷ []) ≡ true }
@@ -111,12 +111,12 @@ pub fn parse_struct_3<
 >(
     alloc: Alloc,
     parser: &mut Parser<'_, M>,
-    name: &str,
-    a: &str,
+    name: &'static str,
+    a: &'static str,
     a_by: &P,
-    b: &str,
+    b: &'static str,
     b_by: &Q,
-    c: &str,
+    c: &'static str,
     c_by: &R,
 ) -> Result<(A, B, C), Fault>
     requires named { are_debug_names (name.now ∷ a.now ∷ b.now ∷ c.now ∷ []) ≡ true }
@@ -169,14 +169,14 @@ pub fn parse_struct_4<
 >(
     alloc: Alloc,
     parser: &mut Parser<'_, M>,
-    name: &str,
-    a: &str,
+    name: &'static str,
+    a: &'static str,
     a_by: &P,
-    b: &str,
+    b: &'static str,
     b_by: &Q,
-    c: &str,
+    c: &'static str,
     c_by: &R,
-    d: &str,
+    d: &'static str,
     d_by: &S,
 ) -> Result<(A, B, C, D), Fault>
     requires named { are_debug_names (name.now ∷ a.now ∷ b.now ∷ c.now ∷ d.now ∷ []) ≡ true }
@@ -242,16 +242,16 @@ pub fn parse_struct_5<
 >(
     alloc: Alloc,
     parser: &mut Parser<'_, M>,
-    name: &str,
-    a: &str,
+    name: &'static str,
+    a: &'static str,
     a_by: &P,
-    b: &str,
+    b: &'static str,
     b_by: &Q,
-    c: &str,
+    c: &'static str,
     c_by: &R,
-    d: &str,
+    d: &'static str,
     d_by: &S,
-    e: &str,
+    e: &'static str,
     e_by: &T,
 ) -> Result<(A, B, C, D, E), Fault>
     requires named { are_debug_names (name.now ∷ a.now ∷ b.now ∷ c.now ∷ d.now ∷ e.now ∷ []) ≡ true }
@@ -322,18 +322,18 @@ pub fn parse_struct_6<
 >(
     alloc: Alloc,
     parser: &mut Parser<'_, M>,
-    name: &str,
-    a: &str,
+    name: &'static str,
+    a: &'static str,
     a_by: &P,
-    b: &str,
+    b: &'static str,
     b_by: &Q,
-    c: &str,
+    c: &'static str,
     c_by: &R,
-    d: &str,
+    d: &'static str,
     d_by: &S,
-    e: &str,
+    e: &'static str,
     e_by: &T,
-    f: &str,
+    f: &'static str,
     f_by: &U,
 ) -> Result<(A, B, C, D, E, F), Fault>
     requires named { are_debug_names (name.now ∷ a.now ∷ b.now ∷ c.now ∷ d.now ∷ e.now ∷ f.now ∷ []) ≡ true }

@@ -17,7 +17,7 @@ use ufmt_core::uDebug;
 pub fn parse_tuple_1<Alloc: Copy, M: ParseMode, A: uDebug + Drop, P: ParsesBy<Alloc, M, A>>(
     alloc: Alloc,
     parser: &mut Parser<'_, M>,
-    name: &str,
+    name: &'static str,
     a_by: &P,
 ) -> Result<A, Fault>
     requires named { is_debug_name_or_empty name.now ≡ true }
@@ -54,7 +54,13 @@ pub fn parse_tuple_2<
     B: uDebug + Drop,
     P: ParsesBy<Alloc, M, A>,
     Q: ParsesBy<Alloc, M, B>,
->(alloc: Alloc, parser: &mut Parser<'_, M>, name: &str, a_by: &P, b_by: &Q) -> Result<(A, B), Fault>
+>(
+    alloc: Alloc,
+    parser: &mut Parser<'_, M>,
+    name: &'static str,
+    a_by: &P,
+    b_by: &Q,
+) -> Result<(A, B), Fault>
     requires named { is_debug_name_or_empty name.now ≡ true }
     requires ready { open_blocks parser.old < 255 → P.ready a_by.now (suc (open_blocks parser.old))
         × Q.ready b_by.now (suc (open_blocks parser.old)) }
@@ -96,7 +102,7 @@ pub fn parse_tuple_3<
 >(
     alloc: Alloc,
     parser: &mut Parser<'_, M>,
-    name: &str,
+    name: &'static str,
     a_by: &P,
     b_by: &Q,
     c_by: &R,
@@ -146,7 +152,7 @@ pub fn parse_tuple_4<
 >(
     alloc: Alloc,
     parser: &mut Parser<'_, M>,
-    name: &str,
+    name: &'static str,
     a_by: &P,
     b_by: &Q,
     c_by: &R,
@@ -203,7 +209,7 @@ pub fn parse_tuple_5<
 >(
     alloc: Alloc,
     parser: &mut Parser<'_, M>,
-    name: &str,
+    name: &'static str,
     a_by: &P,
     b_by: &Q,
     c_by: &R,
@@ -266,7 +272,7 @@ pub fn parse_tuple_6<
 >(
     alloc: Alloc,
     parser: &mut Parser<'_, M>,
-    name: &str,
+    name: &'static str,
     a_by: &P,
     b_by: &Q,
     c_by: &R,

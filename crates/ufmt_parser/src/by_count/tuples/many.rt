@@ -35,7 +35,7 @@ pub fn parse_tuple_7<
 >(
     alloc: Alloc,
     parser: &mut Parser<'_, M>,
-    name: &str,
+    name: &'static str,
     a_by: &P,
     b_by: &Q,
     c_by: &R,
@@ -117,7 +117,7 @@ pub fn parse_tuple_8<
 >(
     alloc: Alloc,
     parser: &mut Parser<'_, M>,
-    name: &str,
+    name: &'static str,
     a_by: &P,
     b_by: &Q,
     c_by: &R,
@@ -205,7 +205,7 @@ pub fn parse_tuple_9<
 >(
     alloc: Alloc,
     parser: &mut Parser<'_, M>,
-    name: &str,
+    name: &'static str,
     a_by: &P,
     b_by: &Q,
     c_by: &R,
@@ -299,7 +299,7 @@ pub fn parse_tuple_10<
 >(
     alloc: Alloc,
     parser: &mut Parser<'_, M>,
-    name: &str,
+    name: &'static str,
     a_by: &P,
     b_by: &Q,
     c_by: &R,
@@ -400,7 +400,7 @@ pub fn parse_tuple_11<
 >(
     alloc: Alloc,
     parser: &mut Parser<'_, M>,
-    name: &str,
+    name: &'static str,
     a_by: &P,
     b_by: &Q,
     c_by: &R,
@@ -509,7 +509,7 @@ pub fn parse_tuple_12<
 >(
     alloc: Alloc,
     parser: &mut Parser<'_, M>,
-    name: &str,
+    name: &'static str,
     a_by: &P,
     b_by: &Q,
     c_by: &R,

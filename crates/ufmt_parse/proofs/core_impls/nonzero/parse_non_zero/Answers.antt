@@ -25,5 +25,5 @@ returns-in-Some-clause-only g c = λ v holds.
 pub returns-in-None-clause-stops : goal.returns-in-None-clause-stops
 returns-in-None-clause-stops g c = λ at is place.
     let same = ap length (c.skip_to.ensures.rest ∙ c.rest-before.ensures.rest) in
-    let none : at ≡ 0 = omega (arith, place, same, ap length c.refuse.ensures.rest) in
-    rw (none, c.refuse.ensures.needs) (c.prove_number.ensures.stops (rest c.args.parser.now))
+    let none : at ≡ 0 = omega (arith, place, same, ap length c.refuse_in_detail.ensures.rest) in
+    rw (none, c.refuse_in_detail.ensures.needs) (c.prove_number.ensures.stops (rest c.args.parser.now))

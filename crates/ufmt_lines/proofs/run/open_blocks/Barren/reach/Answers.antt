@@ -2,7 +2,7 @@ use Rattle.std.proofs.Common.{◌≡◌, ◌<◌, None, drop, eqb-true, length, 
 use Rattle.ufmt_core.specs.declared.layout.Mode.TheVariants.{Pretty}
 use Rattle.ufmt_lines.proofs.OpenBlocks.{first_kept}
 use Rattle.ufmt_values.specs.Values.{value_from}
-use Rattle.ufmt_lines.proofs.run.open_blocks.Barren.has.Goals as goal
+use Rattle.ufmt_lines.proofs.run.open_blocks.Barren.reach.Goals as goal
 
 pub returns-then-place-kept-clause-none : goal.returns-then-place-kept-clause-none
 returns-then-place-kept-clause-none c = λ same text kept.

@@ -1,7 +1,7 @@
 -- Places were only forgotten.
 use Rattle.std.proofs.Common.{◌-◌, List, ℕ}
 use Rattle.ufmt_lines.specs.Private.OpenBlocks.{IsBarren}
-use Rattle.ufmt_lines.proofs.run.open_blocks.Barren.has.Given as goal
+use Rattle.ufmt_lines.proofs.run.open_blocks.Barren.reach.Given as goal
 
 abbrev pub invariant-places : goal.invariant-places
 invariant-places l = (text : List ℕ) → IsBarren text l.initial.self → IsBarren text l.self
