@@ -11,8 +11,8 @@ use ufmt::layout::Mode;
 use ufmt_doc::convert::{convert_into, write_converted};
 use ufmt_doc::doc::{Doc, same_text};
 use ufmt_doc::is_text;
+use ufmt_scan::internal::split_escaped;
 use ufmt_scan::leaf::{is_leaf, is_leaf_of, is_name_of, is_symbol, is_word};
-use ufmt_scan::quoted::split_escaped;
 
 const MANY: &str = "many entries";
 

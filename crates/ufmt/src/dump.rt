@@ -7,8 +7,8 @@ ghost use Rattle.ufmt.specs.Dump.{byte_digits, bytes_per_group, bytes_per_row, d
 
 use crate::pad::pad;
 use crate::radix::digits::{digit_byte, digits_text};
-use ufmt_core::ascii::text_from;
 use ufmt_core::cursor::{Cursor, Full};
+use ufmt_core::internal::text_from;
 use ufmt_core::{Formatter, uWrite};
 
 /// What a dump of bytes looks like: rows, each with its offset, its bytes' digits and its bytes as text.

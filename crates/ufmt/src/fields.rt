@@ -94,38 +94,3 @@ macro_rules! variants {
         compile_error!("expected a formatter and an enum: `self, Name { A, B(x, y), C { x, y } }`")
     };
 }
-
-/// The call for a whole struct or tuple with this number of fields, or for a chain of more than twelve.
-/// A field and a call are taken off both lists until one field is left.
-#[macro_export]
-macro_rules! whole_value {
-    ($kind:ident [$last:tt] [$call:ident $($more:ident)*] $($arguments:tt)*) => {
-        $crate::Formatter::$call($($arguments)*)
-    };
-    ($kind:ident [$field:tt $($fields:tt)+] [$call:ident $($calls:ident)*] $($arguments:tt)*) => {
-        $crate::whole_value!($kind [$($fields)+] [$($calls)*] $($arguments)*)
-    };
-    (struct_of [$($more:tt)+] [] $formatter:expr, $name:expr, $($fields:tt)+) => {
-        $crate::Formatter::struct_of($formatter, $name, &$crate::field_chain!($($fields)+))
-    };
-    (non_exhaustive_of [$($more:tt)+] [] $formatter:expr, $name:expr, $($fields:tt)+) => {
-        $crate::Formatter::non_exhaustive_of($formatter, $name, &$crate::field_chain!($($fields)+))
-    };
-    (tuple_of [$($more:tt)+] [] $formatter:expr, $name:expr, $($fields:tt)+) => {
-        $crate::Formatter::tuple_of($formatter, $name, &$crate::value_chain!($($fields)+))
-    };
-}
-
-/// The chain of fields that `Formatter::struct_of` and `non_exhaustive_of` take.
-#[macro_export]
-macro_rules! field_chain {
-    () => { () };
-    ($name:expr, $value:expr, $($rest:tt)*) => { ($name, $value, $crate::field_chain!($($rest)*)) };
-}
-
-/// The chain of values that `Formatter::tuple_of` takes.
-#[macro_export]
-macro_rules! value_chain {
-    () => { () };
-    ($value:expr, $($rest:tt)*) => { ($value, $crate::value_chain!($($rest)*)) };
-}

@@ -7,7 +7,7 @@ ghost use Rattle.ufmt_fixed.specs.Text.{fixed_text};
 
 use crate::display::uDisplay;
 use crate::pad::pad;
-use ufmt_core::ascii::text_from;
+use ufmt_core::internal::text_from;
 use ufmt_core::{Formatter, uDebug, uWrite};
 use ufmt_fixed::{LongText, ShortText};
 use ufmt_float::Float;

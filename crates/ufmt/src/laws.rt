@@ -47,10 +47,11 @@ use std::rc::{Rc, RcStr};
 use std::sync::{Arc, ArcStr};
 use ufmt_core::cursor::{Cursor, Full};
 pub use ufmt_core::laws::{
-    blocks_are_their_parts, documents_of_cell_values, documents_of_collections,
-    documents_of_floats, documents_of_leaves, documents_of_ranges, documents_of_shared_values,
-    documents_of_sorted_collections, documents_of_texts, documents_of_tuples,
-    documents_of_unsorted_collections, documents_of_wrappers, references_print_what_they_refer_to,
+    blocks_are_their_parts, decimal_is_one_text, documents_of_cell_values,
+    documents_of_collections, documents_of_floats, documents_of_leaves, documents_of_ranges,
+    documents_of_shared_values, documents_of_sorted_collections, documents_of_texts,
+    documents_of_tuples, documents_of_unsorted_collections, documents_of_wrappers,
+    references_print_what_they_refer_to,
 };
 use ufmt_core::{Formatter, uDebug, uWrite};
 pub use ufmt_fixed::laws::nearest_is_closest;

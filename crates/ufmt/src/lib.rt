@@ -12,6 +12,7 @@ mod fields;
 mod fixed;
 pub mod ghost_text;
 mod hex;
+mod internal;
 pub mod laws;
 mod number;
 mod pad;
@@ -39,7 +40,7 @@ pub use radix::{Radix, uDisplayRadix};
 pub use truncating::Truncating;
 pub use ufmt_core::{
     Cursor, DebugList, DebugMap, DebugSet, DebugStruct, DebugTuple, Formatter, Full, NamedFields,
-    UnnamedFields, ascii, cells, cursor, layout, quoted, uDebug, uWrite, unsigned,
+    UnnamedFields, cells, cursor, layout, uDebug, uWrite,
 };
 pub use ufmt_grammar::class;
 pub use zeros::uDisplayZeros;

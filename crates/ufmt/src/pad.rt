@@ -2,7 +2,7 @@
 ghost use Rattle.std.specs.Prelude.{◌≡◌, ◌<◌, ◌≤◌, is_ok, replicate};
 ghost use Rattle.ufmt_core.specs.Formatter.{Prints};
 
-use ufmt_core::ascii::text_from;
+use ufmt_core::internal::text_from;
 use ufmt_core::{Formatter, uWrite};
 
 /// Writes so many of the byte, at most 64 in a piece. The pieces are parts of `copies`, a constant of the caller.

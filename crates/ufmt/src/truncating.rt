@@ -5,8 +5,8 @@ ghost use Rattle.std.specs.Str.{is_utf8};
 ghost use Rattle.ufmt.specs.Cut.{fitting_part};
 
 use crate::ghost_text::GhostText;
-use ufmt_core::cursor::{Full, put};
-use ufmt_core::uWrite;
+use ufmt_core::internal::put;
+use ufmt_core::{Full, uWrite};
 
 /// A writer that fills a buffer from its start, and cuts its text where the buffer ends, between two
 /// characters. After a cut it takes nothing more. It takes no memory.

@@ -8,7 +8,7 @@ ghost use Rattle.ufmt.specs.Zeros.{minus_if, zero_filled};
 use crate::hex::HexOptions;
 use crate::number::InNotation;
 use crate::number::notation::ZerosTo;
-use ufmt_core::unsigned::{text_of_u64, text_of_u128};
+use ufmt_core::internal::{text_of_u64, text_of_u128};
 use ufmt_core::{Formatter, uWrite};
 
 /// A number that prints itself with zeros before its digits, as Rust's `{:05}` would.

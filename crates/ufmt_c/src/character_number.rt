@@ -6,8 +6,7 @@ ghost use Rattle.ufmt_grammar.specs.Reading.{strip};
 ghost use Rattle.ufmt_scan.specs.Rest.{now_of};
 ghost use Rattle.ufmt_c.specs.Private.CharacterNumbers.{digit_at, high_digits, low_digits, number_from};
 
-use ufmt_scan::quoted::digit_value;
-use ufmt_scan::strip::{strip_byte, strip_two};
+use ufmt_scan::internal::{digit_value, strip_byte, strip_two};
 
 // One more than the greatest number of a character.
 const CHARACTERS: u32 = 0x11_0000;

@@ -10,7 +10,7 @@ use crate::code::{FULL, NO_TEXT};
 use crate::filler::put;
 use crate::text::text_at_front;
 use ufmt_parse_leaves::characters::split_character;
-use ufmt_scan::strip::strip_byte;
+use ufmt_scan::internal::strip_byte;
 
 /// Writes the text that Rust prints so: of each text in quotation marks that `ufmt_unquote` takes, and of
 /// those in which other characters are written by their numbers too, as `"\u{200b}"`. Returns `NO_TEXT`

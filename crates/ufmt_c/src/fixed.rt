@@ -6,7 +6,7 @@ ghost use Rattle.ufmt_c.specs.Private.Narrow.{zeros_column};
 
 use crate::print::{print_line, print_longer};
 use ufmt::{Align, Column, pieces};
-use ufmt_core::ascii::text_from;
+use ufmt_core::internal::text_from;
 use ufmt_fixed::{LongText, ShortText};
 
 /// Writes the float's exact value, rounded to so many decimals, as Rust's `{:.2}` does.

@@ -10,8 +10,7 @@ use crate::code::{FULL, NO_TEXT, NOT_UTF8};
 use crate::filler::put;
 use crate::print::print;
 use crate::text::{text_at_front, text_of};
-use ufmt_scan::quoted::split_escaped;
-use ufmt_scan::strip::strip_byte;
+use ufmt_scan::internal::{split_escaped, strip_byte};
 
 /// Writes the text in quotation marks, with the escapes that `{:?}` writes. Returns `NOT_UTF8` if the input
 /// isn't UTF-8; `detail` becomes the number of bytes at its front that are.

@@ -26,6 +26,7 @@ mod of_tuples;
 
 use crate::core_impls::cells::{CellValue, RefCellValue};
 use crate::uDebug;
+pub use crate::unsigned::decimal_is_one_text;
 pub use of_floats::documents_of_floats;
 pub use of_tuples::documents_of_tuples;
 use std::alloc::Allocator;

@@ -5,7 +5,8 @@ ghost use Rattle.std.specs.Prelude.{is_ok};
 ghost use Rattle.ufmt_core.specs.Document.{Document};
 ghost use Rattle.ufmt_core.specs.Formatter.{LaysOut};
 
-pub mod ascii;
+mod ascii;
+mod copying;
 mod core_impls;
 pub mod cursor;
 mod formatter;
@@ -14,14 +15,14 @@ pub mod layout;
 mod list;
 mod map;
 mod nonzero;
-pub mod quoted;
+mod quoted;
 mod set;
 mod signed;
 mod std_impls;
 mod structs;
 mod tuple;
 mod tuple_impls;
-pub mod unsigned;
+mod unsigned;
 mod write;
 
 pub use core_impls::cells;
@@ -33,6 +34,14 @@ pub use set::DebugSet;
 pub use structs::{DebugStruct, NamedFields};
 pub use tuple::{DebugTuple, UnnamedFields};
 pub use write::uWrite;
+
+/// What the crates beside this one call. It isn't for users: any version may change it.
+pub mod internal {
+    pub use crate::ascii::text_from;
+    pub use crate::copying::put;
+    pub use crate::quoted::{escape, unescaped_len};
+    pub use crate::unsigned::{text_of_u64, text_of_u128};
+}
 
 /// A value that prints itself as Rust's `{:?}` and `{:#?}` would.
 pub trait uDebug {

@@ -22,8 +22,8 @@ use std::mem;
 pub use struct_name::{DebugName, StructName};
 use ufmt::class::Class;
 use ufmt::plain_text;
+use ufmt_scan::internal::split_escaped;
 use ufmt_scan::leaf::is_symbol;
-use ufmt_scan::quoted::split_escaped;
 
 /// A document as a value: a leaf, or a block whose entries are documents. `N` is the type of the names of
 /// structs: it says whether a struct may end in `..`.

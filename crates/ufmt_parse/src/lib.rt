@@ -21,6 +21,7 @@ mod detailed;
 mod error;
 mod expected;
 mod found;
+mod internal;
 mod keys;
 pub mod laws;
 mod macros;

@@ -3,8 +3,7 @@ ghost use Rattle.std.specs.Prelude.{◌≡◌, ◌≢◌, ◌++◌, ℕ, List, M
 ghost use Rattle.std.specs.Char.{IsScalar};
 ghost use Rattle.ufmt_core.specs.Quoted.{IsQuote, escaped, quoted_char};
 
-use ufmt_scan::quoted::{character_len, split_escaped};
-use ufmt_scan::strip::strip_byte;
+use ufmt_scan::internal::{character_len, split_escaped, strip_byte};
 
 // The character that the bytes are, if they are one in UTF-8.
 fn only_character(bytes: &[u8]) -> Option<char>

@@ -6,7 +6,7 @@ ghost use Rattle.ufmt_parser.specs.Taking.{BeginsWithNone, LeavesOnly};
 
 use crate::digits::{split_magnitude, split_minus, split_more};
 use crate::integers::Integer;
-use ufmt_scan::strip::strip_byte;
+use ufmt_scan::internal::strip_byte;
 
 // So many digits after a point as places: there is one, and there aren't too many.
 fn places_of(digits: usize) -> Option<u8>

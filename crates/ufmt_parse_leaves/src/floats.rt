@@ -14,7 +14,7 @@ ghost use Rattle.ufmt_parse_leaves.specs.Private.FloatBytes.{after_float, float_
 
 use crate::plain_floats::split_plain;
 use core::dec2flt::from_decimal;
-use ufmt_core::ascii::text_from;
+use ufmt_core::internal::text_from;
 use ufmt_float::DebugText;
 use ufmt_parser::mode::ParseMode;
 use ufmt_parser::need::Need;

@@ -11,13 +11,11 @@ ghost use Rattle.ufmt_parser.specs.Taking.{Fits, Takes, open_blocks, rest};
 
 use crate::plain_bytes::plain_len;
 use std::alloc::{AllocError, Allocator};
-use ufmt_core::ascii::text_from;
-use ufmt_core::quoted::unescaped_len;
+use ufmt_core::internal::{text_from, unescaped_len};
 use ufmt_parser::mode::ParseMode;
 use ufmt_parser::need::Need;
 use ufmt_parser::parser::{Fault, Parser};
-use ufmt_scan::quoted::split_escaped;
-use ufmt_scan::strip::strip_byte;
+use ufmt_scan::internal::{split_escaped, strip_byte};
 
 // How many bytes more a text gets room for at its first escape.
 const MORE: usize = 32;

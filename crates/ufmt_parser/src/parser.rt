@@ -16,8 +16,8 @@ use crate::need::Need;
 use crate::strip::{strip_ending, strip_lead, strip_piece};
 use std::marker::PhantomData;
 use ufmt_core::layout::{Count, Kind};
-use ufmt_grammar::bytes::ByteClass;
-use ufmt_scan::strip::{begins_with, is_spaced};
+use ufmt_grammar::internal::ByteClass;
+use ufmt_scan::internal::{begins_with, is_spaced};
 
 /// Why a value isn't parsed.
 #[derive(Clone, Copy, Drop)]

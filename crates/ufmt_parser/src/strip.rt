@@ -6,7 +6,7 @@ ghost use Rattle.ufmt_parser.specs.Taking.{setting_in};
 ghost use Rattle.ufmt_scan.specs.Rest.{now_of};
 
 use ufmt_core::layout::{Count, Kind, Mode};
-use ufmt_scan::strip::{
+use ufmt_scan::internal::{
     setting_in, strip_byte, strip_closing, strip_eight, strip_first_lead, strip_four,
     strip_to_line, strip_two,
 };

@@ -10,8 +10,8 @@ use crate::front::Front;
 use crate::leaf::marked_len;
 use crate::quoted::split_plain;
 use crate::strip::{begins_with, is_spaced, strip_piece};
-use ufmt_core::ascii::text_from;
-use ufmt_grammar::bytes::ByteClass;
+use ufmt_core::internal::text_from;
+use ufmt_grammar::internal::ByteClass;
 
 /// The leaf, if it is a word in ASCII. It may be empty. Nothing of it is tested again.
 #[inline(always)]

@@ -6,7 +6,7 @@ ghost use Rattle.ufmt_scan.specs.Private.Fronts.{IsSplit, SplitsFront};
 
 use crate::debug_leaf::{split_debug_quotes, split_debug_word, split_leaf};
 use crate::leaf::split_word;
-use ufmt_core::ascii::text_from;
+use ufmt_core::internal::text_from;
 use ufmt_grammar::class::Class;
 
 /// A leaf at the front of a text, which may be empty, and what follows it.

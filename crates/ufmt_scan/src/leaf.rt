@@ -9,8 +9,8 @@ ghost use Rattle.ufmt_scan.specs.Private.MarkedBytes.{marked_len};
 use crate::front::{split_front, split_name};
 use crate::quoted::{split_any, split_plain};
 use crate::strip::strip_piece;
-use ufmt_grammar::bytes::ByteClass;
 use ufmt_grammar::class::Class;
+use ufmt_grammar::internal::ByteClass;
 
 /// The word bytes at the front, and what follows them.
 #[inline(always)]

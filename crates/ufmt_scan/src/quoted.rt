@@ -10,9 +10,8 @@ ghost use Rattle.ufmt_scan.specs.Private.Spelled.{Closes, IsOneCharacter, IsSpel
 
 use crate::leaf::marked_len;
 use crate::strip::{strip_byte, strip_piece};
-use ufmt_core::ascii::text_from;
-use ufmt_core::quoted::{escape, unescaped_len};
-use ufmt_grammar::bytes::ByteClass;
+use ufmt_core::internal::{escape, text_from, unescaped_len};
+use ufmt_grammar::internal::ByteClass;
 
 /// A leaf in quotation marks in ASCII and without an escape, and what follows it. It needs no test of UTF-8.
 #[inline(always)]

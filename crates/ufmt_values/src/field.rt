@@ -8,7 +8,7 @@ ghost use Rattle.ufmt_values.specs.Private.FieldsLeft.{Comes, IsFoundAt, LeafAnd
 use crate::values::{next_bracket, value_at, value_start, values_end};
 use ufmt::class::Class;
 use ufmt::layout::Mode;
-use ufmt_scan::strip::{strip_byte, strip_two};
+use ufmt_scan::internal::{strip_byte, strip_two};
 use ufmt_scan::{FrontText, front_text, split_name};
 
 /// The text of a field, and where it begins in its line.

@@ -9,9 +9,9 @@ ghost use Rattle.ufmt_values.specs.Private.WithoutEntries.{closing_of, is_withou
 use crate::search::{Closing, Opening, len_before_first, len_through_last};
 use ufmt::class::Class;
 use ufmt::layout::Mode;
-use ufmt_grammar::bytes::ByteClass;
+use ufmt_grammar::internal::ByteClass;
 use ufmt_scan::convert::other_mode;
-use ufmt_scan::strip::begins_with;
+use ufmt_scan::internal::begins_with;
 use ufmt_scan::{FrontText, begins_with_field, front_text};
 
 /// Returns a place at or after which no value begins, given that none begins at or after `end`. After a try that failed it is where

@@ -92,8 +92,8 @@ def declared(lines, at):
 WORDS = TOP / "tools" / "data" / "words"
 # The crates that a user names, with those whose items they hand on.
 CRATES = ("ufmt", "ufmt_parse", "ufmt_doc", "ufmt_values", "ufmt_snapshot")
-# What these modules have, but `Mode`, and this call of `cursor`, are for other crates of this repository.
-FOR_SIBLINGS = {"ascii", "layout", "quoted", "unsigned", "put"}
+# What this block of a crate's lib.rt names, and the module `layout` but for `Mode`, are for other crates of this repository.
+INTERNAL = re.compile(r"(?ms)^pub mod internal \{(.*?)^\}")
 # Other macros are called by these.
 MACROS = {"fields", "variants", "uwrite", "uwriteln", "pieces", "parse_fields", "parse_variants", "prove_fields", "prove_variants", "assert_snapshot"}
 # A call for each number of fields: the page has the one with two.
@@ -114,11 +114,12 @@ def items_shown(crate, names=None):
     """The items of a crate that are public, or those of these names."""
     folder = TOP / "crates" / crate / "src"
     exports = Exports(folder)
+    internal = {name for block in INTERNAL.findall((folder / "lib.rt").read_text()) for name in re.findall(r"\w+", block)}
     for path in sources(folder):
         parts = path.relative_to(folder).with_suffix("").parts
         for item in () if "laws" in parts else items_of(path, exports):
             is_wanted = names is None or item.group in names or set(parts) & names
-            is_for_siblings = FOR_SIBLINGS & {item.name, ".".join(parts)} and item.name != "Mode"
+            is_for_siblings = {item.name, item.group} & internal or parts == ("layout",) and item.name != "Mode"
             if is_wanted and not is_for_siblings and not ONE_OF_MANY.search(item.name):
                 known = names or set(re_exported(exports.files[()]))
                 yield item._replace(module=before(exports, parts, item.group, known))

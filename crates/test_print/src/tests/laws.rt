@@ -2,13 +2,12 @@
 use std::alloc::Global;
 use std::hash::{BuildHasherDefault, FoldHasher};
 use ufmt::laws;
-use ufmt::unsigned::decimal_is_one_text;
 
 type Hashing = BuildHasherDefault<FoldHasher>;
 
 #[test]
 fn laws_of_numbers_and_types_can_be_called() {
-    decimal_is_one_text();
+    laws::decimal_is_one_text();
     laws::numbers_are_words();
     laws::digits_are_one_text();
     laws::unsigned_prints_hexadecimal();

@@ -1,7 +1,7 @@
 //! Tests of `is_symbol` and `split_escaped`.
 use super::same;
+use ufmt_scan::internal::split_escaped;
 use ufmt_scan::leaf::is_symbol;
-use ufmt_scan::quoted::split_escaped;
 
 #[test]
 fn symbols_are_leaves_that_are_no_words(rt: HostRuntime) {

@@ -5,7 +5,7 @@ ghost use Rattle.ufmt_core.specs.Document.{leaf};
 ghost use Rattle.ufmt_core.specs.FloatText.{float_text};
 
 use crate::display::uDisplay;
-use ufmt_core::ascii::text_from;
+use ufmt_core::internal::text_from;
 use ufmt_core::{Formatter, uWrite};
 use ufmt_float::DisplayText;
 

@@ -7,7 +7,7 @@ ghost use Rattle.ufmt.specs.Zeros.{minus_if, zero_filled};
 
 use crate::radix::Radix;
 use crate::zeros::{write_u64, write_u128};
-use ufmt_core::ascii::text_from;
+use ufmt_core::internal::text_from;
 use ufmt_core::{Formatter, uWrite};
 
 /// An unsigned number of some width.

@@ -17,7 +17,7 @@ use std::alloc::{AllocError, Global};
 use std::io::Write;
 use ufmt::layout::Mode;
 use ufmt_io::{IoFault, Watched, write_whole};
-use ufmt_values::search::{LineFeed, len_before_first, len_through_last};
+use ufmt_values::internal::{LineFeed, len_before_first, len_through_last};
 use ufmt_values::{is_opening, next_bracket, run_start};
 
 /// The group of lines that is being read, and outputs that aren't written yet.

@@ -8,8 +8,8 @@ ghost use Rattle.ufmt_values.specs.Values.{value_from};
 use std::convert::Infallible;
 use ufmt::class::Class;
 use ufmt::layout::{COLON, Count, Kind, Mode, ONLY_DOTS};
+use ufmt_scan::internal::begins_with;
 use ufmt_scan::scan::{Event, Sink, scan};
-use ufmt_scan::strip::begins_with;
 use ufmt_scan::{FrontText, front_text};
 use ufmt_values::{
     before_bracket, is_closing, is_name_byte, is_opening, value_at, value_from, value_start,

@@ -12,7 +12,7 @@ ghost use Rattle.ufmt_core.proofs.Writing.{Writes-nothing};
 use crate::mode::ParseMode;
 use crate::scan::{Event, Sink};
 use std::marker::PhantomData;
-use ufmt_core::ascii::text_from;
+use ufmt_core::internal::text_from;
 use ufmt_core::layout::{COLON, Count, Kind, Mode, ONLY_DOTS, Setting};
 use ufmt_core::uWrite;
 

@@ -1,7 +1,7 @@
 //! What contracts of the sources ask for, and Rust checks only here: calls of builders out of order, and options of every kind.
 //! No call panics, and each writes what its page says.
 use std::panic::catch_unwind;
-use ufmt::{Formatter, HexOptions, Line, Radix, pieces, quoted, uDebug, uDisplayHex, uDisplayRadix, uWrite};
+use ufmt::{Formatter, HexOptions, Line, Radix, pieces, uDebug, uDisplayHex, uDisplayRadix, uWrite};
 
 /// Makes calls by their numbers, in every order of this many.
 fn in_each_order(calls: u32, count: u32, make: impl Fn(&mut dyn Iterator<Item = u32>)) {
@@ -153,7 +153,7 @@ fn pad_bytes_past_ascii_are_question_marks() {
 fn escapes_take_any_quote() {
     for byte in 0..=255u8 {
         for quote in 0..=255u8 {
-            let escape = quoted::escape(byte, quote);
+            let escape = ufmt_core::internal::escape(byte, quote);
             assert!(escape.is_none() || byte < 0x80);
         }
     }

@@ -1,6 +1,6 @@
 use Rattle.std.proofs.Common.{◌+◌, ◌-◌, ◌++◌, length, take, ap, ◌∙◌, arith}
 use Rattle.std.proofs.lemmas.Slice.{take-put_mid, drop-put_mid}
-use Rattle.ufmt_core.proofs.cursor.put.Goals as goal
+use Rattle.ufmt_core.proofs.copying.put.Goals as goal
 
 pub returns-clause-written : goal.returns-clause-written
 returns-clause-written c =

@@ -1,6 +1,6 @@
 use Rattle.std.proofs.Common.{◌≡◌, ◌+◌, ◌-◌, take, drop, refl, ap, sym, ◌∙◌, arith}
 use Rattle.std.proofs.lemmas.List.{drop-drop, drop_at, length-take-le, take-append-drop}
-use Rattle.ufmt_core.proofs.cursor.copy_chunk.Goals as goal
+use Rattle.ufmt_core.proofs.copying.copy_chunk.Goals as goal
 
 pub returns-clause-copied : goal.returns-clause-copied
 returns-clause-copied c = λ n within agree.

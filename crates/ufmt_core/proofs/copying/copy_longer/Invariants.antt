@@ -1,5 +1,5 @@
 use Rattle.std.proofs.Common.{◌≡◌, ◌+◌, ◌≤◌, length, drop}
-use Rattle.ufmt_core.proofs.cursor.copy_longer.Given as goal
+use Rattle.ufmt_core.proofs.copying.copy_longer.Given as goal
 
 abbrev pub invariant-loop-start : goal.invariant-loop-start
 invariant-loop-start l = record {
