@@ -213,11 +213,11 @@ scientific_numeral digits power h small =
     ]
 
 pub decimal_numeral : (debug : Bool) (digits power : ℕ) → digits < 10 ^ 17 → power < 1000 → IsNumeralOf (decimal_text debug digits power) digits power
-decimal_numeral debug digits power h small = go (not debug || is_plain digits power)
-  where
-    go : (b : Bool) → IsNumeralOf (if b then (plain_text debug digits power) else (scientific_text digits power)) digits power
-    go true = plain_numeral debug digits power h
-    go false = scientific_numeral digits power h small
+decimal_numeral debug digits power h small =
+    elim (not debug || is_plain digits power) as (λ b. IsNumeralOf (if b then (plain_text debug digits power) else (scientific_text digits power)) digits power) [
+      | true ↦ plain_numeral debug digits power h
+      | false ↦ scientific_numeral digits power h small
+    ]
 
 -- the text of a decimal is parsed as the float nearest to it
 pub decimal_parsed : (f : Format) (s debug : Bool) (digits power : ℕ) → digits < 10 ^ 17 → power < 1000
