@@ -18,7 +18,7 @@ use Rattle.core.specs.Fmt.{decimal, sign_text}
 use Rattle.ufmt_float.specs.Shortest.{distance}
 use Rattle.ufmt_float.specs.Put.{IsPut}
 use lib.Chars.{codes}
-use Rattle.ufmt_float.specs.Text.{last_digits, fixed_text, plain_text, exponent_text, is_plain, more_digits}
+use Rattle.ufmt_float.specs.Text.{last_digits, pointed_text, plain_text, exponent_text, is_plain, more_digits}
 
 -- nothing was written yet
 pub put_none : (end : ℕ) (buffer : List ℕ) → IsPut [] end buffer end buffer
@@ -106,7 +106,7 @@ put_digit n i left end old new I E e p =
     rw (← first, ← at, one, last_digits-front i n, e) (put_more (last_digits i n) end (end - i) (48 + n / 10 ^ i % 10) old new (omega arith) E p)
 
 -- the length of a number with decimals
-pub length-fixed : (digits places : ℕ) → length (fixed_text digits places) ≡ length (decimal (digits / 10 ^ places)) + 1 + places
+pub length-fixed : (digits places : ℕ) → length (pointed_text digits places) ≡ length (decimal (digits / 10 ^ places)) + 1 + places
 length-fixed digits places =
     let n : ℕ = digits / 10 ^ places in
     omega (arith, length-append (decimal n) (codes "." ++ last_digits places digits), length-last_digits places digits)
@@ -135,7 +135,7 @@ pub length-cut : (places n unit : ℕ) → n < 2 ^ 64 → unit ≡ 10 ^ places �
 length-cut places n unit small e h = rw e (length-without places n small (rw e at h))
 
 -- a text with decimals is as long as its digits and the point, or has one digit before the decimals
-pub length-fixed-le : (digits places : ℕ) → digits < 10 ^ 17 → length (fixed_text digits places) ≤ 18 + (places - 16)
+pub length-fixed-le : (digits places : ℕ) → digits < 10 ^ 17 → length (pointed_text digits places) ≤ 18 + (places - 16)
 length-fixed-le digits places h =
     let few = length-digits digits h in
     let is = length-fixed digits places in
