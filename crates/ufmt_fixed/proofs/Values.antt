@@ -10,9 +10,9 @@ use Rattle.core.specs.Float.{float_with_sign, is_sign_negative}
 use Rattle.core.proofs.dec2flt.Patterns.{shape}
 use Rattle.ufmt_float.specs.Parts.{HasParts}
 use Rattle.ufmt_float.proofs.Shortness.{value_of_bits}
-use Rattle.ufmt_fixed.specs.declared.parts.Parts.TheVariants.{Finite}
+use Rattle.ufmt_fixed.specs.declared.dyadic.Dyadic.TheVariants.{Finite}
 use Rattle.ufmt_fixed.specs.Nearest.{nearest}
-use Rattle.ufmt_fixed.specs.Parts.{AreParts}
+use Rattle.ufmt_fixed.specs.Dyadic.{IsDyadicOf}
 use Rattle.ufmt_fixed.specs.Text.{fixed_digits, fixed_text}
 use Rattle.ufmt_fixed.proofs.Roundings.{nearest_same}
 
@@ -60,23 +60,20 @@ few_twos binary64 k h = omega arith
 one_none : (k l : ℕ) → (k - l ≡ 0) ⊎ (l - k ≡ 0)
 one_none k l = elim (eq-zero-or-pos (k - l)) [ inl z ↦ inl z | inr p ↦ inr (omega arith) ]
 
-pub finite_parts : (f : Format) (x : Float) (negative : Bool) (m k : ℕ) → HasParts f x negative m k → AreParts x (Finite negative m (k - low f) (low f - k))
-finite_parts f x negative m k h =
+pub finite_dyadic : (f : Format) (x : Float) (negative : Bool) (m k : ℕ) → HasParts f x negative m k → IsDyadicOf x (Finite negative m (k - low f) (low f - k))
+finite_dyadic f x negative m k h =
     let s = shape f in
     let value = value_of_bits f m k h.parts.significand h.parts.finite in
     let field : k < ones f = lt_of_mul-lt-mul_right (hid f) (omega (arith, h.parts.finite)) in (
       rescaled x negative m k (low f) (with_sign x negative (m * 2 ^ k) (2 ^ low f) (subst (λ y. HasValue y false (m * 2 ^ k) (2 ^ low f)) (sym h.size) value) h.sign),
-      lt_of_lt_of_le h.parts.significand.fits (pow_mono (s.digits.1)),
-      few_twos f k field,
-      omega (arith, s.least.1),
-      one_none k (low f),
+      (lt_of_lt_of_le h.parts.significand.fits (pow_mono (s.digits.1)), few_twos f k field, omega (arith, s.least.1), one_none k (low f)),
     )
 
-pub zero_parts : (f : Format) (x : Float) (negative : Bool) (m : ℕ) → m ≡ 0 → x ≡ fin negative 0 (pos 0) → AreParts x (Finite negative m (0 - low f) (low f - 0))
-zero_parts f x negative m z e =
-    subst (λ y. AreParts y (Finite negative m (0 - low f) (low f - 0))) (sym e)
-    (subst (λ n. AreParts (fin negative 0 (pos 0)) (Finite negative n (0 - low f) (low f - 0))) (sym z)
-    ((refl, omega arith), omega arith, omega arith, omega (arith, (shape f).least.1), one_none 0 (low f)))
+pub zero_dyadic : (f : Format) (x : Float) (negative : Bool) (m : ℕ) → m ≡ 0 → x ≡ fin negative 0 (pos 0) → IsDyadicOf x (Finite negative m (0 - low f) (low f - 0))
+zero_dyadic f x negative m z e =
+    subst (λ y. IsDyadicOf y (Finite negative m (0 - low f) (low f - 0))) (sym e)
+    (subst (λ n. IsDyadicOf (fin negative 0 (pos 0)) (Finite negative n (0 - low f) (low f - 0))) (sym z)
+    ((refl, omega arith), (omega arith, omega arith, omega (arith, (shape f).least.1), one_none 0 (low f))))
 
 -- ---- its text
 

@@ -1,5 +1,5 @@
+pub mod Dyadic
 pub mod Laws
 pub mod Natural
 pub mod Nearest
-pub mod Parts
 pub mod Text

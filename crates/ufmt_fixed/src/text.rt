@@ -1,20 +1,24 @@
 //! Texts of floats with a number of decimals.
-ghost use Rattle.std.specs.Prelude.{◌≡◌, ◌++◌, ◌*◌, ◌^◌, ◌<◌, ◌≤◌, ◌⊎◌, [], List, ℕ, IsAscii, IfSome, codes, length, drop, replicate, if◌then◌else◌};
+ghost use Rattle.std.specs.Prelude.{◌≡◌, ◌++◌, ◌*◌, ◌^◌, ◌<◌, ◌≤◌, [], List, ℕ, IsAscii, IfSome, codes, length, drop, replicate, if◌then◌else◌};
 ghost use Rattle.ufmt_float.specs.Put.{IsPut};
+ghost use Rattle.ufmt_fixed.specs.Dyadic.{IsSize};
 ghost use Rattle.ufmt_fixed.specs.Nearest.{nearest};
 ghost use Rattle.ufmt_fixed.specs.Text.{fixed_digits, fixed_text};
 
-use crate::parts::{Parts, parts_of};
+use crate::dyadic::{Dyadic, dyadic_of};
 use crate::put::{put_decimals, put_fixed, put_natural, put_point};
 use crate::rounding::{is_below_half, long_digits, short_digits};
 use std::marker::Model;
 use ufmt_float::Float;
-use ufmt_float::put::{put_byte, put_sign};
+use ufmt_float::put::{put_byte, put_sign, put_word};
+
+// Room for a sign, 20 digits, a point and 19 decimals.
+const SHORT_SIZE: usize = 48;
 
 /// A text of a float below 2 ^ 63 with at most 19 decimals, whose digits together are a word.
 #[derive(Drop)]
 pub struct ShortText {
-    bytes: [u8; 48],
+    bytes: [u8; SHORT_SIZE],
     start: usize,
 }
 
@@ -32,18 +36,18 @@ impl ShortText {
     pub fn of<F: Float>(x: F, decimals: usize) -> Option<ShortText>
         ensures { IfSome result (λ t. t ≡ fixed_text decimals (F.value x)) }
     {
-        let Parts::Finite {
+        let Dyadic::Finite {
             negative,
             significand,
             twos,
             halves,
-        } = parts_of(x)
+        } = dyadic_of(x)
         else {
             return None;
         };
         let digits = short_digits(significand, twos, halves, decimals)?;
-        let mut bytes = [0; 48];
-        let start = put_fixed(&mut bytes, 48, digits, decimals);
+        let mut bytes = [0; SHORT_SIZE];
+        let start = put_fixed(&mut bytes, SHORT_SIZE, digits, decimals);
         let start = put_sign(&mut bytes, start, negative);
         Some(ShortText { bytes, start })
     }
@@ -58,13 +62,14 @@ impl ShortText {
     }
 }
 
-// A sign, 309 digits, a point and 1,074 digits.
-const SIZE: usize = 1385;
+// Room for a sign, 309 digits, a point and 1,074 decimals. The largest float is about 10 ^ 308.3, and the least above 0 is
+// 2 ^ -1074.
+const LONG_SIZE: usize = 1385;
 
 /// A text of any float with any number of decimals. Zeros at its end are counted only.
 #[derive(Drop)]
 pub struct LongText {
-    bytes: [u8; SIZE],
+    bytes: [u8; LONG_SIZE],
     start: usize,
     zeros: usize,
 }
@@ -85,7 +90,7 @@ impl LongText {
     pub fn of<F: Float>(x: F, decimals: usize) -> LongText
         ensures { result ≡ fixed_text decimals (F.value x) }
     {
-        let mut bytes = [0; SIZE];
+        let mut bytes = [0; LONG_SIZE];
         let (start, zeros) = put_float(&mut bytes, x, decimals);
         LongText {
             bytes,
@@ -113,13 +118,13 @@ fn put_float<F: Float>(buffer: &mut [u8], x: F, decimals: usize) -> (usize, usiz
     ensures within { result.0 ≤ 1385 }
     ensures same { length buffer.new ≡ length buffer.old }
 {
-    match parts_of(x) {
-        Parts::NotANumber => (put_word(buffer, *b"NaN"), 0),
-        Parts::Infinite { negative } => {
-            let end = put_word(buffer, *b"inf");
+    match dyadic_of(x) {
+        Dyadic::NotANumber => (put_word(buffer, LONG_SIZE, *b"NaN"), 0),
+        Dyadic::Infinite { negative } => {
+            let end = put_word(buffer, LONG_SIZE, *b"inf");
             (put_sign(buffer, end, negative), 0)
         }
-        Parts::Finite {
+        Dyadic::Finite {
             negative,
             significand,
             twos,
@@ -131,17 +136,6 @@ fn put_float<F: Float>(buffer: &mut [u8], x: F, decimals: usize) -> (usize, usiz
     }
 }
 
-/// Writes three bytes at the end of the buffer.
-fn put_word(buffer: &mut [u8], word: [u8; 3]) -> usize
-    requires { length buffer.old ≡ 1385 }
-    ensures { IsPut word 1385 buffer.old result buffer.new }
-{
-    let [first, second, third] = word;
-    let end = put_byte(buffer, SIZE, third);
-    let end = put_byte(buffer, end, second);
-    put_byte(buffer, end, first)
-}
-
 /// Writes `significand * 2 ^ twos / 2 ^ halves` as `put_float` does.
 fn put_finite(
     buffer: &mut [u8],
@@ -150,7 +144,7 @@ fn put_finite(
     halves: u64,
     decimals: usize,
 ) -> (usize, usize)
-    requires size { (significand < 2 ^ 53) × (twos ≤ 972) × (halves ≤ 1074) × ((twos ≡ 0) ⊎ (halves ≡ 0)) }
+    requires size { IsSize significand twos halves }
     requires room { length buffer.old ≡ 1385 }
     ensures text { drop result.0 buffer.new ++ replicate result.1 48 ≡
         fixed_digits decimals (nearest (significand * 2 ^ twos * 10 ^ decimals) (2 ^ halves)) }
@@ -163,7 +157,7 @@ fn put_finite(
     }
     let places = decimals.min(halves as usize);
     let mut digits = long_digits(significand, twos, halves, places as u64);
-    let end = put_decimals(buffer, SIZE, &mut digits, places);
+    let end = put_decimals(buffer, LONG_SIZE, &mut digits, places);
     let end = put_point(buffer, end, decimals > 0);
     (put_natural(buffer, end, &mut digits), decimals - places)
 }
@@ -175,6 +169,6 @@ fn put_zero(buffer: &mut [u8], has_decimals: bool) -> usize
     ensures { IsPut (codes "0" ++ (if has_decimals then (codes ".") else [])) 1385 buffer.old result
         buffer.new }
 {
-    let end = put_point(buffer, SIZE, has_decimals);
+    let end = put_point(buffer, LONG_SIZE, has_decimals);
     put_byte(buffer, end, b'0')
 }

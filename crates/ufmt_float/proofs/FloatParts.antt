@@ -1,5 +1,5 @@
 -- A float's parts, from its bits.
-use Rattle.core.specs.Prelude.{◌≡◌, ℕ, zero, suc, ◌+◌, ◌-◌, ◌*◌, ◌/◌, ◌%◌, ◌<◌, ◌≤◌, ◌⊎◌, Bool, true, false, not, cond, leb, eqb, pos, T}
+use Rattle.core.specs.Prelude.{◌≡◌, ℕ, zero, suc, ◌+◌, ◌-◌, ◌*◌, ◌/◌, ◌%◌, ◌<◌, ◌≤◌, ◌⊎◌, Bool, true, false, not, leb, eqb, pos, T}
 use mathlib.Core.Path.{refl, sym, ap, ◌∙◌, subst}
 use mathlib.Core.Logic.{inl, inr}
 use mathlib.Core.Bool.{false≢true}
@@ -11,6 +11,7 @@ use lib.Ieee.{Float, Format, binary32, binary64, nan, inf, fin, prec, low, hid, 
 use lib.Ieee.Bits.{nan_bits_is, nan_bits_above}
 use Rattle.core.specs.Float.{float_with_sign, is_sign_negative}
 use Rattle.core.proofs.dec2flt.Patterns.{shape, infinite}
+use Rattle.std.proofs.lemmas.Bool.{cases_Bool}
 use Rattle.ufmt_float.specs.declared.parts.Parts.{Parts}
 use Rattle.ufmt_float.specs.declared.parts.Parts.TheVariants.{NotANumber, Infinite, Zero}
 use Rattle.ufmt_float.specs.Parts.{HasParts, AreParts}
@@ -31,22 +32,20 @@ odd_sign s d (suc q) k l = refl
 fields_with_sign : (f : Format) (s t : Bool) (x d : ℕ) → float_with_sign t (of_fields f s x d) ≡ of_fields f t x d
 unfolding of_fields float_with_sign
 fields_with_sign f s t zero d = odd_with_sign s t (prec f) d 0 (low f)
-fields_with_sign f s t (suc x) d = go (eqb (suc x) (ones f)) (eqb d 0)
-  where
-    go : (a b : Bool) → float_with_sign t (cond a (cond b (inf s) nan) (odd (prec f) s (hid f + d) x (low f))) ≡ cond a (cond b (inf t) nan) (odd (prec f) t (hid f + d) x (low f))
-    go true true = refl
-    go true false = refl
-    go false b = odd_with_sign s t (prec f) (hid f + d) x (low f)
+fields_with_sign f s t (suc x) d =
+    elim (cases_Bool (eqb (suc x) (ones f))) [
+      | inl last ↦ elim (cases_Bool (eqb d 0)) [ inl none ↦ rw (last, none) refl | inr some ↦ rw (last, some) refl ]
+      | inr less ↦ rw less (odd_with_sign s t (prec f) (hid f + d) x (low f))
+    ]
 
 fields_sign : (f : Format) (s : Bool) (x d : ℕ) → T (not (is_nan (of_fields f s x d))) → is_sign_negative (of_fields f s x d) ≡ s
 unfolding of_fields is_sign_negative is_nan
 fields_sign f s zero d n = odd_sign s (prec f) d 0 (low f)
-fields_sign f s (suc x) d n = go (eqb (suc x) (ones f)) (eqb d 0) n
-  where
-    go : (a b : Bool) → T (not (is_nan (cond a (cond b (inf s) nan) (odd (prec f) s (hid f + d) x (low f))))) → is_sign_negative (cond a (cond b (inf s) nan) (odd (prec f) s (hid f + d) x (low f))) ≡ s
-    go true true n = refl
-    go true false n = absurd n
-    go false b n = odd_sign s (prec f) (hid f + d) x (low f)
+fields_sign f s (suc x) d n =
+    elim (cases_Bool (eqb (suc x) (ones f))) [
+      | inl last ↦ elim (cases_Bool (eqb d 0)) [ inl none ↦ rw (last, none) refl | inr some ↦ absurd (rw (last, some) at n) ]
+      | inr less ↦ rw less (odd_sign s (prec f) (hid f + d) x (low f))
+    ]
 
 -- ---- the bits without the sign
 

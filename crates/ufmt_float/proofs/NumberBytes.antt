@@ -7,7 +7,6 @@ use lib.Chars.{codes}
 use lib.Ieee.{Float, Format, nan, inf, fin, fits}
 use Rattle.core.specs.Fmt.{sign_text}
 use Rattle.core.specs.Float.Numeral.{Parts, text_of, exponent_text, IsWellFormed, dot}
-use Rattle.core.specs.Str.{IsAscii}
 use Rattle.core.specs.Str.Parse.{AllDigits}
 use Rattle.core.proofs.str.DigitBytes.{digit_at}
 use Rattle.std.proofs.Common.{length-append}

@@ -26,7 +26,7 @@ use Rattle.core.proofs.dec2flt.LimbsLemmas.{power_pos}
 use Rattle.core.proofs.dec2flt.Rows.{AllDigits-append}
 use Rattle.core.proofs.fmt.DigitsParse.{decimal_is_IsNumeral}
 use Rattle.std.proofs.lemmas.Float.Parse.{parse_float-text_of}
-use Rattle.ufmt_float.specs.Text.{last_digits, fixed_text, plain_text, scientific_text, decimal_text, is_plain, more_digits}
+use Rattle.ufmt_float.specs.Text.{last_digits, pointed_text, plain_text, scientific_text, decimal_text, is_plain, more_digits}
 use Rattle.ufmt_float.proofs.Puts.{last_digits-none, last_digits-front, length-last_digits, length-digits}
 
 -- ---- digits
@@ -98,7 +98,7 @@ lowered negative exponent = if negative then digits_value 10 exponent else 0
 
 -- digits / 10 ^ places with a point, and perhaps an exponent
 with_point : (digits places power : ℕ) (negative : Bool) (exponent : List ℕ) → digits < 10 ^ 17 → AllDigits 10 exponent → (exponent ≡ [] → negative ≡ false)
-    → raised negative exponent + (400 - power) ≡ power - 400 + (places + lowered negative exponent) → IsNumeralOf (fixed_text digits places ++ exponent_text negative exponent) digits power
+    → raised negative exponent + (400 - power) ≡ power - 400 + (places + lowered negative exponent) → IsNumeralOf (pointed_text digits places ++ exponent_text negative exponent) digits power
 with_point digits places power negative exponent h all none places_are =
     let whole : ℕ = digits / 10 ^ places in
     let less : whole ≤ digits = div-le_self digits (10 ^ places) in
@@ -176,9 +176,9 @@ exponent_of negative (d ∷ ds) h = refl
 plain_numeral : (debug : Bool) (digits power : ℕ) → digits < 10 ^ 17 → IsNumeralOf (plain_text debug digits power) digits power
 plain_numeral debug digits power h =
     elim (eq-zero-or-pos (400 - power)) [
-      | inr p ↦ subst (λ t. IsNumeralOf t digits power) (append-nil (fixed_text digits (400 - power)) ∙ ap (λ b. if b then (fixed_text digits (400 - power)) else (whole debug)) (sym (lt-ltb power 400 (omega arith))))
+      | inr p ↦ subst (λ t. IsNumeralOf t digits power) (append-nil (pointed_text digits (400 - power)) ∙ ap (λ b. if b then (pointed_text digits (400 - power)) else (whole debug)) (sym (lt-ltb power 400 (omega arith))))
           (with_point digits (400 - power) power false [] h tt (λ _. refl) (omega arith))
-      | inl z ↦ subst (λ t. IsNumeralOf t digits power) (ap (λ b. if b then (fixed_text digits (400 - power)) else (whole debug)) (sym (le-ltb power 400 (omega arith)))) (marked debug (omega arith))
+      | inl z ↦ subst (λ t. IsNumeralOf t digits power) (ap (λ b. if b then (pointed_text digits (400 - power)) else (whole debug)) (sym (le-ltb power 400 (omega arith)))) (marked debug (omega arith))
     ]
   where
     whole : Bool → List ℕ
@@ -208,16 +208,16 @@ scientific_numeral digits power h small =
     let at = exponent_places negative places power exponent refl w.1 in
     let same : Text.exponent_text n ≡ exponent_text negative exponent = exponent_of negative exponent w.0.0 in
     elim (eq-zero-or-pos places) [
-      | inl z ↦ subst (λ t. IsNumeralOf t digits power) (λ i. (if (sym (eq-eqb places 0 z) i) then (decimal digits) else (fixed_text digits places)) ++ sym same i) (without_point digits 0 power negative exponent h w.0.1 none (omega (arith, at)))
-      | inr p ↦ subst (λ t. IsNumeralOf t digits power) (λ i. (if (sym (ne_eqb places 0 (λ e. omega arith)) i) then (decimal digits) else (fixed_text digits places)) ++ sym same i) (with_point digits places power negative exponent h w.0.1 none at)
+      | inl z ↦ subst (λ t. IsNumeralOf t digits power) (λ i. (if (sym (eq-eqb places 0 z) i) then (decimal digits) else (pointed_text digits places)) ++ sym same i) (without_point digits 0 power negative exponent h w.0.1 none (omega (arith, at)))
+      | inr p ↦ subst (λ t. IsNumeralOf t digits power) (λ i. (if (sym (ne_eqb places 0 (λ e. omega arith)) i) then (decimal digits) else (pointed_text digits places)) ++ sym same i) (with_point digits places power negative exponent h w.0.1 none at)
     ]
 
 pub decimal_numeral : (debug : Bool) (digits power : ℕ) → digits < 10 ^ 17 → power < 1000 → IsNumeralOf (decimal_text debug digits power) digits power
-decimal_numeral debug digits power h small = go (not debug || is_plain digits power)
-  where
-    go : (b : Bool) → IsNumeralOf (if b then (plain_text debug digits power) else (scientific_text digits power)) digits power
-    go true = plain_numeral debug digits power h
-    go false = scientific_numeral digits power h small
+decimal_numeral debug digits power h small =
+    elim (not debug || is_plain digits power) as (λ b. IsNumeralOf (if b then (plain_text debug digits power) else (scientific_text digits power)) digits power) [
+      | true ↦ plain_numeral debug digits power h
+      | false ↦ scientific_numeral digits power h small
+    ]
 
 -- the text of a decimal is parsed as the float nearest to it
 pub decimal_parsed : (f : Format) (s debug : Bool) (digits power : ℕ) → digits < 10 ^ 17 → power < 1000

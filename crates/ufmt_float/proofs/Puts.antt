@@ -1,5 +1,5 @@
 -- Texts that are written from the right.
-use Rattle.core.specs.Prelude.{◌≡◌, ◌≢◌, ℕ, zero, suc, ◌+◌, ◌-◌, ◌*◌, ◌/◌, ◌%◌, ◌^◌, ◌<◌, ◌≤◌, ◌⊎◌, List, [], ◌∷◌, ◌++◌, length, drop, set, replicate, Bool, true, false, ◌&&◌, nat_lt, leb, ltb}
+use Rattle.core.specs.Prelude.{◌≡◌, ◌≢◌, ℕ, zero, suc, ◌+◌, ◌-◌, ◌*◌, ◌/◌, ◌%◌, ◌^◌, ◌<◌, ◌≤◌, ◌⊎◌, List, [], ◌∷◌, ◌++◌, length, drop, set, replicate, Bool, true, false, nat_lt, leb}
 use mathlib.Core.Path.{refl, sym, ap, ◌∙◌, subst}
 use mathlib.Core.Logic.{inl, inr}
 use native.Mathlib.Omega.{arith}
@@ -12,12 +12,13 @@ use Rattle.core.proofs.fmt.Decimal.{decimal_step, decimal_by_steps, decimal_is_b
 use Rattle.core.proofs.fmt.DigitsParse.{decimal_digit}
 use Rattle.std.proofs.Common.{append_assoc, append-nil, length-append, length-set, if◌then◌else◌}
 use Rattle.std.proofs.Math.Seq.{drop-length}
+use Rattle.std.proofs.lemmas.Bool.{cases_Bool}
 use Rattle.std.proofs.lemmas.List.{drop-set, length-replicate}
 use Rattle.core.specs.Fmt.{decimal, sign_text}
 use Rattle.ufmt_float.specs.Shortest.{distance}
 use Rattle.ufmt_float.specs.Put.{IsPut}
 use lib.Chars.{codes}
-use Rattle.ufmt_float.specs.Text.{last_digits, fixed_text, plain_text, exponent_text, is_plain, more_digits}
+use Rattle.ufmt_float.specs.Text.{last_digits, pointed_text, plain_text, exponent_text, is_plain, more_digits}
 
 -- nothing was written yet
 pub put_none : (end : ℕ) (buffer : List ℕ) → IsPut [] end buffer end buffer
@@ -105,7 +106,7 @@ put_digit n i left end old new I E e p =
     rw (← first, ← at, one, last_digits-front i n, e) (put_more (last_digits i n) end (end - i) (48 + n / 10 ^ i % 10) old new (omega arith) E p)
 
 -- the length of a number with decimals
-pub length-fixed : (digits places : ℕ) → length (fixed_text digits places) ≡ length (decimal (digits / 10 ^ places)) + 1 + places
+pub length-fixed : (digits places : ℕ) → length (pointed_text digits places) ≡ length (decimal (digits / 10 ^ places)) + 1 + places
 length-fixed digits places =
     let n : ℕ = digits / 10 ^ places in
     omega (arith, length-append (decimal n) (codes "." ++ last_digits places digits), length-last_digits places digits)
@@ -121,20 +122,20 @@ pub length-exponent : (n : ℕ) → n < 1000 → length (decimal n) ≤ 3
 length-exponent n h = length-decimal-le 3 n (omega arith) (omega arith) (omega arith)
 
 -- without its last digits a number has so many digits fewer
+length-without : (places n : ℕ) → n < 2 ^ 64 → 10 ^ places ≤ n → length (decimal n) ≡ length (decimal (n / 10 ^ places)) + places
+length-without zero n small h = ap (λ x. length (decimal x)) (sym (div-one n)) ∙ omega arith
+length-without (suc places) n small h =
+    let tens : 10 ^ suc places ≡ 10 ^ places * 10 = pow-suc 10 places in
+    let ten : 10 ≤ n = omega (arith, h, tens, ten_power places) in
+    let less : 10 ^ places ≤ n / 10 = (le-div_iff_mul-le (omega arith)).1 (omega (arith, h, tens)) in
+    let quotient : n / 10 / 10 ^ places ≡ n / 10 ^ suc places = div-div-eq-div-mul n 10 (10 ^ places) ∙ ap (λ x. n / x) (sym (pow-succ' 10 places)) in
+    omega (arith, longer_decimal n ten small, length-without places (n / 10) (omega arith) less, ap (λ x. length (decimal x)) quotient)
+
 pub length-cut : (places n unit : ℕ) → n < 2 ^ 64 → unit ≡ 10 ^ places → unit ≤ n → length (decimal n) ≡ length (decimal (n / unit)) + places
-length-cut places n unit small e h = rw e (go places n small (rw e at h))
-  where
-    go : (k m : ℕ) → m < 2 ^ 64 → 10 ^ k ≤ m → length (decimal m) ≡ length (decimal (m / 10 ^ k)) + k
-    go zero m s l = ap (λ x. length (decimal x)) (sym (div-one m)) ∙ omega arith
-    go (suc k) m s l =
-        let tens : 10 ^ suc k ≡ 10 ^ k * 10 = pow-suc 10 k in
-        let ten : 10 ≤ m = omega (arith, l, tens, ten_power k) in
-        let less : 10 ^ k ≤ m / 10 = (le-div_iff_mul-le (omega arith)).1 (omega (arith, l, tens)) in
-        let quotient : m / 10 / 10 ^ k ≡ m / 10 ^ suc k = div-div-eq-div-mul m 10 (10 ^ k) ∙ ap (λ x. m / x) (sym (pow-succ' 10 k)) in
-        omega (arith, longer_decimal m ten s, go k (m / 10) (omega arith) less, ap (λ x. length (decimal x)) quotient)
+length-cut places n unit small e h = rw e (length-without places n small (rw e at h))
 
 -- a text with decimals is as long as its digits and the point, or has one digit before the decimals
-pub length-fixed-le : (digits places : ℕ) → digits < 10 ^ 17 → length (fixed_text digits places) ≤ 18 + (places - 16)
+pub length-fixed-le : (digits places : ℕ) → digits < 10 ^ 17 → length (pointed_text digits places) ≤ 18 + (places - 16)
 length-fixed-le digits places h =
     let few = length-digits digits h in
     let is = length-fixed digits places in
@@ -171,11 +172,10 @@ length-exponent_text power h =
 pub plain_range : (digits power : ℕ) → is_plain digits power ≡ true → (396 ≤ power + more_digits digits) × (power + more_digits digits < 416)
 plain_range digits power h =
     let n : ℕ = power + more_digits digits in
-    go (leb 396 n) (ltb n 416) (leb-true 396 n) (ltb-true n 416) h
-  where
-    go : (a b : Bool) → (a ≡ true → 396 ≤ power + more_digits digits) → (b ≡ true → power + more_digits digits < 416) → (a && b) ≡ true → (396 ≤ power + more_digits digits) × (power + more_digits digits < 416)
-    go true b f g e = (f refl, g e)
-    go false b f g e = absurd (false≢true e)
+    elim (cases_Bool (leb 396 n)) [
+      | inl from ↦ (leb-true 396 n from, ltb-true n 416 (rw from at h))
+      | inr below ↦ absurd (false≢true (rw below at h))
+    ]
 
 pub length-debug : (digits power : ℕ) → digits < 10 ^ 17 → is_plain digits power ≡ true → length (plain_text true digits power) ≤ 31
 length-debug digits power h p =

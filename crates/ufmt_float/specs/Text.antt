@@ -11,13 +11,13 @@ last_digits zero n = []
 last_digits (suc count) n = last_digits count (n / 10) ++ ((48 + n % 10) ∷ [])
 
 -- digits / 10 ^ places: the whole part, a point, and that many decimals
-abbrev pub fixed_text : ℕ → ℕ → List ℕ
-fixed_text digits places = decimal (digits / 10 ^ places) ++ (codes "." ++ last_digits places digits)
+abbrev pub pointed_text : ℕ → ℕ → List ℕ
+pointed_text digits places = decimal (digits / 10 ^ places) ++ (codes "." ++ last_digits places digits)
 
 -- digits * 10 ^ (power - 400) with no exponent. Debug marks a whole number by a decimal.
 abbrev pub plain_text : Bool → ℕ → ℕ → List ℕ
 plain_text debug digits power = if (nat_lt power 400)
-    then (fixed_text digits (400 - power))
+    then (pointed_text digits (400 - power))
     else (decimal digits ++ (replicate (power - 400) 48 ++ (if debug then (codes ".0") else [])))
 
 -- how many digits there are after the first
@@ -31,7 +31,7 @@ exponent_text power = codes "e" ++ (sign_text (nat_lt power 400) ++ decimal (dis
 -- the same with one digit before the point, and an exponent
 abbrev pub scientific_text : ℕ → ℕ → List ℕ
 scientific_text digits power = let places = more_digits digits in
-    (if (places == 0) then (decimal digits) else (fixed_text digits places))
+    (if (places == 0) then (decimal digits) else (pointed_text digits places))
     ++ exponent_text (power + places)
 
 -- the decimal is 0, or from 0.0001 to below 10 ^ 16

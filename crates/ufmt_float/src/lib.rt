@@ -14,6 +14,7 @@ mod ratio;
 mod scale;
 mod text;
 mod wide;
+pub mod words;
 
 pub use digits::{Decimal, shortest};
 pub use parts::Float;

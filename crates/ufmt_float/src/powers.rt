@@ -1,9 +1,6 @@
 //! Powers of five and ten.
 ghost use Rattle.core.specs.Prelude.{◌≡◌, ◌*◌, ◌%◌, ◌^◌, ◌<◌, ◌≤◌};
 
-/// The most fives whose product is a word: `5 ^ 28` is past `2 ^ 64`.
-pub(crate) const WORD_FIVES: u64 = 27;
-
 pub(crate) const FIVE_TO_27: u64 = 7_450_580_596_923_828_125;
 
 const FIVE_TO_16: u64 = 152_587_890_625;

@@ -139,7 +139,7 @@ pub fn put_sign(buffer: &mut [u8], end: usize, negative: bool) -> usize
 
 /// Writes three bytes.
 #[inline(always)]
-pub(crate) fn put_word(buffer: &mut [u8], end: usize, word: [u8; 3]) -> usize
+pub fn put_word(buffer: &mut [u8], end: usize, word: [u8; 3]) -> usize
     requires { (3 ≤ end) × (end ≤ length buffer.old) }
     ensures { IsPut word end buffer.old result buffer.new }
 {

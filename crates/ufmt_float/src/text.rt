@@ -4,7 +4,7 @@ ghost use lib.Chars.{codes};
 ghost use Rattle.core.specs.Str.{IsAscii};
 ghost use Rattle.ufmt_float.specs.Put.{IsPut};
 ghost use Rattle.ufmt_float.specs.Shortest.{distance};
-ghost use Rattle.ufmt_float.specs.Text.{fixed_text, plain_text, exponent_text, scientific_text, is_plain, decimal_text, IsFloatText};
+ghost use Rattle.ufmt_float.specs.Text.{pointed_text, plain_text, exponent_text, scientific_text, is_plain, decimal_text, IsFloatText};
 
 use crate::digits::{Decimal, decimal_of};
 use crate::parts::{Float, Parts, parts_of};
@@ -18,8 +18,8 @@ use core::marker::Model;
 
 /// Writes `digits / 10 ^ places` with all its decimals.
 fn put_fixed(buffer: &mut [u8], end: usize, digits: u64, places: usize) -> usize
-    requires { (length (fixed_text digits places) ≤ end) × (end ≤ length buffer.old) }
-    ensures { IsPut (fixed_text digits places) end buffer.old result buffer.new }
+    requires { (length (pointed_text digits places) ≤ end) × (end ≤ length buffer.old) }
+    ensures { IsPut (pointed_text digits places) end buffer.old result buffer.new }
 {
     let whole = put_last_digits(buffer, end, digits, places);
     let end = put_byte(buffer, end - places, b'.');
@@ -231,6 +231,7 @@ impl<const N: usize> Text<N> {
 }
 
 /// The text of a float as Debug prints it, `{:?}`.
+// The longest has a sign, 17 digits, a point and `e-308`, 24 bytes.
 pub type DebugText = Text<32>;
 
 impl DebugText {
@@ -249,6 +250,7 @@ impl DebugText {
 }
 
 /// The text of a float as Display prints it, `{}`.
+// The longest has a sign, `0.` and 324 decimals, 327 bytes.
 pub type DisplayText = Text<344>;
 
 impl DisplayText {

@@ -13,7 +13,7 @@ use Rattle.core.specs.Fmt as Fmt
 use Rattle.core.proofs.fmt.Decimal.{decimal_step, decimal_by_steps, length-decimal-le}
 use Rattle.core.proofs.dec2flt.LimbsLemmas.{power_pos}
 use Rattle.ufmt_float.specs.Shortest.{IsAboveZero, IsShortestDecimal}
-use Rattle.ufmt_float.specs.Text.{last_digits, decimal_text, plain_text, scientific_text, is_plain, more_digits, fixed_text}
+use Rattle.ufmt_float.specs.Text.{last_digits, decimal_text, plain_text, scientific_text, is_plain, more_digits, pointed_text}
 use Rattle.ufmt_float.proofs.Puts.{length-cut, decimal_bounds, length-digits}
 use Rattle.ufmt_core.specs.Decimal.{decimal}
 use Rattle.ufmt_core.specs.FloatText.{float_text}
@@ -37,7 +37,7 @@ same_decimal n small = decimal_by_steps (λ m text. text ≡ decimal (pos m)) on
     more : (m : ℕ) (ds : List ℕ) → 10 ≤ m → ds ≡ decimal (pos (m / 10)) → ds ++ ((48 + m % 10) ∷ []) ≡ decimal (pos m)
     more m ds high same = ap (λ t. t ++ ((48 + m % 10) ∷ [])) same ∙ sym (text-step decimal-in_base m high)
 
-same_fixed : (digits places : ℕ) → digits < 2 ^ 64 → 0 < places → digits / 10 ^ places < 2 ^ 64 → fixed_text digits places ≡ fixed_digits places digits
+same_fixed : (digits places : ℕ) → digits < 2 ^ 64 → 0 < places → digits / 10 ^ places < 2 ^ 64 → pointed_text digits places ≡ fixed_digits places digits
 same_fixed digits zero small some whole = absurd (omega arith)
 same_fixed digits (suc places) small some whole =
     λ i. same_decimal (digits / 10 ^ suc places) whole i ++ (codes "." ++ sym (last_digits-rest (suc places) digits) i)
@@ -54,7 +54,7 @@ plain_in : (left power : ℕ) → is_plain left power ≡ true → decimal_text 
 plain_in left power is = ap (λ b. if b then (plain_text true left power) else (scientific_text left power)) is
 
 -- the digits are those of the shortest decimal
-fraction : (digits places : ℕ) → IsPlainDecimal digits places → decimal_text true digits (400 - places) ≡ fixed_text digits places
+fraction : (digits places : ℕ) → IsPlainDecimal digits places → decimal_text true digits (400 - places) ≡ pointed_text digits places
 fraction digits places plain =
     let power : ℕ = 400 - places in
     let few = length-digits digits plain.few in
@@ -69,7 +69,7 @@ fraction digits places plain =
     ] in
     let is = plain_in digits power (is_plain_in digits power from (omega (arith, few, plain.point, bounds))) in
     let back : 400 - power ≡ places = omega (arith, plain.point) in
-    is ∙ rw (lt-ltb power 400 (omega (arith, plain.point))) (ap (fixed_text digits) back)
+    is ∙ rw (lt-ltb power 400 (omega (arith, plain.point))) (ap (pointed_text digits) back)
 
 zeros_end : (e : ℕ) → replicate {A = ℕ} e 48 ++ (48 ∷ []) ≡ replicate (suc e) 48
 zeros_end zero = refl
@@ -96,7 +96,7 @@ unfolding last_digits
 last_one n e = ap (λ c. c ∷ []) e
 
 -- the text of a whole number ends in `.0`
-whole : (left e : ℕ) → 0 < left → left * 10 ^ suc e < 10 ^ 17 → decimal_text true left (400 + e) ≡ fixed_text (left * 10 ^ suc e) 1
+whole : (left e : ℕ) → 0 < left → left * 10 ^ suc e < 10 ^ 17 → decimal_text true left (400 + e) ≡ pointed_text (left * 10 ^ suc e) 1
 whole left e some few =
     let digits : ℕ = left * 10 ^ suc e in
     let power : ℕ = 400 + e in
@@ -128,7 +128,7 @@ whole left e some few =
     ∙ ap (λ t. Fmt.decimal (digits / 10 ^ 1) ++ (codes "." ++ t)) (sym (last_one digits zero_last))
     )
 
-printed : (digits places left power : ℕ) → IsPlainDecimal digits places → IsPrintedAs digits places left power → decimal_text true left power ≡ fixed_text digits places
+printed : (digits places left power : ℕ) → IsPlainDecimal digits places → IsPrintedAs digits places left power → decimal_text true left power ≡ pointed_text digits places
 printed digits places left power plain shown = elim (eq-zero-or-pos shown.zeros) [
   | inl none ↦ (
       let same : left ≡ digits = omega (arith, shown.digits_are, ap (λ n. left * 10 ^ n) none) in
@@ -142,7 +142,7 @@ printed digits places left power plain shown = elim (eq-zero-or-pos shown.zeros)
       let is : digits ≡ left * 10 ^ suc e = shown.digits_are ∙ ap (λ n. left * 10 ^ n) count in
       let end : power ≡ 400 + e = omega (arith, shown.end) in
       let some : 0 < left = elim (eq-zero-or-pos left) [ inr p ↦ p | inl z ↦ absurd (omega (arith, plain.some, is, ap (λ n. n * 10 ^ suc e) z)) ] in
-      ap (decimal_text true left) end ∙ whole left e some (subst (λ n. n < 10 ^ 17) is plain.few) ∙ (λ i. fixed_text (sym is i) (sym one i))
+      ap (decimal_text true left) end ∙ whole left e some (subst (λ n. n < 10 ^ 17) is plain.few) ∙ (λ i. pointed_text (sym is i) (sym one i))
       )
 ]
 
