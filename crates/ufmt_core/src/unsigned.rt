@@ -8,7 +8,7 @@ use crate::ascii::text_from;
 use crate::formatter::Formatter;
 use crate::uDebug;
 use crate::write::uWrite;
-use ufmt_float::put::digit_pair;
+use ufmt_float::internal::digit_pair;
 
 // Promise (printing): The decimal digits of a whole number denote it and have no leading zeros, and no two
 // numbers share them.

@@ -10,7 +10,7 @@ use crate::put::{put_decimals, put_fixed, put_natural, put_point};
 use crate::rounding::{is_below_half, long_digits, short_digits};
 use std::marker::Model;
 use ufmt_float::Float;
-use ufmt_float::put::{put_byte, put_sign, put_word};
+use ufmt_float::internal::{put_byte, put_sign, put_word};
 
 // Room for a sign, 20 digits, a point and 19 decimals.
 const SHORT_SIZE: usize = 48;

@@ -9,13 +9,19 @@ mod limbs;
 mod narrow;
 mod parts;
 mod powers;
-pub mod put;
+mod put;
 mod ratio;
 mod scale;
 mod text;
 mod wide;
-pub mod words;
+mod words;
 
 pub use digits::{Decimal, shortest};
 pub use parts::Float;
 pub use text::{DebugText, DisplayText};
+
+/// What the crates beside this one call. It isn't for users: any version may change it.
+pub mod internal {
+    pub use crate::put::{digit_pair, put_byte, put_last_digits, put_sign, put_word};
+    pub use crate::words::{WORD_DIGITS, WORD_FIVES, high_word, low_word};
+}
