@@ -17,7 +17,7 @@ mod switch;
 mod tree;
 
 pub use alarm::{Alarm, parse_alarm};
-pub use command::{Set, parse_command};
+pub use command::{Mix, parse_command};
 pub use log_line::{is_readable, pretty_line};
 pub use measurement::{Measurement, parse_measurement};
 pub use node::Node;

@@ -1,7 +1,7 @@
-//! Reads a line of standard input, as `Set { channel: 3, level: -4 }`, and says what it sets, or where it stops to be such a line.
+//! Reads a line of standard input, as `Mix { channel: 3, level: -4 }`, and says what it sets, or where it stops to be such a line.
 #![tactic(auto)]
 
-use example_parse::{Set, parse_command};
+use example_parse::{Mix, parse_command};
 use std::io::{self, BufRead};
 use ufmt::{Device, pieces, write_line};
 
@@ -12,13 +12,13 @@ fn main(rt: HostRuntime) -> io::Result<()> {
     let text = line.trim_end().as_bytes();
     let mut output = Device::new(io::writer(&rt));
     match parse_command(text) {
-        Ok(Set { channel, level }) => {
+        Ok(Mix { channel, level }) => {
             let line =
                 pieces!(text "channel ", debug channel, text " is set to ", debug level, text "\n");
             write_line(&mut output, &line)
         }
         Err(error) => {
-            let reason = error.in_text_of::<Set, ()>((), text);
+            let reason = error.in_text_of::<Mix, ()>((), text);
             write_line(
                 &mut output,
                 &pieces!(text "not a setting: ", display reason, text "\n"),

@@ -22,7 +22,7 @@ PLAIN = {**dict(integers()), "f32": Float(32), "f64": Float(64), "Decimal": Deci
          "char": Quoted("'"), "String": Quoted('"'), "()": word("()"), "Ordering": Choice(("Less", "Equal", "Greater")),
          "RangeFull": word(".."), "Tree": values.TREE, "Node": values.NODE}
 BYTE, CHARACTER, TEXT = PLAIN["u8"], PLAIN["char"], PLAIN["String"]
-PLAIN["Set"] = Fields("struct", "Set", [("channel", BYTE), ("level", PLAIN["i16"])])
+PLAIN["Mix"] = Fields("struct", "Mix", [("channel", BYTE), ("level", PLAIN["i16"])])
 # What each makes of its parameters.
 GENERIC = {
     "Option": values.option,

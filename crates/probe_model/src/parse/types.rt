@@ -2,7 +2,7 @@
 use crate::parse::parsed::{TypeLetters, add};
 use crate::read::calls::Calls;
 use crate::read::fault::{Fault, agree};
-use example_parse::{Node, Set, Tree};
+use example_parse::{Mix, Node, Tree};
 use std::alloc::Global;
 use std::boxed::{BoxedSlice, BoxedStr};
 use std::cmp::{Ordering, Reverse};
@@ -218,7 +218,7 @@ pub type Further = (
                 Option<[u8; 2]>,
                 (
                     BTreeSet<String>,
-                    (Set, (Option<Node>, (NonZeroU128, (NonZeroI128, ())))),
+                    (Mix, (Option<Node>, (NonZeroU128, (NonZeroI128, ())))),
                 ),
             ),
         ),

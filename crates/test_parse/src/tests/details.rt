@@ -1,7 +1,7 @@
 //! Tests of what an error says of a type in detail: the field, the enum or the range of numbers that was expected.
 use super::enums::structs::Order;
 use super::same;
-use example_parse::{Set, Switch};
+use example_parse::{Mix, Switch};
 use std::alloc::Global;
 use std::num::NonZeroU8;
 use test_rows::printed::Displayed;
@@ -29,20 +29,20 @@ fn an_error_names_what_is_expected(rt: HostRuntime) {
     let alloc = rt.alloc();
     let mut table = Table::new(alloc);
     for (text, display) in rows_of![
-        "Sat { channel: 3, level: -4 }" => "expected `Set`, found `Sat` at line 1 column 1";
-        "Set { chanel: 3, level: -4 }" => "expected the field `channel`, found `chanel` at line 1 column 7";
-        "Set { level: -4 }" => "expected the field `channel`, found `level` at line 1 column 7";
-        "Set { channel: 3 }" => "expected punctuation before the field `level` at line 1 column 17";
-        "Set { channel: 3, lever: -4 }" => "expected the field `level`, found `lever` at line 1 column 19";
-        "Set { channel: 3, level: -4, step: 1 }" => "expected the end of the fields at line 1 column 28";
-        "Set { channel: 256, level: -4 }" => "expected a number from 0 to 255, found `256` at line 1 column 16, after `channel: `";
-        "Set { channel: 3, level: 32768 }" => "expected a number from -32768 to 32767, found `32768` at line 1 column 26, after `level: `";
-        "Set { channel: x, level: -4 }" => "expected a number from 0 to 255, found `x` at line 1 column 16, after `channel: `";
-        "Set { channel= 3, level: -4 }" => "expected punctuation at line 1 column 14";
-        "Set { channel: 3, level: -4 }\n" => "expected the end of the text, found one last line feed at line 1 column 30";
-        "Set" => "expected punctuation before the field `channel`, found the end of the text at line 1 column 4";
+        "Sat { channel: 3, level: -4 }" => "expected `Mix`, found `Sat` at line 1 column 1";
+        "Mix { chanel: 3, level: -4 }" => "expected the field `channel`, found `chanel` at line 1 column 7";
+        "Mix { level: -4 }" => "expected the field `channel`, found `level` at line 1 column 7";
+        "Mix { channel: 3 }" => "expected punctuation before the field `level` at line 1 column 17";
+        "Mix { channel: 3, lever: -4 }" => "expected the field `level`, found `lever` at line 1 column 19";
+        "Mix { channel: 3, level: -4, step: 1 }" => "expected the end of the fields at line 1 column 28";
+        "Mix { channel: 256, level: -4 }" => "expected a number from 0 to 255, found `256` at line 1 column 16, after `channel: `";
+        "Mix { channel: 3, level: 32768 }" => "expected a number from -32768 to 32767, found `32768` at line 1 column 26, after `level: `";
+        "Mix { channel: x, level: -4 }" => "expected a number from 0 to 255, found `x` at line 1 column 16, after `channel: `";
+        "Mix { channel= 3, level: -4 }" => "expected punctuation at line 1 column 14";
+        "Mix { channel: 3, level: -4 }\n" => "expected the end of the text, found one last line feed at line 1 column 30";
+        "Mix" => "expected punctuation before the field `channel`, found the end of the text at line 1 column 4";
     ] {
-        put_rows!(table; plain(&Displayed(explain::<Set>(alloc, text))) => display;);
+        put_rows!(table; plain(&Displayed(explain::<Mix>(alloc, text))) => display;);
     }
     for (text, display) in rows_of![
         "Switch { is_on: tru, next: None, is_lit: true }" => "expected `true` or `false`, found `tru` at line 1 column 17, after `is_on: `";
@@ -54,9 +54,9 @@ fn an_error_names_what_is_expected(rt: HostRuntime) {
     }
     for (text, display) in rows_of![
         "Upp" => "expected a variant of `Order`, found `Upp` at line 1 column 1";
-        "Apply { set: Get { channel: 3, level: -4 } }" => "expected `Set`, found `Get` at line 1 column 14, after `set: `";
-        "HoldPosition(Set { channel: 3, level: -4 }, 1)" => "expected `true` or `false`, found `1` at line 1 column 45";
-        "HoldPosition(Set { channel: 3, level: -4 })" => "expected punctuation at line 1 column 43";
+        "Apply { set: Get { channel: 3, level: -4 } }" => "expected `Mix`, found `Get` at line 1 column 14, after `set: `";
+        "HoldPosition(Mix { channel: 3, level: -4 }, 1)" => "expected `true` or `false`, found `1` at line 1 column 45";
+        "HoldPosition(Mix { channel: 3, level: -4 })" => "expected punctuation at line 1 column 43";
         "Interrupted(1, 2)" => "expected the end of the fields at line 1 column 14";
     ] {
         put_rows!(table; plain(&Displayed(explain::<Order>(alloc, text))) => display;);
@@ -94,11 +94,11 @@ fn types_of_std_have_details(rt: HostRuntime) {
 #[test]
 fn a_pretty_text_has_details_too(rt: HostRuntime) {
     let alloc = rt.alloc();
-    let text = "Set {\n    channel: 3,\n    lever: -4,\n}".as_bytes();
+    let text = "Mix {\n    channel: 3,\n    lever: -4,\n}".as_bytes();
     let mut table = Table::new(alloc);
-    match parse_pretty::<Set, Global>(alloc, text) {
+    match parse_pretty::<Mix, Global>(alloc, text) {
         Ok(_) => table.put_nothing(),
-        Err(error) => table.plain(&Displayed(error.in_pretty_text_of::<Set, Global>(alloc, text))),
+        Err(error) => table.plain(&Displayed(error.in_pretty_text_of::<Mix, Global>(alloc, text))),
     }
     table.wants("expected the field `level`, found `lever` at line 3 column 5");
     same(&rt, table.text(), Some(table.wanted()), "pretty");
@@ -108,22 +108,22 @@ fn a_pretty_text_has_details_too(rt: HostRuntime) {
 #[test]
 fn an_error_of_something_else_has_no_detail(rt: HostRuntime) {
     let alloc = rt.alloc();
-    let text = "Set { chanel: 3, level: -4 }".as_bytes();
-    if let Err(error) = parse::<Set, Global>(alloc, text) {
+    let text = "Mix { chanel: 3, level: -4 }".as_bytes();
+    if let Err(error) = parse::<Mix, Global>(alloc, text) {
         for (case, other) in rows_of![
-            "another text" => "Set { channel: 3 }";
-            "a value's text" => "Set { channel: 3, level: -4 }";
+            "another text" => "Mix { channel: 3 }";
+            "a value's text" => "Mix { channel: 3, level: -4 }";
         ] {
-            let other = error.in_text_of::<Set, Global>(alloc, other.as_bytes());
+            let other = error.in_text_of::<Mix, Global>(alloc, other.as_bytes());
             same(&rt, other.detail, Detail::Nothing, case);
         }
         let detail = error.in_text_of::<Order, Global>(alloc, text).detail;
         same(&rt, detail, Detail::Nothing, "another type");
-        let detail = error.in_pretty_text_of::<Set, Global>(alloc, text).detail;
+        let detail = error.in_pretty_text_of::<Mix, Global>(alloc, text).detail;
         same(&rt, detail, Detail::Nothing, "the other mode");
-        let detail = error.in_text_of::<Set, Global>(alloc, text).detail;
+        let detail = error.in_text_of::<Mix, Global>(alloc, text).detail;
         same(&rt, detail, Detail::Field("channel"), "itself");
     }
-    let error = ParseError::OutOfMemory.in_text_of::<Set, Global>(alloc, text);
+    let error = ParseError::OutOfMemory.in_text_of::<Mix, Global>(alloc, text);
     same(&rt, error, of_no_memory(), "no memory");
 }

@@ -22,14 +22,14 @@ fn an_error_prints_what_is_expected_and_its_place(rt: HostRuntime) {
 #[test]
 fn an_error_in_its_text_prints_its_line_column_and_name(rt: HostRuntime) {
     let mut table = Table::new(rt.alloc());
-    let text = "Set {\n    channel: 256,\n    level: -4,\n}".as_bytes();
+    let text = "Mix {\n    channel: 256,\n    level: -4,\n}".as_bytes();
     let number = not_text(19, Expected::Number).in_text(text);
     let name = not_text(0, Expected::Name).in_text(text);
     put_rows!(table;
         texts(&Displayed(number)) => "expected a number of the type, found `256` at line 2 column 14, after `channel: `";
         plain(&number) => "NotText { line: 2, column: 14, expected: Number, found: Word(\"256\"), after: Some(\"channel\") }";
-        texts(&Displayed(name)) => "expected a name of the type, found `Set` at line 1 column 1";
-        plain(&name) => "NotText { line: 1, column: 1, expected: Name, found: Word(\"Set\"), after: None }";
+        texts(&Displayed(name)) => "expected a name of the type, found `Mix` at line 1 column 1";
+        plain(&name) => "NotText { line: 1, column: 1, expected: Name, found: Word(\"Mix\"), after: None }";
         texts(&Displayed(ParseError::OutOfMemory.in_text(text))) => "out of memory";
         texts(&PlacedError::OutOfMemory) => "OutOfMemory";
     );

@@ -6,7 +6,7 @@ ghost use Rattle.ufmt_parse.specs.Values.{is_f64, is_u16};
 
 use super::enums::shapes::Signal;
 use super::{first_wrong, same};
-use example_parse::Set;
+use example_parse::Mix;
 use std::alloc::Global;
 use std::collections::BTreeMap;
 use ufmt::{Formatter, fields, uDebug, uWrite};
@@ -41,12 +41,12 @@ impl uParse<Global> for Notes {
 
 #[derive(Drop)]
 struct Table {
-    rows: Vec<Set>,
+    rows: Vec<Mix>,
     columns: BTreeMap<String, u16>,
 }
 
 impl uDebug for Table {
-    ghost document = { λ s. named_struct "Table" (("rows", ⟦<Vec<Set> as uDebug>⟧.document s.rows)
+    ghost document = { λ s. named_struct "Table" (("rows", ⟦<Vec<Mix> as uDebug>⟧.document s.rows)
         ∷ ("columns", ⟦<BTreeMap<String, u16> as uDebug>⟧.document s.columns) ∷ []) };
 
     fn fmt<W: uWrite>(&self, f: &mut Formatter<W>) -> Result<(), W::Error> {
@@ -55,7 +55,7 @@ impl uDebug for Table {
 }
 
 impl uParse<Global> for Table {
-    ghost is_value = { λ s. ⟦<Vec<Set> as uParse<Global>>⟧.is_value s.rows × ⟦<BTreeMap<String, u16> as uParse<Global>>⟧.is_value s.columns };
+    ghost is_value = { λ s. ⟦<Vec<Mix> as uParse<Global>>⟧.is_value s.rows × ⟦<BTreeMap<String, u16> as uParse<Global>>⟧.is_value s.columns };
 
     fn prove_value(&self) {
         prove_fields!(Global, self, Table { rows, columns })
@@ -117,13 +117,13 @@ impl uParse<Global> for Mark {
 #[derive(Drop)]
 struct Holder<T> {
     value: T,
-    boxed: Box<Set>,
+    boxed: Box<Mix>,
     texts: Vec<String>,
 }
 
 impl<T: uDebug> uDebug for Holder<T> {
     ghost document = { λ s. named_struct "Holder" (("value", T.document s.value)
-        ∷ ("boxed", ⟦<Box<Set> as uDebug>⟧.document s.boxed)
+        ∷ ("boxed", ⟦<Box<Mix> as uDebug>⟧.document s.boxed)
         ∷ ("texts", ⟦<Vec<String> as uDebug>⟧.document s.texts) ∷ []) };
 
     fn fmt<W: uWrite>(&self, f: &mut Formatter<W>) -> Result<(), W::Error> {
@@ -140,7 +140,7 @@ impl<T: uDebug> uDebug for Holder<T> {
 }
 
 impl<T: uParse<Global>> uParse<Global> for Holder<T> {
-    ghost is_value = { λ s. T.is_value s.value × ⟦<Box<Set> as uParse<Global>>⟧.is_value s.boxed };
+    ghost is_value = { λ s. T.is_value s.value × ⟦<Box<Mix> as uParse<Global>>⟧.is_value s.boxed };
 
     fn prove_value(&self) {
         prove_fields!(Global, self, Holder { value, boxed, .. })
@@ -210,10 +210,10 @@ impl uParse<Global> for Curve {
 }
 
 #[derive(Drop)]
-struct Order(Option<Set>, Vec<char>, Vec<u16>, String);
+struct Order(Option<Mix>, Vec<char>, Vec<u16>, String);
 
 impl uDebug for Order {
-    ghost document = { λ s. named_tuple "Order" (⟦<Option<Set> as uDebug>⟧.document s.0
+    ghost document = { λ s. named_tuple "Order" (⟦<Option<Mix> as uDebug>⟧.document s.0
         ∷ ⟦<Vec<char> as uDebug>⟧.document s.1
         ∷ ⟦<Vec<u16> as uDebug>⟧.document s.2
         ∷ string s.3 ∷ []) };
@@ -224,7 +224,7 @@ impl uDebug for Order {
 }
 
 impl uParse<Global> for Order {
-    ghost is_value = { λ s. ⟦<Option<Set> as uParse<Global>>⟧.is_value s.0 × All IsScalar s.1.items × All is_u16 s.2.items };
+    ghost is_value = { λ s. ⟦<Option<Mix> as uParse<Global>>⟧.is_value s.0 × All IsScalar s.1.items × All is_u16 s.2.items };
 
     fn prove_value(&self) {
         prove_fields!(Global, self, Order(first, letters, ids, text))
@@ -239,22 +239,22 @@ impl uParse<Global> for Order {
 fn structs_with_each_kind_of_field_come_back(rt: HostRuntime) {
     all_read!(rt, Notes; "Notes { count: 2, lines: [\"a\", \"b, c\"] }", "Notes { count: 0, lines: [] }";
         "Notes { count: 2, lines: [\"a\" \"b\"] }", "Notes { count: 2, lines: [a] }");
-    all_read!(rt, Table; "Table { rows: [Set { channel: 3, level: -4 }], columns: {\"a\": 1, \"b\": 2} }",
+    all_read!(rt, Table; "Table { rows: [Mix { channel: 3, level: -4 }], columns: {\"a\": 1, \"b\": 2} }",
         "Table { rows: [], columns: {} }"; "Table { rows: [], columns: {\"b\": 2, \"a\": 1} }",
-        "Table { rows: [Set { channel: 300, level: -4 }], columns: {} }");
+        "Table { rows: [Mix { channel: 300, level: -4 }], columns: {} }");
     all_read!(rt, Person; "Person(\"a\", Some(\"b\"), Some(7))", "Person(\"\", None, None)"; "Person(\"a\", \"b\", None)");
     all_read!(rt, Mark; "Mark(-1.5, 'a', Some('\\''))"; "Mark(-1.5, a, None)");
-    all_read!(rt, Holder<bool>; "Holder { value: true, boxed: Set { channel: 3, level: -4 }, texts: [\"a\"] }";
-        "Holder { value: 1, boxed: Set { channel: 3, level: -4 }, texts: [] }", "Holder", "Holder {}", "holder",
-        "Holder { value: true, boxed: Set { channel: 3, level: -4 } }",
-        "Holder { value: true, texts: [], boxed: Set { channel: 3, level: -4 } }",
-        "Holder { value: true, boxed: Set { channel: 3, level: -4 }, text: [] }",
-        "Holder { value: true, boxed: Set { channel: 3, level: -4 }, texts: [], value: true }",
-        "Other { value: true, boxed: Set { channel: 3, level: -4 }, texts: [] }",
-        "Holder(true, Set { channel: 3, level: -4 }, [])"
+    all_read!(rt, Holder<bool>; "Holder { value: true, boxed: Mix { channel: 3, level: -4 }, texts: [\"a\"] }";
+        "Holder { value: 1, boxed: Mix { channel: 3, level: -4 }, texts: [] }", "Holder", "Holder {}", "holder",
+        "Holder { value: true, boxed: Mix { channel: 3, level: -4 } }",
+        "Holder { value: true, texts: [], boxed: Mix { channel: 3, level: -4 } }",
+        "Holder { value: true, boxed: Mix { channel: 3, level: -4 }, text: [] }",
+        "Holder { value: true, boxed: Mix { channel: 3, level: -4 }, texts: [], value: true }",
+        "Other { value: true, boxed: Mix { channel: 3, level: -4 }, texts: [] }",
+        "Holder(true, Mix { channel: 3, level: -4 }, [])"
     );
     all_read!(rt, Switches; "Switches(true, [true, false], Some(false))"; "Switches(true, [1], None)");
     all_read!(rt, Curve; "Curve([1.0, 1e-7], Some(NaN), AB(7, None))"; "Curve([1], None, A)");
-    all_read!(rt, Order; "Order(Some(Set { channel: 3, level: -4 }), ['a'], [1, 2], \"\")", "Order(None, [], [], \"a\")";
+    all_read!(rt, Order; "Order(Some(Mix { channel: 3, level: -4 }), ['a'], [1, 2], \"\")", "Order(None, [], [], \"a\")";
         "Order(None, [], [65536], \"a\")");
 }

@@ -1,10 +1,10 @@
 //! Tests of values that are printed and parsed again.
 use super::same;
-use example_parse::{Sample, Set};
+use example_parse::{Mix, Sample};
 use std::collections::BTreeMap;
 use ufmt_parse::{ParseError, parse, round_trip, round_trip_in};
 
-const SET: Set = Set {
+const SET: Mix = Mix {
     channel: 255,
     level: -32768,
 };
@@ -32,7 +32,7 @@ fn a_value_comes_back_from_a_buffer_without_an_allocator(rt: HostRuntime) {
     let mut buffer = [b'.'; 40];
     let found = round_trip_in((), &mut buffer, &SET);
     same(&rt, found, Ok(Some(SET)), "a struct");
-    let text = b"Set { channel: 255, level: -32768 }.....";
+    let text = b"Mix { channel: 255, level: -32768 }.....";
     same(&rt, &buffer, text, "the buffer");
     let mut whole = [0; 35];
     let found = round_trip_in((), &mut whole, &SET);
@@ -40,6 +40,6 @@ fn a_value_comes_back_from_a_buffer_without_an_allocator(rt: HostRuntime) {
     let mut short = [0; 34];
     let found = round_trip_in((), &mut short, &SET);
     same(&rt, found, Ok(None), "a buffer that is too short");
-    let text = b"Set { channel: 255, level: -32768 ";
+    let text = b"Mix { channel: 255, level: -32768 ";
     same(&rt, &short, text, "its prefix");
 }

@@ -4,7 +4,7 @@ ghost use Rattle.std.specs.Prelude.{[], ◌∷◌, ⊤};
 ghost use Rattle.ufmt.specs.ValueDocuments.{named_struct, named_tuple};
 
 use super::{first_other, first_wrong, not_text, same};
-use example_parse::{Measurement, Set, Switch, parse_command, parse_measurement};
+use example_parse::{Measurement, Mix, Switch, parse_command, parse_measurement};
 use ufmt::{Formatter, fields, uDebug, uWrite};
 use ufmt_parse::{Expected, Fault, ParseMode, Parser, parse_fields, parse_pretty, uParse};
 
@@ -112,8 +112,8 @@ fn pretty_texts_are_parsed_with_their_indentation(rt: HostRuntime) {
 #[test]
 fn lines_are_parsed_by_the_calls_of_the_examples(rt: HostRuntime) {
     let (channel, level) = (3, -4);
-    let given = parse_command(b"Set { channel: 3, level: -4 }");
-    same(&rt, given, Ok(Set { channel, level }), "a command");
+    let given = parse_command(b"Mix { channel: 3, level: -4 }");
+    same(&rt, given, Ok(Mix { channel, level }), "a command");
     let (channel, celsius) = (255, -2147483648);
     let measurement = Measurement { channel, celsius };
     let given = parse_measurement(b"Measurement { channel: 255, celsius: -2147483648 }");

@@ -5,7 +5,7 @@ ghost use Rattle.test_parse.specs.declared.tests.enums.structs.Order.TheVariants
 ghost use Rattle.ufmt_parse.specs.Values.{is_i16, is_u8, is_u32, is_u64};
 
 use crate::tests::{first_other, not_text, same};
-use example_parse::Set;
+use example_parse::Mix;
 use ufmt::{Formatter, uDebug, uWrite, variants};
 use ufmt_parse::{
     Expected, Fault, ParseMode, Parser, parse, parse_pretty, parse_variants, prove_variants, uParse,
@@ -17,12 +17,12 @@ pub enum Order {
     Up,
     Interrupted(u32),
     Apply {
-        set: Set,
+        set: Mix,
     },
-    HoldPosition(Set, bool),
+    HoldPosition(Mix, bool),
     CrossFadeBetween {
-        starting_point: Set,
-        end_point: Set,
+        starting_point: Mix,
+        end_point: Mix,
         repeated: bool,
     },
     AwaitingCalibrationOfSensor {
@@ -35,9 +35,9 @@ impl uDebug for Order {
     ghost document = { elim [
       | Up ↦ named "Up"
       | Interrupted line ↦ named_tuple "Interrupted" (number line ∷ [])
-      | Apply set ↦ named_struct "Apply" (("set", ⟦<Set as uDebug>⟧.document set) ∷ [])
-      | HoldPosition set locked ↦ named_tuple "HoldPosition" (⟦<Set as uDebug>⟧.document set ∷ ⟦<bool as uDebug>⟧.document locked ∷ [])
-      | CrossFadeBetween start end repeated ↦ named_struct "CrossFadeBetween" (("starting_point", ⟦<Set as uDebug>⟧.document start) ∷ ("end_point", ⟦<Set as uDebug>⟧.document end) ∷ ("repeated", ⟦<bool as uDebug>⟧.document repeated) ∷ [])
+      | Apply set ↦ named_struct "Apply" (("set", ⟦<Mix as uDebug>⟧.document set) ∷ [])
+      | HoldPosition set locked ↦ named_tuple "HoldPosition" (⟦<Mix as uDebug>⟧.document set ∷ ⟦<bool as uDebug>⟧.document locked ∷ [])
+      | CrossFadeBetween start end repeated ↦ named_struct "CrossFadeBetween" (("starting_point", ⟦<Mix as uDebug>⟧.document start) ∷ ("end_point", ⟦<Mix as uDebug>⟧.document end) ∷ ("repeated", ⟦<bool as uDebug>⟧.document repeated) ∷ [])
       | AwaitingCalibrationOfSensor seconds ↦ named_struct "AwaitingCalibrationOfSensor" (("seconds_since_the_last_value", number seconds) ∷ [])
       | Pulse count pause level ↦ named_tuple "Pulse" (number count ∷ ⟦<Option<u8> as uDebug>⟧.document pause ∷ integer level ∷ [])
     ] };
@@ -82,12 +82,12 @@ impl<A: Copy> uParse<A> for Order {
 #[test]
 fn structs_and_long_names_in_variants_are_parsed(rt: HostRuntime) {
     let fading =
-        "CrossFadeBetween { starting_point: Set { channel: 0, level: -32768 }, end_point: Set { channel: 255, level: 32767 }, repeated: true }";
+        "CrossFadeBetween { starting_point: Mix { channel: 0, level: -32768 }, end_point: Mix { channel: 255, level: 32767 }, repeated: true }";
     all_stop!(rt, Order;
         "Up" => "";
         "Interrupted(4294967295)" => "";
-        "Apply { set: Set { channel: 0, level: -32768 } }" => "";
-        "HoldPosition(Set { channel: 255, level: 32767 }, false)" => "";
+        "Apply { set: Mix { channel: 0, level: -32768 } }" => "";
+        "HoldPosition(Mix { channel: 255, level: 32767 }, false)" => "";
         fading => "";
         "AwaitingCalibrationOfSensor { seconds_since_the_last_value: 18446744073709551615 }" => "";
         "Pulse(3, None, -1)" => "";
@@ -96,14 +96,14 @@ fn structs_and_long_names_in_variants_are_parsed(rt: HostRuntime) {
         "Interrupte(1)" => "0 Name";
         "Interruptedd(1)" => "0 Name";
         "Interrupted(4294967296)" => "12 Number";
-        "Apply { set: Set { channel: 256, level: 0 } }" => "28 Number";
-        "Apply(Set { channel: 1, level: 2 })" => "5 Punctuation";
-        "Apply { est: Set { channel: 1, level: 2 } }" => "8 Name";
-        "HoldPositoin(Set { channel: 1, level: 2 }, true)" => "0 Name";
+        "Apply { set: Mix { channel: 256, level: 0 } }" => "28 Number";
+        "Apply(Mix { channel: 1, level: 2 })" => "5 Punctuation";
+        "Apply { est: Mix { channel: 1, level: 2 } }" => "8 Name";
+        "HoldPositoin(Mix { channel: 1, level: 2 }, true)" => "0 Name";
         "Apply { set: Up }" => "13 Name";
-        "HoldPosition(Set { channel: 1, level: 2 }, maybe)" => "43 Name";
-        "HoldPosition(Set { channel: 1, level: 2 })" => "41 Punctuation";
-        "CrossFadeBetween { starting_piont: Set { channel: 0, level: 0 } }" => "19 Name";
+        "HoldPosition(Mix { channel: 1, level: 2 }, maybe)" => "43 Name";
+        "HoldPosition(Mix { channel: 1, level: 2 })" => "41 Punctuation";
+        "CrossFadeBetween { starting_piont: Mix { channel: 0, level: 0 } }" => "19 Name";
         "AwaitingCalibrationOfSensor { seconds_since_the_last_valeu: 1 }" => "30 Name";
         "Pulse(3, Some(256), -1)" => "14 Number";
         "Pulsed(3, None, -1)" => "0 Name";
@@ -115,9 +115,9 @@ fn structs_and_long_names_in_variants_are_parsed(rt: HostRuntime) {
     };
     same(&rt, parse((), text), Ok(wanted), "its field");
     let (channel, level) = (255, 32767);
-    let high = Set { channel, level };
+    let high = Mix { channel, level };
     let pretty =
-        "HoldPosition(\n    Set {\n        channel: 255,\n        level: 32767,\n    },\n    true,\n)";
+        "HoldPosition(\n    Mix {\n        channel: 255,\n        level: 32767,\n    },\n    true,\n)";
     let held = parse_pretty((), pretty.as_bytes());
     same(&rt, held, Ok(Order::HoldPosition(high, true)), pretty);
     let refused = parse_pretty::<Order, ()>((), fading.as_bytes());
