@@ -47,6 +47,9 @@ IsAscii-digits_from group zero (byte ∷ row) bytes =
 IsAscii-digits_from group (suc left) (byte ∷ row) bytes =
     IsAscii-append (byte_digits byte) (digits_from group left row) (IsAscii-byte_digits byte (bytes 0)) (IsAscii-digits_from group left row (λ k. bytes (suc k)))
 
+pub IsAscii-digits_column : (group : ℕ) (row : List ℕ) → 0 < group → AreBytes row → IsAscii (digits_column group row)
+IsAscii-digits_column group row some bytes = rw (digits_from-row group row some) (IsAscii-digits_from group group row bytes)
+
 IsAscii-offset : (offset : Option ℕ) (before : ℕ) → IsAscii (offset_column offset before)
 IsAscii-offset None before = IsAscii-nil
 IsAscii-offset (Some first) before =
@@ -73,5 +76,5 @@ IsAscii-row_text dump before row bytes =
     let rest = text_column dump row ++ codes "\n" in
     IsAscii-append (offset_column dump.offset before) (digits ++ rest) (IsAscii-offset dump.offset before)
     (IsAscii-append digits rest
-    (rw (digits_from-row (bytes_per_group dump) row (bytes_per_group-some dump)) (IsAscii-digits_from (bytes_per_group dump) (bytes_per_group dump) row bytes))
+    (IsAscii-digits_column (bytes_per_group dump) row (bytes_per_group-some dump) bytes)
     (IsAscii-append (text_column dump row) (codes "\n") (IsAscii-text_column dump row) (IsAscii-cons 10 [] (omega arith) IsAscii-nil)))

@@ -1,5 +1,5 @@
 -- Dumps: how bytes are cut into chunks, and the digits of a row one byte after the other.
-use Rattle.std.proofs.Common.{false, get_or, replicate, ◌/◌, ◌≡◌, ◌∙◌, refl, ap, sym, ℕ, zero, suc, min, ◌+◌, ◌-◌, ◌==◌, if◌then◌else◌, ◌<◌, ◌≤◌, List, [], ◌∷◌, ◌++◌, length, take, drop, arith, length-drop, append_assoc}
+use Rattle.std.proofs.Common.{false, get_or, replicate, ◌/◌, ◌≡◌, ◌∙◌, refl, ap, sym, ℕ, zero, suc, min, ◌+◌, ◌-◌, ◌==◌, if◌then◌else◌, ◌<◌, ◌≤◌, List, [], ◌∷◌, ◌++◌, length, take, drop, arith, length-drop, append-nil, append_assoc}
 use Rattle.std.proofs.Math.Nat.{div-mul-le_self}
 use Rattle.std.proofs.lemmas.Nat.{le-div}
 use Rattle.std.proofs.Math.Seq.{drop-append_seam, take-append_seam}
@@ -123,3 +123,27 @@ bytes_per_group-some dump = grind (arith, nat_tests)
 -- a row has room for a byte
 pub bytes_per_row-some : (dump : HexDump) → 0 < bytes_per_row dump
 bytes_per_row-some dump = grind (arith, nat_tests)
+
+-- the digits of bytes in groups, each with a space before it
+abbrev pub spaced : ℕ → List ℕ → List ℕ
+spaced group bytes = flat_map (λ chunk. space ∷ flat_map byte_digits chunk) (chunks group bytes)
+
+-- after the first space come the digits with a space between groups
+pub spaced-column : (group : ℕ) (row : List ℕ) → 0 < group → 0 < length row → drop 1 (spaced group row) ≡ digits_column group row
+spaced-column group row some some_byte = rw (chunks-step group row some some_byte) refl
+
+-- a chunk is put after the bytes before it
+pub spaced-cut : (group : ℕ) (before all chunk rest : List ℕ) → 0 < group → 0 < length all → all ≡ chunk ++ rest → length chunk ≡ min group (length all)
+    → ((before ++ space ∷ []) ++ flat_map byte_digits chunk) ++ spaced group rest ≡ before ++ spaced group all
+spaced-cut group before all chunk rest some some_byte parts size =
+    let digits = flat_map byte_digits chunk in
+    let cut : spaced group all ≡ space ∷ (digits ++ spaced group rest) =
+    ap (flat_map (λ chunk. space ∷ flat_map byte_digits chunk)) (chunks-cut group all chunk rest some some_byte parts size) in
+    append_assoc (before ++ space ∷ []) digits (spaced group rest) ∙ append_assoc before (space ∷ []) (digits ++ spaced group rest)
+    ∙ ap (λ t. before ++ t) (sym cut)
+
+-- all chunks are put, and the text begins after the first space
+pub spaced-all : (group : ℕ) (front rest row : List ℕ) → 0 < group → 0 < length row → rest ≡ [] → front ++ spaced group rest ≡ spaced group row
+    → drop 1 front ≡ digits_column group row
+spaced-all group front rest row some some_byte none written =
+    ap (drop 1) (sym (append-nil front) ∙ ap (λ t. front ++ spaced group t) (sym none) ∙ written) ∙ spaced-column group row some some_byte

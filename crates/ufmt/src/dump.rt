@@ -1,12 +1,13 @@
 //! Hexadecimal dumps of bytes.
-ghost use Rattle.std.specs.Prelude.{◌≡◌, ◌+◌, ◌-◌, ◌*◌, ◌/◌, ◌^◌, ◌<◌, ◌≤◌, ◌==◌, ◌++◌, ◌∷◌, if◌then◌else◌, length, map, replicate, is_ok};
+ghost use Rattle.std.specs.Prelude.{◌≡◌, ◌+◌, ◌-◌, ◌*◌, ◌/◌, ◌^◌, ◌<◌, ◌≤◌, ◌==◌, ◌++◌, ◌∷◌, if◌then◌else◌, length, map, replicate, take, is_ok};
+ghost use Rattle.std.specs.List.{flat_map};
 ghost use Rattle.ufmt_core.specs.Bytes.{space};
 ghost use Rattle.ufmt_core.specs.Writes.{Writes};
 ghost use Rattle.ufmt_core.specs.Buffer.{Fronts};
 ghost use Rattle.ufmt.specs.Dump.{byte_digits, bytes_per_group, bytes_per_row, digits_column, digits_width, dump_text, offset_column, offset_text, row_text, shown_byte, text_column};
 
 use crate::pad::pad;
-use crate::radix::digits::{digit_byte, digits_text};
+use crate::radix::digits::{byte_pair, digits_text};
 use ufmt_core::cursor::{Cursor, Full};
 use ufmt_core::internal::text_from;
 use ufmt_core::{Formatter, uWrite};
@@ -28,6 +29,9 @@ pub struct HexDump {
 // A row of so many bytes is made in a buffer: up to 16 digits of its offset and `: `, three columns a
 // byte for digits and spaces, two spaces, the text, and the line feed.
 const SHORT_ROW: usize = 32;
+
+// A byte's digits, and a space before them.
+const DIGITS_ROOM: usize = 3 * SHORT_ROW;
 
 const ROOM: usize = 18 + 4 * SHORT_ROW + 3;
 
@@ -75,21 +79,45 @@ impl HexDump {
             return self.write_columns(writer, before, row);
         }
         let mut buffer = [0; ROOM];
-        match self.row_into(&mut buffer, before, row) {
+        match self.short_row_into(&mut buffer, before, row) {
             Ok(length) => writer.write_str(text_from(&buffer[..length], 0)),
             Err(Full) => self.write_columns(writer, before, row),
         }
     }
 
-    fn row_into(&self, buffer: &mut [u8], before: usize, row: &[u8]) -> Result<usize, Full>
+    // Makes a short row at the front of the buffer.
+    fn short_row_into(&self, buffer: &mut [u8], before: usize, row: &[u8]) -> Result<usize, Full>
         requires no_overflow { before < 2 ^ 63 }
         requires some { 0 < length row.now }
         requires within { length row.now ≤ bytes_per_row self.now }
+        requires short { bytes_per_row self.now ≤ 32 }
         ensures { Fronts buffer.old (row_text self.now before row.now) result buffer.new }
     {
         let mut cursor = Cursor::new(buffer);
-        self.write_columns(&mut cursor, before, row)?;
+        self.write_short_row(&mut cursor, before, row)?;
         Ok(cursor.written().len())
+    }
+
+    // The same as `write_columns`, but all digits are one piece.
+    #[inline(always)]
+    fn write_short_row<W: uWrite>(
+        &self,
+        writer: &mut W,
+        before: usize,
+        row: &[u8],
+    ) -> Result<(), W::Error>
+        requires no_overflow { before < 2 ^ 63 }
+        requires some { 0 < length row.now }
+        requires within { length row.now ≤ bytes_per_row self.now }
+        requires short { bytes_per_row self.now ≤ 32 }
+        ensures { Writes W.seen writer.old (row_text self.now before row.now) (is_ok result)
+            writer.new }
+    {
+        self.write_offset(writer, before)?;
+        let mut buffer = [0; DIGITS_ROOM];
+        writer.write_str(short_digits(row, self.bytes_per_group(), &mut buffer))?;
+        self.write_text(writer, row)?;
+        writer.write_str("\n")
     }
 
     fn write_columns<W: uWrite>(
@@ -210,6 +238,42 @@ fn write_padded<W: uWrite>(writer: &mut W, offset: u64) -> Result<(), W::Error>
     writer.write_str(digits)
 }
 
+// The digits of a short row, with a space between groups, made in the buffer. Each group has a space before it
+// there, and the text begins after the first.
+#[inline(always)]
+fn short_digits<'a>(row: &[u8], group: usize, buffer: &'a mut [u8; DIGITS_ROOM]) -> &'a str
+    requires some_group { 0 < group }
+    requires some { 0 < length row.now }
+    requires short { length row.now ≤ 32 }
+    ensures { result.now ≡ digits_column group row.now }
+{
+    let mut end = 0;
+    for bytes in row.chunks(group) {
+        buffer[end] = b' ';
+        end = put_digits(bytes, buffer, end + 1);
+    }
+    text_from(&buffer[..end], 1)
+}
+
+// Puts the digits of these bytes into the buffer, from `start` on, and returns the index after them.
+#[inline(always)]
+fn put_digits(bytes: &[u8], buffer: &mut [u8], start: usize) -> usize
+    requires room { start + 2 * length bytes.now ≤ length buffer.old }
+    ensures end { result ≡ start + 2 * length bytes.now }
+    ensures same_length { length buffer.new ≡ length buffer.old }
+    ensures written { take result buffer.new
+        ≡ take start buffer.old ++ flat_map byte_digits bytes.now }
+{
+    let mut end = start;
+    for byte in bytes {
+        let (high, low) = byte_pair(*byte);
+        buffer[end] = high;
+        buffer[end + 1] = low;
+        end += 2;
+    }
+    end
+}
+
 // A byte's two digits, and a space before them if they begin another group.
 #[inline(always)]
 fn write_byte<W: uWrite>(writer: &mut W, byte: u8, begins_group: bool) -> Result<(), W::Error>
@@ -217,15 +281,11 @@ fn write_byte<W: uWrite>(writer: &mut W, byte: u8, begins_group: bool) -> Result
         (if begins_group then space ∷ byte_digits byte else byte_digits byte) (is_ok result)
         writer.new }
 {
-    let text = [
-        b' ',
-        digit_byte(byte / 16, false),
-        digit_byte(byte % 16, false),
-    ];
+    let (high, low) = byte_pair(byte);
     if begins_group {
-        return writer.write_str(text_from(&text, 0));
+        return writer.write_str(text_from(&[b' ', high, low], 0));
     }
-    writer.write_str(text_from(&text, 1))
+    writer.write_str(text_from(&[high, low], 0))
 }
 
 // How many bytes a group takes after one more byte, where it took this many before it. With none left

@@ -1,5 +1,5 @@
 //! `uDisplayHex`: hexadecimal texts, and the padding of texts in every radix. The numbers that print so are below `radix`.
-ghost use Rattle.std.specs.Prelude.{◌≡◌, ◌<◌, ◌-◌, ◌+◌, ◌↔◌, ℕ, List, IsTrue, replicate, is_ok};
+ghost use Rattle.std.specs.Prelude.{◌≡◌, ◌<◌, ◌-◌, ◌+◌, ◌↔◌, if◌then◌else◌, ℕ, List, IsTrue, replicate, is_ok};
 ghost use Rattle.ufmt_core.specs.Formatter.{Prints};
 ghost use Rattle.ufmt.specs.declared.hex.HexOptions.{HexOptions};
 ghost use Rattle.ufmt.specs.Hex.{padded};
@@ -81,6 +81,8 @@ impl HexOptions {
     }
 
     /// Writes `payload` with its prefix and padding. On `Err` a prefix of that was written.
+    // In line, as what it calls is: options are mostly constants, and little is left of the tests of them.
+    #[inline(always)]
     pub fn with_stuff<W: uWrite>(&self, f: &mut Formatter<W>, payload: &str) -> Result<(), W::Error>
         requires { self.now.pad_char < 128 }
         ensures { Prints W.seen f.old (padded self.now payload.now) (is_ok result) f.new }
@@ -99,6 +101,7 @@ impl HexOptions {
     }
 
     /// Writes `payload` after this prefix, with the padding. On `Err` a prefix of that was written.
+    #[inline(always)]
     pub(crate) fn write_after<W: uWrite>(
         &self,
         prefix: &str,
@@ -109,15 +112,23 @@ impl HexOptions {
         ensures { Prints W.seen f.old (padded_after prefix.now self.now payload.now) (is_ok result)
             f.new }
     {
-        let missing = self.missing(prefix.len(), payload.len());
-        if self.pads_first() {
-            self.write_padding(f, missing)?;
-            write_prefix(f, prefix)?;
-            return f.write_str(payload);
-        }
+        let (before, after) = self.split_missing(self.missing(prefix.len(), payload.len()));
+        self.write_padding(f, before)?;
         write_prefix(f, prefix)?;
-        self.write_padding(f, missing)?;
+        self.write_padding(f, after)?;
         f.write_str(payload)
+    }
+
+    // How many of the pad bytes come before the prefix, and how many after it.
+    fn split_missing(&self, missing: usize) -> (usize, usize)
+        ensures before { result.0 ≡ (if pads_first self.now then missing else 0) }
+        ensures after { result.1 ≡ (if pads_first self.now then 0 else missing) }
+    {
+        if self.pads_first() {
+            (missing, 0)
+        } else {
+            (0, missing)
+        }
     }
 
     // How many pad bytes a prefix and a payload of these lengths need.
@@ -135,12 +146,13 @@ impl HexOptions {
         self.pad_char == b' '
     }
 
-    // One piece for each pad byte.
+    // One piece for each pad byte. The remainder tells LLVM that it is ASCII.
+    #[inline(always)]
     fn write_padding<W: uWrite>(&self, f: &mut Formatter<W>, count: usize) -> Result<(), W::Error>
         requires { self.now.pad_char < 128 }
         ensures { Prints W.seen f.old (replicate count self.now.pad_char) (is_ok result) f.new }
     {
-        let pad = char::from(self.pad_char);
+        let pad = char::from(self.pad_char % 128);
         for _pad in 0..count {
             f.write_char(pad)?;
         }
@@ -149,6 +161,7 @@ impl HexOptions {
 }
 
 // An empty prefix is no piece.
+#[inline(always)]
 fn write_prefix<W: uWrite>(f: &mut Formatter<W>, prefix: &str) -> Result<(), W::Error>
     ensures { Prints W.seen f.old prefix.now (is_ok result) f.new }
 {

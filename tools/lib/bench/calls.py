@@ -13,8 +13,8 @@ from lib.rust import linking
 
 # `two` prints a second type as well, `eight` eight types. The peers have the first seven.
 PEER_SIZES = ("text", "number", "struct", "pretty", "two", "eight", "line")
-SIZES = PEER_SIZES + ("tuple", "list", "set", "map")
-# What is called, and with which number.
+SIZES = PEER_SIZES + ("tuple", "list", "set", "map", "hex")
+# What is called, and with which number. The peers have no dumps.
 CALLS = data.rows("bench/figures.txt")["calls"]
 # Debian's packages librust-*-dev put their crates here; else they are those that cargo has.
 DEBIAN = pathlib.Path("/usr/share/cargo/registry")
@@ -89,7 +89,8 @@ def sizes(room):
 
 def counts(program):
     for told, *its in CALLS:
-        yield told, instructions([program], *its), lambda folder, peer, its=its: instructions([folder / "calls", peer], *its)
+        yield told, instructions([program], *its), not its[0].startswith("dump") and (
+            lambda folder, peer, its=its: instructions([folder / "calls", peer], *its))
 
 
 def table(room, given):

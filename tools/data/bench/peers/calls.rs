@@ -51,12 +51,12 @@ pub struct Pair {
 }
 
 macro_rules! cases {
-    ($write:ident; $($name:ident($($argument:ident: $type:ty),*) $form:literal $(, $value:expr)?;)*) => {
+    ($write:ident; $($name:ident($($argument:ident: $type:ty),*) $form:literal $(, $value:expr)*;)*) => {
         $(
             #[inline(never)]
             pub fn $name(turn: usize, $($argument: $type,)* buffer: &mut [u8]) -> usize {
                 let mut front = Front { buffer, length: 0 };
-                if $write!(&mut front, $form $(, $value)?).is_err() {
+                if $write!(&mut front, $form $(, $value)*).is_err() {
                     return 0;
                 }
                 front.length.wrapping_add(turn)
@@ -84,6 +84,9 @@ macro_rules! module {
                 named(x: i32) "{:?}", Pair { x, y: x };
                 pretty(x: i32) "{:#?}", Pair { x, y: x };
                 hex(x: i32) "{:#010x}", x;
+                hex_digits(x: i32) "{:x}", x;
+                hex_u64(x: u64) "{:x}", x;
+                hex_line(x: i32) "at {:#010x}: {:#010x}\n", x, !x;
                 list(x: &Vec<u64>) "{:?}", x;
             }
         }
@@ -107,6 +110,9 @@ macro_rules! sum {
             "struct" => (0..$turns).map(|turn| $module::named(turn, $x, $buffer)).sum(),
             "pretty" => (0..$turns).map(|turn| $module::pretty(turn, $x, $buffer)).sum(),
             "hex" => (0..$turns).map(|turn| $module::hex(turn, $x, $buffer)).sum(),
+            "hex_digits" => (0..$turns).map(|turn| $module::hex_digits(turn, $x, $buffer)).sum(),
+            "hex_u64" => (0..$turns).map(|turn| $module::hex_u64(turn, black_box(LONG), $buffer)).sum(),
+            "hex_line" => (0..$turns).map(|turn| $module::hex_line(turn, $x, $buffer)).sum(),
             "list" => (0..$turns).map(|turn| $module::list(turn, $list, $buffer)).sum(),
             _ => 0,
         }
