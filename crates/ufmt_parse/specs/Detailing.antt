@@ -47,8 +47,8 @@ detailed_document (placed.NotText line column expected found after) detail = joi
     ∷ detail_document expected detail ∷ place_document line column found after ∷ []))
 detailed_document placed.OutOfMemory detail = leaf (codes "out of memory")
 
--- there is no detail where a value is whole, nor of want of memory
-abbrev pub HasDetail : ParseError → Detail → Type 0
-HasDetail (NotText at End) found = found ≡ detail.Nothing
-HasDetail (NotText at expected) found = ⊤
-HasDetail OutOfMemory found = found ≡ detail.Nothing
+-- a detail that such an error may have: none if the value was whole before that place, and none if memory ran out
+abbrev pub IsDetailOf : ParseError → Detail → Type 0
+IsDetailOf (NotText at End) found = found ≡ detail.Nothing
+IsDetailOf (NotText at expected) found = ⊤
+IsDetailOf OutOfMemory found = found ≡ detail.Nothing
