@@ -128,9 +128,7 @@ impl uDisplay for Wanted<'_> {
                 pieces!(text "punctuation before the field `", text *name, text "`").print(f)
             }
             Detail::NoField => f.write_str("the end of the fields"),
-            Detail::Range { from, to } => {
-                pieces!(text "a number from ", display from, text " to ", display to).print(f)
-            }
+            Detail::Range(range) => pieces!(text "a number from ", text *range).print(f),
             Detail::NonZero => f.write_str("a number other than 0"),
         }
     }
