@@ -88,10 +88,10 @@ pretty-two_lines : pretty_text two_lines ≡ codes "[\n    a\nb,\n]"
 pretty-two_lines = refl
 
 HasNoLineFeed-not-two_lines : HasNoLineFeed two_lines → ⊥
-HasNoLineFeed-not-two_lines h = h.0.1.0 refl
+HasNoLineFeed-not-two_lines ((first_byte, (second_byte, others)), more) = second_byte refl
 
 HasNoLineFeed-not-field_name : HasNoLineFeed (struct_of (codes "S") (first_field (codes "\n") one no_fields)) → ⊥
-HasNoLineFeed-not-field_name h = h.1.0.0 refl
+HasNoLineFeed-not-field_name (name, ((first_byte, others), value, more)) = first_byte refl
 
 HasNoLineFeed-lists : HasNoLineFeed (list_of (first_document (list_of no_documents) (lone one)))
 HasNoLineFeed-lists = (tt, ((λ e. omega (arith, e), tt), tt))

@@ -32,21 +32,29 @@ module _ {N : Type 0} (shown : N → List ℕ × Bool) (class : Class) (n : ℕ)
   pub docs_within : (ds : List (Tree N))
       → AllByRecursion (λ d. (0 < n) × IsBuiltWithin class (n - 1) (tree_document shown d)) ds ↔ IsBuiltWithin class n (list_of (documents (map (tree_document shown) ds)))
   docs_within [] = (λ h. (tt, omega arith), λ h. tt)
-  docs_within (d ∷ []) = (λ h. ((h.0.1.0, tt), omega arith), λ h. ((omega arith, (h.0.0, omega arith)), tt))
+  docs_within (d ∷ []) = (
+    λ ((some, (built, deep)), none). ((built, tt), omega arith),
+    λ ((built, none), deep). ((omega arith, (built, omega arith)), tt),
+  )
   docs_within (d ∷ e ∷ ds) =
-      let rest = docs_within (e ∷ ds) in
-      (λ h. let more = rest.0 h.1 in ((h.0.1.0, more.0), omega arith), λ h. ((omega arith, (h.0.0, omega arith)), rest.1 (h.0.1, omega arith)))
+      let rest = docs_within (e ∷ ds) in (
+        λ ((some, (built, deep)), others). let (all_built, most) = rest.0 others in ((built, all_built), omega arith),
+        λ ((built, others), deep). ((omega arith, (built, omega arith)), rest.1 (others, omega arith)),
+      )
 
   -- a map, by its pairs
   pub pairs_within : (ps : List (Tree N × Tree N))
       → AllByRecursion (λ p. (0 < n) × (IsBuiltWithin class (n - 1) (tree_document shown p.0) × IsBuiltWithin class (n - 1) (tree_document shown p.1))) ps
       ↔ IsBuiltWithin class n (map_of (pairs_of (map (pair_view shown) ps)))
   pairs_within [] = (λ h. (tt, omega arith), λ h. tt)
-  pairs_within (p ∷ []) = (λ h. ((h.0.1.0.0, h.0.1.1.0, tt), omega arith), λ h. ((omega arith, ((h.0.0, omega arith), (h.0.1, omega arith))), tt))
+  pairs_within (p ∷ []) = (
+    λ ((some, ((key, key_deep), (value, value_deep))), none). ((key, value, tt), omega arith),
+    λ ((key, value, none), deep). ((omega arith, ((key, omega arith), (value, omega arith))), tt),
+  )
   pairs_within (p ∷ q ∷ ps) =
       let rest = pairs_within (q ∷ ps) in (
-        λ h. let more = rest.0 h.1 in ((h.0.1.0.0, h.0.1.1.0, more.0), omega arith),
-        λ h. ((omega arith, ((h.0.0, omega arith), (h.0.1, omega arith))), rest.1 (h.0.2, omega arith)),
+        λ ((some, ((key, key_deep), (value, value_deep))), others). let (all_built, most) = rest.0 others in ((key, value, all_built), omega arith),
+        λ ((key, value, others), deep). ((omega arith, ((key, omega arith), (value, omega arith))), rest.1 (others, omega arith)),
       )
 
   -- a struct with this name, by its fields
@@ -54,11 +62,15 @@ module _ {N : Type 0} (shown : N → List ℕ × Bool) (class : Class) (n : ℕ)
       → AllByRecursion (λ f. (0 < n) × (IsName class (string_bytes f.0) × IsBuiltWithin class (n - 1) (tree_document shown f.1))) fs
       ↔ IsBuiltWithin class n (struct_of name (fields_of (map (field_view shown) fs)))
   exhaustive_within name named [] = (λ h. ((named, tt), omega arith), λ h. tt)
-  exhaustive_within name named (f ∷ []) = (λ h. ((named, (h.0.1.0, h.0.1.1.0, tt)), omega arith), λ h. ((omega arith, (h.0.1.0, (h.0.1.1, omega arith))), tt))
+  exhaustive_within name named (f ∷ []) = (
+    λ ((some, (label, (value, value_deep))), none). ((named, (label, value, tt)), omega arith),
+    λ ((same, (label, value, none)), deep). ((omega arith, (label, (value, omega arith))), tt),
+  )
   exhaustive_within name named (f ∷ g ∷ fs) =
       let rest = exhaustive_within name named (g ∷ fs) in (
-        λ h. let more = rest.0 h.1 in ((named, (h.0.1.0, h.0.1.1.0, more.0.1)), omega arith),
-        λ h. ((omega arith, (h.0.1.0, (h.0.1.1, omega arith))), rest.1 ((named, h.0.1.2), omega arith)),
+        λ ((some, (label, (value, value_deep))), others).
+            let ((same, all_built), most) = rest.0 others in ((named, (label, value, all_built)), omega arith),
+        λ ((same, (label, value, others)), deep). ((omega arith, (label, (value, omega arith))), rest.1 ((named, others), omega arith)),
       )
 
   -- a struct that ends in dots, as the struct of its fields

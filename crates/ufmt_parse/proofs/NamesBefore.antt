@@ -1,5 +1,5 @@
 -- A text ends with at most one name: the run of bytes of a name before its colon and space.
-use Rattle.std.proofs.Common.{◌≡◌, ◌≢◌, ◌⊎◌, inl, inr, ℕ, ◌+◌, ◌-◌, ◌<◌, ◌≤◌, ◌==◌, Bool, true, false, nat_eq, List, [], ◌∷◌, ◌++◌, None, Some, length, drop, take, min, get_or, codes, IsUtf8, Result, Ok, Err, MatchResult, Bor, option_map, refl, sym, ap, subst, ◌∙◌, arith}
+use Rattle.std.proofs.Common.{◌≡◌, ◌≢◌, inl, inr, ℕ, ◌+◌, ◌-◌, ◌<◌, ◌≤◌, ◌==◌, Bool, true, false, nat_eq, List, [], ◌∷◌, ◌++◌, None, Some, length, drop, take, min, get_or, codes, IsUtf8, Result, Ok, Err, MatchResult, Bor, option_map, refl, sym, ap, subst, ◌∙◌, arith}
 use Rattle.std.proofs.lemmas.Bool.{cases_order, eqb-true}
 use Rattle.std.proofs.lemmas.Grind.{get_or_default_zero}
 use Rattle.std.proofs.lemmas.List.{append_cancel_right, length-append, length-drop, length-take-le, get_or-append_right, get_or_append_left, get_or-drop, get_or-take, take-append-drop, take_all, take_min, take_more}
@@ -22,30 +22,29 @@ ends_in text some =
 module _ (front : List ℕ) (start : ℕ) (begins : IsNameStart front start) where
   -- a name that ends the text is this run
   pub only_name : (name : List ℕ) → EndsWithName (front ++ codes ": ") name → name ≡ drop start front
-  only_name name ends = go (cases_order (length ends.front) start)
+  only_name name ends = elim (cases_order (length ends.front) start) [
+    | inl equal ↦ sym (ap (drop start) same ∙ ap (λ n. drop n (ends.front ++ name)) (sym equal) ∙ drop-append_seam ends.front name)
+    | inr (inl before) ↦
+        let within = begins.within in
+        let read : get_or front (start - 1) 0 ≡ get_or name (start - 1 - length ends.front) 0 =
+        ap (λ t. get_or t (start - 1) 0) same ∙ get_or-append_right ends.front name (length ends.front) (start - 1) 0 refl (omega (arith, before)) in
+        let named = ends.bytes (start - 1 - length ends.front) 0 (omega (arith, before, within, lengths)) in
+        let other = begins.longest (omega (arith, before)) in
+        absurd (cc)
+    | inr (inr after) ↦
+        let last = length ends.front - 1 in
+        let read : get_or front last 0 ≡ get_or ends.front last 0 =
+        ap (λ t. get_or t last 0) same ∙ get_or_append_left ends.front name 0 last (omega (arith, after)) in
+        let named = begins.run last (omega (arith, after)) (omega (arith, after, lengths)) in
+        let other = ends.longest (take last ends.front) (get_or ends.front last 0) (ends_in ends.front (omega (arith, after))) in
+        absurd (cc)
+  ]
     where
       same : front ≡ ends.front ++ name
       same = append_cancel_right front (ends.front ++ name) (codes ": ") ends.parts
 
       lengths : length front ≡ length ends.front + length name
       lengths = ap length same ∙ length-append ends.front name
-
-      go : (length ends.front ≡ start) ⊎ ((length ends.front < start) ⊎ (start < length ends.front)) → name ≡ drop start front
-      go (inl equal) = sym (ap (drop start) same ∙ ap (λ n. drop n (ends.front ++ name)) (sym equal) ∙ drop-append_seam ends.front name)
-      go (inr (inl before)) =
-          let within = begins.within in
-          let read : get_or front (start - 1) 0 ≡ get_or name (start - 1 - length ends.front) 0 =
-          ap (λ t. get_or t (start - 1) 0) same ∙ get_or-append_right ends.front name (length ends.front) (start - 1) 0 refl (omega (arith, before)) in
-          let named = ends.bytes (start - 1 - length ends.front) 0 (omega (arith, before, within, lengths)) in
-          let other = begins.longest (omega (arith, before)) in
-          absurd (cc)
-      go (inr (inr after)) =
-          let last = length ends.front - 1 in
-          let read : get_or front last 0 ≡ get_or ends.front last 0 =
-          ap (λ t. get_or t last 0) same ∙ get_or_append_left ends.front name 0 last (omega (arith, after)) in
-          let named = begins.run last (omega (arith, after)) (omega (arith, after, lengths)) in
-          let other = ends.longest (take last ends.front) (get_or ends.front last 0) (ends_in ends.front (omega (arith, after))) in
-          absurd (cc)
 
   -- this run is a name, if it isn't empty and is UTF-8
   pub is_name : drop start front ≢ [] → IsUtf8 (drop start front) → EndsWithName (front ++ codes ": ") (drop start front)

@@ -1,8 +1,8 @@
 -- What is expected where a text stops fitting, in detail, and how it reads.
-use Rattle.std.specs.Prelude.{◌≡◌, ℕ, ℤ, List, [], ◌∷◌, codes, option_map, Option, ⊤}
+use Rattle.std.specs.Prelude.{◌≡◌, ℕ, List, [], ◌∷◌, codes, option_map, Option, ⊤}
 use Rattle.std.specs.Borrow.{Bor}
 use Rattle.ufmt.specs.Document.{Document, documents, joined, leaf}
-use Rattle.ufmt.specs.ValueDocuments.{integer, number}
+use Rattle.ufmt.specs.ValueDocuments.{number}
 use Rattle.ufmt_parser.specs.declared.detail.Detail.{Detail}
 use Rattle.ufmt_parser.specs.declared.detail.Detail.TheVariants as detail
 use Rattle.ufmt_parse.specs.Expecting.{expected_words}
@@ -20,9 +20,9 @@ use Rattle.ufmt_parse.specs.declared.placed.PlacedError.TheVariants as placed
 abbrev pub words_and_name : List ℕ → List ℕ → Document
 words_and_name words name = joined (documents (leaf words ∷ leaf name ∷ leaf (codes "`") ∷ []))
 
--- a number of a range
-abbrev pub range_document : ℤ → ℕ → Document
-range_document from to = joined (documents (leaf (codes "a number from ") ∷ integer from ∷ leaf (codes " to ") ∷ number to ∷ []))
+-- a number of the range with this text
+abbrev pub range_document : List ℕ → Document
+range_document text = joined (documents (leaf (codes "a number from ") ∷ leaf text ∷ []))
 
 -- how it reads after the word `expected`; without a detail as what is expected does
 abbrev pub detail_document : Expected → Detail → Document
@@ -33,7 +33,7 @@ detail_document expected detail.Truth = leaf (codes "`true` or `false`")
 detail_document expected (detail.Field name) = words_and_name (codes "the field `") name.now
 detail_document expected (detail.BeforeField name) = words_and_name (codes "punctuation before the field `") name.now
 detail_document expected detail.NoField = leaf (codes "the end of the fields")
-detail_document expected (detail.Range from to) = range_document from to
+detail_document expected (detail.Range text) = range_document text.now
 detail_document expected detail.NonZero = leaf (codes "a number other than 0")
 
 -- how a place reads after what is expected there
@@ -47,8 +47,8 @@ detailed_document (placed.NotText line column expected found after) detail = joi
     ∷ detail_document expected detail ∷ place_document line column found after ∷ []))
 detailed_document placed.OutOfMemory detail = leaf (codes "out of memory")
 
--- there is no detail where a value is whole, nor of want of memory
-abbrev pub HasDetail : ParseError → Detail → Type 0
-HasDetail (NotText at End) found = found ≡ detail.Nothing
-HasDetail (NotText at expected) found = ⊤
-HasDetail OutOfMemory found = found ≡ detail.Nothing
+-- a detail that such an error may have: none if the value was whole before that place, and none if memory ran out
+abbrev pub IsDetailOf : ParseError → Detail → Type 0
+IsDetailOf (NotText at End) found = found ≡ detail.Nothing
+IsDetailOf (NotText at expected) found = ⊤
+IsDetailOf OutOfMemory found = found ≡ detail.Nothing

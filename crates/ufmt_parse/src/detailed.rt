@@ -1,5 +1,5 @@
 //! An error with what is expected in detail.
-ghost use Rattle.ufmt_parse.specs.Detailing.{HasDetail, detail_document, detailed_document};
+ghost use Rattle.ufmt_parse.specs.Detailing.{IsDetailOf, detail_document, detailed_document};
 ghost use Rattle.ufmt_parse.specs.Placing.{IsPlaced};
 
 use crate::error::ParseError;
@@ -27,7 +27,7 @@ impl ParseError {
         text: &'a [u8],
     ) -> DetailedError<'a>
         ensures placed { IsPlaced text.now self result.placed }
-        ensures detail { HasDetail self result.detail }
+        ensures detail { IsDetailOf self result.detail }
     {
         DetailedError {
             placed: self.in_text(text),
@@ -42,7 +42,7 @@ impl ParseError {
         text: &'a [u8],
     ) -> DetailedError<'a>
         ensures placed { IsPlaced text.now self result.placed }
-        ensures detail { HasDetail self result.detail }
+        ensures detail { IsDetailOf self result.detail }
     {
         DetailedError {
             placed: self.in_text(text),
@@ -56,7 +56,7 @@ impl ParseError {
         alloc: A,
         text: &'a [u8],
     ) -> Detail<'a>
-        ensures { HasDetail self result }
+        ensures { IsDetailOf self result }
     {
         let ParseError::NotText { at, expected } = self else {
             return Detail::Nothing;
@@ -128,9 +128,7 @@ impl uDisplay for Wanted<'_> {
                 pieces!(text "punctuation before the field `", text *name, text "`").print(f)
             }
             Detail::NoField => f.write_str("the end of the fields"),
-            Detail::Range { from, to } => {
-                pieces!(text "a number from ", display from, text " to ", display to).print(f)
-            }
+            Detail::Range(range) => pieces!(text "a number from ", text *range).print(f),
             Detail::NonZero => f.write_str("a number other than 0"),
         }
     }

@@ -14,11 +14,11 @@ use Rattle.ufmt_scan.proofs.Spelled.{spelled_once}
 
 -- the first byte of a text that begins with a character determines how many bytes the character has
 pub led_front : (t : List ℕ) (c : ℕ) (rest : List ℕ) (lead : ℕ) → t ≡ encode_utf8 c ++ rest → lead ≡ get_or t 0 lead → length (encode_utf8 c) ≡ 1 + continuation_len lead
-led_front t c rest lead is first = go (encode_utf8 c) (length-led c) is
-  where
-    go : (bs : List ℕ) → length bs ≡ 1 + continuation_len (slice_index bs 0) → t ≡ bs ++ rest → length bs ≡ 1 + continuation_len lead
-    go [] long whole = absurd (omega (arith, long))
-    go (b ∷ bs) long whole = long ∙ ap (λ n. 1 + continuation_len n) (sym (first ∙ ap (λ l. get_or l 0 lead) whole))
+led_front t c rest lead is first =
+    elim (encode_utf8 c) as (λ bs. length bs ≡ 1 + continuation_len (slice_index bs 0) → t ≡ bs ++ rest → length bs ≡ 1 + continuation_len lead) [
+      | [] ↦ λ long whole. absurd (omega (arith, long))
+      | b ∷ bs ↦ λ long whole. long ∙ ap (λ n. 1 + continuation_len n) (sym (first ∙ ap (λ l. get_or l 0 lead) whole))
+    ] (length-led c) is
 
 -- ---- between two of these quotes
 

@@ -1,5 +1,6 @@
 -- The digits at the front of a text denote one number, which has no other text there.
-use Rattle.std.proofs.Common.{◌≡◌, refl, sym, ap, ◌∙◌, ℕ, zero, suc, ◌+◌, ◌-◌, ◌*◌, ◌^◌, ◌<◌, ◌≤◌, ◌==◌, Bool, true, false, cond, not, List, [], ◌∷◌, ◌++◌, map, length, drop, slice_index, pos, arith, pow-suc, eqb-true, Option, Some, None, option_map, Bor, MatchOption}
+use Rattle.std.proofs.Common.{◌≡◌, inl, inr, refl, sym, ap, ◌∙◌, ℕ, zero, suc, ◌+◌, ◌-◌, ◌*◌, ◌^◌, ◌<◌, ◌≤◌, ◌==◌, true, false, cond, not, List, [], ◌∷◌, ◌++◌, map, length, drop, slice_index, pos, arith, pow-suc, eqb-true, Option, Some, None, option_map, Bor, MatchOption}
+use Rattle.std.proofs.lemmas.Bool.{cases_Bool}
 use Rattle.std.proofs.Math.Nat.{pow-le-pow_right, pow-zero}
 use Rattle.std.specs.Char.{is_ascii_digit}
 use Rattle.std.specs.Int.Digits.{number_from_digits, number_from_digits_after, AllBelowBase}
@@ -19,11 +20,10 @@ few_below more n few below = omega (arith, below, pow-le-pow_right {n = 10} (ome
 -- more digits make no number less
 pub value_after_ge : (n : ℕ) (t : List ℕ) → n ≤ value_after n t
 value_after_ge n [] = omega arith
-value_after_ge n (c ∷ t) = go (is_ascii_digit c) (value_after_ge (n * 10 + (c - 48)) t)
-  where
-    go : (digit : Bool) → n * 10 + (c - 48) ≤ value_after (n * 10 + (c - 48)) t → n ≤ cond digit (value_after (n * 10 + (c - 48)) t) n
-    go true more = omega arith
-    go false more = omega arith
+value_after_ge n (c ∷ t) = elim (cases_Bool (is_ascii_digit c)) [
+  | inl e ↦ rw e (omega (arith, value_after_ge (n * 10 + (c - 48)) t))
+  | inr e ↦ rw e (omega arith)
+]
 
 abbrev AreDigits : List ℕ → Type 0
 AreDigits digits = All (λ digit. digit < 10) digits
@@ -116,28 +116,27 @@ record Run (t : List ℕ) : Type 0 where
 
 run : (t : List ℕ) → Run t
 run [] = record { digits = []; below = All-nil (λ d. d < 10); is = refl; ends = refl }
-run (c ∷ t) = go (is_ascii_digit c) refl (run t)
-  where
-    go : (digit : Bool) → is_ascii_digit c ≡ digit → Run t → Run (c ∷ t)
-    go true e more =
-        let range = digit_of c e in
-        let byte : c ≡ 48 + (c - 48) = omega (arith, range.0, range.1) in record {
-          digits = (c - 48) ∷ more.digits;
-          below = All-cons (λ d. d < 10) (c - 48) more.digits (omega (arith, range.0, range.1)) more.below;
-          is = rw e (ap (λ b. b ∷ t) byte ∙ ap (λ u. (48 + (c - 48)) ∷ u) more.is);
-          ends = rw e more.ends;
-        }
-    go false e more = record { digits = []; below = All-nil (λ d. d < 10); is = rw e refl; ends = rw e e }
+run (c ∷ t) = elim (cases_Bool (is_ascii_digit c)) [
+  | inl e ↦
+      let range = digit_of c e in
+      let byte : c ≡ 48 + (c - 48) = omega (arith, range.0, range.1) in
+      let more = run t in record {
+        digits = (c - 48) ∷ more.digits;
+        below = All-cons (λ d. d < 10) (c - 48) more.digits (omega (arith, range.0, range.1)) more.below;
+        is = rw e (ap (λ b. b ∷ t) byte ∙ ap (λ u. (48 + (c - 48)) ∷ u) more.is);
+        ends = rw e more.ends;
+      }
+  | inr e ↦ record { digits = []; below = All-nil (λ d. d < 10); is = rw e refl; ends = rw e e }
+]
 
 -- if the test holds, there is a digit, and the first is not 0 unless it is the only one
 first_digits : (digits u : List ℕ) → AreDigits digits → begins_digit u ≡ false → begins_number (map decimal_byte digits ++ u) ≡ true
     → (0 < length digits) × (slice_index digits 0 ≡ 0 → digits ≡ 0 ∷ [])
 first_digits [] [] below ends begins = absurd (cc)
-first_digits [] (c ∷ u) below ends begins = absurd (go (c == 48) refl begins)
-  where
-    go : (same : Bool) → (c == 48) ≡ same → cond same (not (begins_digit u)) (is_ascii_digit c) ≡ true → ⊥
-    go true e h = let no : true ≡ false = sym (ap is_ascii_digit (eqb-true c 48 e)) ∙ ends in absurd (cc)
-    go false e h = let no : true ≡ false = sym h ∙ ends in absurd (cc)
+first_digits [] (c ∷ u) below ends begins = elim (cases_Bool (c == 48)) [
+  | inl e ↦ let no : true ≡ false = sym (ap is_ascii_digit (eqb-true c 48 e)) ∙ ends in absurd (cc)
+  | inr e ↦ let no : true ≡ false = sym (rw e at begins) ∙ ends in absurd (cc)
+]
 first_digits (zero ∷ []) u below ends begins = (omega arith, λ _. refl)
 first_digits (zero ∷ digit ∷ digits) u below ends begins =
     let is = byte_is_digit digit (All-head (λ d. d < 10) digit digits (All-tail (λ d. d < 10) 0 (digit ∷ digits) below)) in
@@ -186,11 +185,10 @@ after_digits-none (c ∷ t) none = rw none refl
 
 begins_number-no_digit : (t : List ℕ) → begins_digit t ≡ false → begins_number t ≡ false
 begins_number-no_digit [] none = refl
-begins_number-no_digit (c ∷ t) none = go (c == 48) refl
-  where
-    go : (same : Bool) → (c == 48) ≡ same → begins_number (c ∷ t) ≡ false
-    go true e = let no : true ≡ false = sym (ap is_ascii_digit (eqb-true c 48 e)) ∙ none in absurd (cc)
-    go false e = rw e none
+begins_number-no_digit (c ∷ t) none = elim (cases_Bool (c == 48)) [
+  | inl e ↦ let no : true ≡ false = sym (ap is_ascii_digit (eqb-true c 48 e)) ∙ none in absurd (cc)
+  | inr e ↦ rw e none
+]
 
 pub none_first : (t : List ℕ) → length t ≡ 0 → begins_digit t ≡ false
 none_first [] none = refl
@@ -200,21 +198,16 @@ none_first (c ∷ t) none = absurd (omega arith)
 pub no_digit_first : (bound : ℕ) (t : List ℕ) → begins_digit t ≡ false → FrontMagnitude (λ n. n < bound) t None
 no_digit_first bound t none = no_magnitude bound t (begins_number-no_digit t none)
 
-module _ {N : Type 0} (value : N → ℕ) (bound : ℕ) (t after : List ℕ) (r : Option (N × Bor (List ℕ))) where
-  -- 0 is a number unless a digit follows it
-  pub zero_first : t ≡ 48 ∷ after
-      → MatchOption r (begins_digit after ≡ true) (λ found. (begins_digit after ≡ false) × (value found.0 ≡ 0) × (value found.0 < bound) × (found.1.now ≡ after))
-      → FrontMagnitude (λ n. n < bound) t (option_map (λ found. (value found.0, found.1.now)) r)
-  zero_first whole is = go r is
-    where
-      go : (r : Option (N × Bor (List ℕ)))
-          → MatchOption r (begins_digit after ≡ true) (λ found. (begins_digit after ≡ false) × (value found.0 ≡ 0) × (value found.0 < bound) × (found.1.now ≡ after))
-          → FrontMagnitude (λ n. n < bound) t (option_map (λ found. (value found.0, found.1.now)) r)
-      go None digit = no_magnitude bound t (rw (whole, digit) refl)
-      go (Some found) is =
-          magnitude_found value bound t (Some found) (rw (whole, is.0) refl)
-          (is.1 ∙ sym (ap (value_after 0) whole ∙ value_after-none 0 after is.0), is.2, is.3 ∙ sym (ap after_digits whole ∙ after_digits-none after is.0))
+-- 0 is a number unless a digit follows it
+pub zero_first : {N : Type 0} (value : N → ℕ) (bound : ℕ) (t after : List ℕ) (r : Option (N × Bor (List ℕ))) → t ≡ 48 ∷ after
+    → MatchOption r (begins_digit after ≡ true) (λ found. (begins_digit after ≡ false) × (value found.0 ≡ 0) × (value found.0 < bound) × (found.1.now ≡ after))
+    → FrontMagnitude (λ n. n < bound) t (option_map (λ found. (value found.0, found.1.now)) r)
+zero_first value bound t after None whole digit = no_magnitude bound t (rw (whole, digit) refl)
+zero_first value bound t after (Some found) whole is =
+    magnitude_found value bound t (Some found) (rw (whole, is.0) refl)
+    (is.1 ∙ sym (ap (value_after 0) whole ∙ value_after-none 0 after is.0), is.2, is.3 ∙ sym (ap after_digits whole ∙ after_digits-none after is.0))
 
+module _ {N : Type 0} (value : N → ℕ) (bound : ℕ) (t after : List ℕ) (r : Option (N × Bor (List ℕ))) where
   -- another digit is completed by those after it
   pub digit_first : (c : ℕ) → t ≡ c ∷ after → is_ascii_digit c ≡ true → (c == 48) ≡ false
       → MatchOption r (bound ≤ value_after (c - 48) after) (λ found. (value found.0 ≡ value_after (c - 48) after) × (value found.0 < bound) × (found.1.now ≡ after_digits after))

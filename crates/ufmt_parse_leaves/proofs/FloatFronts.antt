@@ -1,5 +1,6 @@
 -- Floats taken from the front of a text: as many bytes as a float's text may have, which is read, printed and compared.
-use Rattle.std.proofs.Common.{◌≡◌, ◌≢◌, ◌⊎◌, inl, inr, refl, sym, ap, ◌∙◌, subst, ℕ, suc, ◌+◌, ◌<◌, ◌≤◌, Bool, true, false, cond, List, [], ◌∷◌, ◌++◌, take, length, codes, arith, Ok, Err, Some, None}
+use Rattle.std.proofs.Common.{◌≡◌, ◌≢◌, ◌⊎◌, inl, inr, refl, sym, ap, ◌∙◌, subst, ℕ, suc, ◌+◌, ◌<◌, ◌≤◌, true, false, List, [], ◌∷◌, ◌++◌, take, length, codes, arith, Ok, Err, Some, None}
+use Rattle.std.proofs.lemmas.Bool.{cases_Bool}
 use Rattle.std.specs.Prelude.{⊤}
 use Rattle.std.specs.Float.Parse.{parse_float}
 use Rattle.std.specs.Str.{IsAscii}
@@ -71,19 +72,14 @@ whole_len (c ∷ t) u all ends = let more : 1 + float_len (t ++ u) ≡ suc (leng
 -- the bytes at the front, and what follows them
 pub front_and_after : (old : List ℕ) → take (float_len old) old ++ after_float old ≡ old
 front_and_after [] = refl
-front_and_after (c ∷ old) = go (is_float_byte c) (front_and_after old)
-  where
-    go : (is : Bool) → take (float_len old) old ++ after_float old ≡ old → take (cond is (1 + float_len old) 0) (c ∷ old) ++ cond is (after_float old) (c ∷ old) ≡ c ∷ old
-    go false h = refl
-    go true h = let more : 1 + float_len old ≡ suc (float_len old) = omega arith in rw more (ap (λ t. c ∷ t) h)
+front_and_after (c ∷ old) = elim (cases_Bool (is_float_byte c)) [
+  | inl e ↦ let more : 1 + float_len old ≡ suc (float_len old) = omega arith in rw (e, more) (ap (λ t. c ∷ t) (front_and_after old))
+  | inr e ↦ rw e refl
+]
 
 none_after : (u : List ℕ) → float_len u ≡ 0 → after_float u ≡ u
 none_after [] ends = refl
-none_after (c ∷ u) ends = go (is_float_byte c) ends
-  where
-    go : (is : Bool) → cond is (1 + float_len u) 0 ≡ 0 → cond is (after_float u) (c ∷ u) ≡ c ∷ u
-    go true e = absurd (omega (arith, e))
-    go false e = refl
+none_after (c ∷ u) ends = elim (cases_Bool (is_float_byte c)) [ inl e ↦ absurd (omega (arith, rw e at ends)) | inr e ↦ rw e refl ]
 
 whole_after : (t u : List ℕ) → AreFloatBytes t → float_len u ≡ 0 → after_float (t ++ u) ≡ u
 whole_after [] u all ends = none_after u ends
@@ -113,11 +109,12 @@ low_byte c h = grind (arith, nat_tests)
 -- these bytes are ASCII
 pub front_ascii : (old : List ℕ) → IsAscii (take (float_len old) old)
 front_ascii [] = IsAscii-nil
-front_ascii (c ∷ old) = go (is_float_byte c) refl (front_ascii old)
-  where
-    go : (is : Bool) → is_float_byte c ≡ is → IsAscii (take (float_len old) old) → IsAscii (take (cond is (1 + float_len old) 0) (c ∷ old))
-    go false e h = IsAscii-nil
-    go true e h = let more : 1 + float_len old ≡ suc (float_len old) = omega arith in rw more (IsAscii-cons c (take (float_len old) old) (low_byte c e) h)
+front_ascii (c ∷ old) = elim (cases_Bool (is_float_byte c)) [
+  | inl e ↦
+      let more : 1 + float_len old ≡ suc (float_len old) = omega arith in
+      rw (e, more) (IsAscii-cons c (take (float_len old) old) (low_byte c e) (front_ascii old))
+  | inr e ↦ rw e IsAscii-nil
+]
 
 -- ---- what is read
 

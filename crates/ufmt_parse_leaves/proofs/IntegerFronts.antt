@@ -1,5 +1,6 @@
 -- Integers taken from the front of a text: the sign, and then the digits.
 use Rattle.std.proofs.Common.{◌≡◌, inl, inr, refl, sym, ap, ◌∙◌, subst, ℕ, ◌≤◌, ◌==◌, Bool, true, false, List, [], ◌∷◌, ◌++◌, ℤ, pos, negsuc, nat_abs, arith, eqb-true, Ok, Err, None}
+use Rattle.std.proofs.lemmas.Bool.{cases_Bool}
 use Rattle.std.specs.Char.{is_ascii_digit}
 use Rattle.ufmt_core.specs.Decimal.{decimal, sign_of}
 use Rattle.ufmt_core.specs.Document.{leaf}
@@ -26,11 +27,10 @@ follower_no_digit (c ∷ b ∷ u) (inr (inr h)) = rw h.0 refl
 
 no_minus : (t : List ℕ) → begins_number t ≡ true → begins_minus t ≡ false
 no_minus [] begins = refl
-no_minus (c ∷ t) begins = go (c == 45) refl
-  where
-    go : (same : Bool) → (c == 45) ≡ same → (c == 45) ≡ false
-    go true e = let no : false ≡ true = ap (λ b. begins_number (b ∷ t)) (sym (eqb-true c 45 e)) ∙ begins in absurd (cc)
-    go false e = e
+no_minus (c ∷ t) begins = elim (cases_Bool (c == 45)) [
+  | inl e ↦ let no : false ≡ true = ap (λ b. begins_number (b ∷ t)) (sym (eqb-true c 45 e)) ∙ begins in absurd (cc)
+  | inr e ↦ e
+]
 
 without_minus : (t : List ℕ) → begins_minus t ≡ false → after_minus t ≡ t
 without_minus [] none = refl
@@ -51,11 +51,7 @@ sign_of_front (pos n) u ends = sign_before (pos n) (decimal (pos n) ++ u) (begin
 sign_of_front (negsuc n) u ends = rw (decimal-negative (negsuc n) refl) ((refl, refl), refl)
 
 pub minus_text : (t : List ℕ) → t ≡ sign (begins_minus t) ++ after_minus t
-minus_text t = go (begins_minus t) refl
-  where
-    go : (minus : Bool) → begins_minus t ≡ minus → t ≡ sign (begins_minus t) ++ after_minus t
-    go true e = rw e (with_minus t e)
-    go false e = rw e (sym (without_minus t e))
+minus_text t = elim (cases_Bool (begins_minus t)) [ inl e ↦ rw e (with_minus t e) | inr e ↦ rw e (sym (without_minus t e)) ]
 
 -- the sign is cut off if it is there
 pub splits_minus : {T : Type 0} (int : T → ℤ) (old : List ℕ) → SplitsSign int old (begins_minus old) (after_minus old)

@@ -10,5 +10,6 @@ pub mod PlainFloats
 pub mod PlainFronts
 pub mod PlainLanes
 pub mod QuotedTaken
+pub mod RangeTexts
 pub mod SpelledTexts
 pub mod WorkedFixed

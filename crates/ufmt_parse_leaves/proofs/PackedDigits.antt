@@ -1,7 +1,7 @@
 -- Digits in the lanes of a vector: two in a lane twice as wide, and then their number in it.
-use Rattle.std.proofs.Common.{◌≡◌, refl, sym, ap, ◌∙◌, ℕ, zero, suc, ◌+◌, ◌-◌, ◌*◌, ◌/◌, ◌%◌, ◌^◌, ◌<◌, ◌≤◌, Bool, true, false, not, cond, eqb, ltb, List, [], ◌∷◌, map, length, arith, pow-suc, div-lt_iff_lt-mul, div-add-mod', eqb-true, ltb-false, Fits, w8}
+use Rattle.std.proofs.Common.{◌≡◌, inl, inr, refl, sym, ap, ◌∙◌, ℕ, zero, suc, ◌+◌, ◌-◌, ◌*◌, ◌/◌, ◌%◌, ◌^◌, ◌<◌, ◌≤◌, Bool, true, false, not, cond, eqb, ltb, List, [], ◌∷◌, map, length, arith, pow-suc, div-lt_iff_lt-mul, div-add-mod', eqb-true, ltb-false, Fits, w8}
 use Rattle.std.proofs.Math.Nat.{pow-zero}
-use Rattle.std.proofs.lemmas.Bool.{not-false, not-true}
+use Rattle.std.proofs.lemmas.Bool.{cases_Bool, not-false, not-true}
 use Rattle.std.proofs.lemmas.List.{length-map}
 use Rattle.std.proofs.lemmas.Nat.{mul-add-lt}
 use Rattle.std.proofs.lemmas.Simd.{mask_l-mod, tops_compared, zip2_splat, zip2_splat_left}
@@ -84,11 +84,10 @@ joined_sixteen digits long =
 
 mask_none : (p : ℕ → Bool) → ((x : ℕ) → p x ≡ false → x < 10) → (xs : List ℕ) → mask_l (map p xs) ≡ 0 → AllBelowBase 10 xs
 mask_none p low [] none = tt
-mask_none p low (x ∷ xs) none = go (p x) refl (mask_none p low xs) none
-  where
-    go : (set : Bool) → p x ≡ set → (mask_l (map p xs) ≡ 0 → AllBelowBase 10 xs) → cond set 1 0 + 2 * mask_l (map p xs) ≡ 0 → AllBelowBase 10 (x ∷ xs)
-    go true e rest h = absurd (omega arith)
-    go false e rest h = (low x e, rest (omega arith))
+mask_none p low (x ∷ xs) none = elim (cases_Bool (p x)) [
+  | inl e ↦ absurd (omega (arith, rw e at none))
+  | inr e ↦ (low x e, mask_none p low xs (omega (arith, rw e at none)))
+]
 
 is_none : (n : ℕ) → not (not (eqb n 0)) ≡ true → n ≡ 0
 is_none n e = eqb-true n 0 (not-false (eqb n 0) (not-true (not (eqb n 0)) e))

@@ -1,5 +1,6 @@
 -- The digits after the point of a fixed-point number: they complete one number, with as many places as there are digits.
-use Rattle.std.proofs.Common.{◌≡◌, refl, sym, ap, ◌∙◌, ℕ, zero, suc, ◌+◌, ◌-◌, ◌*◌, ◌/◌, ◌%◌, ◌^◌, ◌<◌, ◌≤◌, Bool, true, false, true≢false, cond, List, [], ◌∷◌, ◌++◌, length, drop, div-one, arith, length-append}
+use Rattle.std.proofs.Common.{◌≡◌, inl, inr, refl, sym, ap, ◌∙◌, ℕ, zero, suc, ◌+◌, ◌-◌, ◌*◌, ◌/◌, ◌%◌, ◌^◌, ◌<◌, ◌≤◌, false, true≢false, cond, List, [], ◌∷◌, ◌++◌, length, drop, div-one, arith, length-append}
+use Rattle.std.proofs.lemmas.Bool.{cases_Bool}
 use Rattle.std.proofs.Math.Nat.{pow-zero, pow-succ', div-div-eq-div-mul}
 use Rattle.std.specs.Char.{is_ascii_digit}
 use Rattle.ufmt_float.specs.Text.{last_digits}
@@ -38,19 +39,19 @@ no_digits start t none = record {
 
 places : (start : ℕ) (t : List ℕ) → Places start t
 places start [] = no_digits start [] refl
-places start (c ∷ t) = go (is_ascii_digit c) refl (places (start * 10 + (c - 48)) t)
-  where
-    go : (digit : Bool) → is_ascii_digit c ≡ digit → Places (start * 10 + (c - 48)) t → Places start (c ∷ t)
-    go false e more = no_digits start (c ∷ t) e
-    go true e more =
-        let range = digit_of c e in
-        let n = value_after (start * 10 + (c - 48)) t in
-        let first : decimal_byte (n / 10 ^ more.count % 10) ≡ c = omega (arith, more.whole, range.0, range.1) in
-        let digits = last_digits-front more.count n ∙ ap (λ byte. byte ∷ last_digits more.count n) first in record {
-          count = suc more.count;
-          is = rw e (ap (λ rest. c ∷ rest) more.is ∙ sym (ap (λ front. front ++ after_digits t) digits));
-          whole = rw e (omega (arith, place_more more.count n, more.whole, range.0, range.1));
-        }
+places start (c ∷ t) = elim (cases_Bool (is_ascii_digit c)) [
+  | inl e ↦
+      let more = places (start * 10 + (c - 48)) t in
+      let range = digit_of c e in
+      let n = value_after (start * 10 + (c - 48)) t in
+      let first : decimal_byte (n / 10 ^ more.count % 10) ≡ c = omega (arith, more.whole, range.0, range.1) in
+      let digits = last_digits-front more.count n ∙ ap (λ byte. byte ∷ last_digits more.count n) first in record {
+        count = suc more.count;
+        is = rw e (ap (λ rest. c ∷ rest) more.is ∙ sym (ap (λ front. front ++ after_digits t) digits));
+        whole = rw e (omega (arith, place_more more.count n, more.whole, range.0, range.1));
+      }
+  | inr e ↦ no_digits start (c ∷ t) e
+]
 
 -- what follows the digits at the front is no longer
 pub after_digits-le : (t : List ℕ) → length (after_digits t) ≤ length t

@@ -1,10 +1,10 @@
 //! Integers: decimal digits with no zero before them, after `-` if the number is negative.
-ghost use Rattle.std.specs.Prelude.{◌≡◌, ◌<◌, ◌≤◌, ◌≤ℤ◌, length, List, ℕ, ℤ, pos, nat_abs, false, IfOk, IfErr, IsErrOf, MatchOption};
+ghost use Rattle.std.specs.Prelude.{◌≡◌, ◌<◌, ◌≤◌, ◌≤ℤ◌, length, List, ℕ, ℤ, pos, negsuc, nat_abs, false, IfOk, IfErr, IsErrOf, MatchOption};
 ghost use Rattle.ufmt_core.specs.Decimal.{decimal};
 ghost use Rattle.ufmt_core.specs.Document.{leaf};
 ghost use Rattle.ufmt_parser.specs.Needs.{need};
 ghost use Rattle.ufmt_parser.specs.Next.{IsNotNext, NextLeaves};
-ghost use Rattle.ufmt_parse_leaves.specs.Private.Digits.{IsSigned, SplitsSign};
+ghost use Rattle.ufmt_parse_leaves.specs.Private.Digits.{IsSigned, SplitsSign, range_text};
 ghost use Rattle.ufmt_parser.specs.Taking.{IsTaken, open_blocks, rest};
 ghost use Rattle.ufmt_parse_leaves.specs.Values.{is_u8, is_u16, is_u32, is_u64, is_u128, is_usize, is_i8, is_i16, is_i32, is_i64, is_i128, is_isize};
 
@@ -37,8 +37,15 @@ pub trait Integer<N: Magnitude> {
     }
 
     // The least and the greatest integer of the type.
-    fn range() -> (i128, u128)
-        ensures { (v : Self) → in_range v → (result.0 ≤ℤ int v) × (int v ≤ℤ pos result.1) };
+    ghost least: { ℤ };
+
+    ghost greatest: { ℤ };
+
+    // The text of the range of the type, such as `0 to 255`.
+    fn range() -> &'static str
+        ensures text { result.now ≡ range_text least greatest }
+        ensures bounds { (v : Self) → in_range v → (least ≤ℤ int v) × (int v ≤ℤ greatest) }
+        ensures all { (v : Self) → least ≤ℤ int v → int v ≤ℤ greatest → in_range v };
 
     // Shows that `N` holds the magnitudes of this type.
     fn prove_fits()
@@ -49,6 +56,10 @@ impl Integer<u64> for u8 {
     ghost int = { λ v. pos v };
 
     ghost in_range = { is_u8 };
+
+    ghost least = { pos 0 };
+
+    ghost greatest = { pos 255 };
 
     #[inline(always)]
     fn from_magnitude(negative: bool, magnitude: u64) -> Option<u8> {
@@ -64,8 +75,9 @@ impl Integer<u64> for u8 {
         false
     }
 
-    fn range() -> (i128, u128) {
-        (0, u8::MAX as u128)
+    #[tactic(auto, using(crate::proofs::RangeTexts::range_texts))]
+    fn range() -> &'static str {
+        "0 to 255"
     }
 
     fn prove_fits() {}
@@ -75,6 +87,10 @@ impl Integer<u64> for u16 {
     ghost int = { λ v. pos v };
 
     ghost in_range = { is_u16 };
+
+    ghost least = { pos 0 };
+
+    ghost greatest = { pos 65535 };
 
     #[inline(always)]
     fn from_magnitude(negative: bool, magnitude: u64) -> Option<u16> {
@@ -90,8 +106,9 @@ impl Integer<u64> for u16 {
         false
     }
 
-    fn range() -> (i128, u128) {
-        (0, u16::MAX as u128)
+    #[tactic(auto, using(crate::proofs::RangeTexts::range_texts))]
+    fn range() -> &'static str {
+        "0 to 65535"
     }
 
     fn prove_fits() {}
@@ -101,6 +118,10 @@ impl Integer<u64> for u32 {
     ghost int = { λ v. pos v };
 
     ghost in_range = { is_u32 };
+
+    ghost least = { pos 0 };
+
+    ghost greatest = { pos 4294967295 };
 
     #[inline(always)]
     fn from_magnitude(negative: bool, magnitude: u64) -> Option<u32> {
@@ -116,8 +137,9 @@ impl Integer<u64> for u32 {
         false
     }
 
-    fn range() -> (i128, u128) {
-        (0, u32::MAX as u128)
+    #[tactic(auto, using(crate::proofs::RangeTexts::range_texts))]
+    fn range() -> &'static str {
+        "0 to 4294967295"
     }
 
     fn prove_fits() {}
@@ -127,6 +149,10 @@ impl Integer<u64> for u64 {
     ghost int = { λ v. pos v };
 
     ghost in_range = { is_u64 };
+
+    ghost least = { pos 0 };
+
+    ghost greatest = { pos 18446744073709551615 };
 
     #[inline(always)]
     fn from_magnitude(negative: bool, magnitude: u64) -> Option<u64> {
@@ -138,8 +164,9 @@ impl Integer<u64> for u64 {
         false
     }
 
-    fn range() -> (i128, u128) {
-        (0, u64::MAX as u128)
+    #[tactic(auto, using(crate::proofs::RangeTexts::range_texts))]
+    fn range() -> &'static str {
+        "0 to 18446744073709551615"
     }
 
     fn prove_fits() {}
@@ -149,6 +176,10 @@ impl Integer<u64> for usize {
     ghost int = { λ v. pos v };
 
     ghost in_range = { is_usize };
+
+    ghost least = { pos 0 };
+
+    ghost greatest = { pos 18446744073709551615 };
 
     #[inline(always)]
     fn from_magnitude(negative: bool, magnitude: u64) -> Option<usize> {
@@ -164,8 +195,9 @@ impl Integer<u64> for usize {
         false
     }
 
-    fn range() -> (i128, u128) {
-        (0, usize::MAX as u128)
+    #[tactic(auto, using(crate::proofs::RangeTexts::range_texts))]
+    fn range() -> &'static str {
+        "0 to 18446744073709551615"
     }
 
     fn prove_fits() {}
@@ -175,6 +207,10 @@ impl Integer<u128> for u128 {
     ghost int = { λ v. pos v };
 
     ghost in_range = { is_u128 };
+
+    ghost least = { pos 0 };
+
+    ghost greatest = { pos 340282366920938463463374607431768211455 };
 
     #[inline(always)]
     fn from_magnitude(negative: bool, magnitude: u128) -> Option<u128> {
@@ -186,8 +222,9 @@ impl Integer<u128> for u128 {
         false
     }
 
-    fn range() -> (i128, u128) {
-        (0, u128::MAX)
+    #[tactic(auto, using(crate::proofs::RangeTexts::range_texts))]
+    fn range() -> &'static str {
+        "0 to 340282366920938463463374607431768211455"
     }
 
     fn prove_fits() {}
@@ -198,13 +235,18 @@ impl Integer<u64> for i8 {
 
     ghost in_range = { is_i8 };
 
+    ghost least = { negsuc 127 };
+
+    ghost greatest = { pos 127 };
+
     #[inline(always)]
     fn from_magnitude(negative: bool, magnitude: u64) -> Option<i8> {
         i8::try_from(i64::from_magnitude(negative, magnitude)?).ok()
     }
 
-    fn range() -> (i128, u128) {
-        (i8::MIN as i128, i8::MAX as u128)
+    #[tactic(auto, using(crate::proofs::RangeTexts::range_texts))]
+    fn range() -> &'static str {
+        "-128 to 127"
     }
 
     fn prove_fits() {}
@@ -215,13 +257,18 @@ impl Integer<u64> for i16 {
 
     ghost in_range = { is_i16 };
 
+    ghost least = { negsuc 32767 };
+
+    ghost greatest = { pos 32767 };
+
     #[inline(always)]
     fn from_magnitude(negative: bool, magnitude: u64) -> Option<i16> {
         i16::try_from(i64::from_magnitude(negative, magnitude)?).ok()
     }
 
-    fn range() -> (i128, u128) {
-        (i16::MIN as i128, i16::MAX as u128)
+    #[tactic(auto, using(crate::proofs::RangeTexts::range_texts))]
+    fn range() -> &'static str {
+        "-32768 to 32767"
     }
 
     fn prove_fits() {}
@@ -232,13 +279,18 @@ impl Integer<u64> for i32 {
 
     ghost in_range = { is_i32 };
 
+    ghost least = { negsuc 2147483647 };
+
+    ghost greatest = { pos 2147483647 };
+
     #[inline(always)]
     fn from_magnitude(negative: bool, magnitude: u64) -> Option<i32> {
         i32::try_from(i64::from_magnitude(negative, magnitude)?).ok()
     }
 
-    fn range() -> (i128, u128) {
-        (i32::MIN as i128, i32::MAX as u128)
+    #[tactic(auto, using(crate::proofs::RangeTexts::range_texts))]
+    fn range() -> &'static str {
+        "-2147483648 to 2147483647"
     }
 
     fn prove_fits() {}
@@ -249,6 +301,10 @@ impl Integer<u64> for i64 {
 
     ghost in_range = { is_i64 };
 
+    ghost least = { negsuc 9223372036854775807 };
+
+    ghost greatest = { pos 9223372036854775807 };
+
     #[inline(always)]
     fn from_magnitude(negative: bool, magnitude: u64) -> Option<i64> {
         if !negative {
@@ -258,8 +314,9 @@ impl Integer<u64> for i64 {
         Some(-1 - before)
     }
 
-    fn range() -> (i128, u128) {
-        (i64::MIN as i128, i64::MAX as u128)
+    #[tactic(auto, using(crate::proofs::RangeTexts::range_texts))]
+    fn range() -> &'static str {
+        "-9223372036854775808 to 9223372036854775807"
     }
 
     fn prove_fits() {}
@@ -270,13 +327,18 @@ impl Integer<u64> for isize {
 
     ghost in_range = { is_isize };
 
+    ghost least = { negsuc 9223372036854775807 };
+
+    ghost greatest = { pos 9223372036854775807 };
+
     #[inline(always)]
     fn from_magnitude(negative: bool, magnitude: u64) -> Option<isize> {
         isize::try_from(i64::from_magnitude(negative, magnitude)?).ok()
     }
 
-    fn range() -> (i128, u128) {
-        (isize::MIN as i128, isize::MAX as u128)
+    #[tactic(auto, using(crate::proofs::RangeTexts::range_texts))]
+    fn range() -> &'static str {
+        "-9223372036854775808 to 9223372036854775807"
     }
 
     fn prove_fits() {}
@@ -287,6 +349,10 @@ impl Integer<u128> for i128 {
 
     ghost in_range = { is_i128 };
 
+    ghost least = { negsuc 170141183460469231731687303715884105727 };
+
+    ghost greatest = { pos 170141183460469231731687303715884105727 };
+
     #[inline(always)]
     fn from_magnitude(negative: bool, magnitude: u128) -> Option<i128> {
         if !negative {
@@ -296,8 +362,9 @@ impl Integer<u128> for i128 {
         Some(-1 - before)
     }
 
-    fn range() -> (i128, u128) {
-        (i128::MIN, i128::MAX as u128)
+    #[tactic(auto, using(crate::proofs::RangeTexts::range_texts))]
+    fn range() -> &'static str {
+        "-170141183460469231731687303715884105728 to 170141183460469231731687303715884105727"
     }
 
     fn prove_fits() {}
@@ -324,8 +391,7 @@ fn refuse_outside<N: Magnitude, T: Integer<N>, M: ParseMode>(parser: &mut Parser
     ensures rest { rest parser.new ≡ rest parser.old }
     ensures blocks { open_blocks parser.new ≡ open_blocks parser.old }
 {
-    let (from, to) = T::range();
-    parser.refuse_in_detail(Need::Number, Detail::Range { from, to })
+    parser.refuse_in_detail(Need::Number, Detail::Range(T::range()))
 }
 
 /// The integer at the front. One of more than ten digits is fast only if `is_long` says that it may come.

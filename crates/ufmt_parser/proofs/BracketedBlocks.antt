@@ -19,7 +19,7 @@ use Rattle.ufmt_parser.specs.declared.parser.Fault.{Fault}
 use Rattle.ufmt_parser.specs.declared.parser.Fault.TheVariants.{NotText}
 use Rattle.ufmt_parser.specs.Blocks.{AreSome, IsBracketed}
 use Rattle.ufmt_parser.specs.Taking.{DoesNotBegin, Takes, setting_in}
-use Rattle.ufmt_parser.proofs.EntriesInARow.{AreEntries, after_entry, another_entry, end_refused, end_taken, entries_text, entry_refused, tail_of, trail_refused}
+use Rattle.ufmt_parser.proofs.EntriesInARow.{AreEntries, GoesOn, after_entry, another_entry, end_refused, end_taken, entries_text, entry_refused, tail_of, trail_refused}
 use Rattle.ufmt_parser.proofs.Reductions.{Reduces, made_as, reduced, reduced_twice}
 use Rattle.ufmt_parser.proofs.Settings.{block_fits, inside-setting_in}
 
@@ -144,22 +144,22 @@ module _ {E : Type 0} {is : E → Type 0} {text_of : E → List ℕ} {mode : Mod
   abbrev pub BlockTaken : Result (List E) Fault → List ℕ → Type 0
   BlockTaken outcome new = Takes (AreSome is) (after_opening is text_of mode kind blocks) old outcome new
 
-  goes_on : (more : List E) (u : List ℕ) → MayFollow Debug (trail mode ++ (tail_of is text_of comes (trail mode) ends more ++ u))
-  goes_on = follows is text_of mode kind blocks so_far.bracketed so_far.some so_far.most
+  goes_on : GoesOn is text_of comes (trail mode) ends
+  goes_on = record { follows = follows is text_of mode kind blocks so_far.bracketed so_far.some so_far.most }
 
   -- the block is refused with its next entry
   pub next_refused : {fault : Fault} {new further : List ℕ} → Takes is text_of here (Err fault) new → BlockTaken (Err fault) further
   next_refused {fault} {new} {further} takes =
-      reduced so_far.reduces {outcome = Err fault} {new = further} (entry_refused is text_of comes (trail mode) ends goes_on takes)
+      reduced so_far.reduces {outcome = Err fault} {new = further} (entry_refused goes_on takes)
 
   module _ {e : E} {after : List ℕ} (takes : Takes is text_of here (Ok e) after) where
     -- or with that entry's trail
     pub next_trail_refused : {new : List ℕ} → DoesNotBegin (trail mode) after → BlockTaken (Err NotText) new
-    next_trail_refused refuses = reduced so_far.reduces {outcome = Err NotText} (trail_refused is text_of comes (trail mode) ends goes_on e here after takes refuses)
+    next_trail_refused refuses = reduced so_far.reduces {outcome = Err NotText} (trail_refused goes_on takes refuses)
 
     module _ {further : List ℕ} (trail_is : after ≡ trail mode ++ further) where
       entry_and : Reduces (All is) (block_rest is text_of mode kind blocks) (AreEntries is) (after_leads is text_of mode kind blocks) (λ more. (e, more)) further here
-      entry_and = after_entry is text_of comes (trail mode) ends goes_on e here after takes further trail_is
+      entry_and = after_entry goes_on takes trail_is
 
       -- one entry more was taken, if another lead comes
       pub one_more : {next : List ℕ} → further ≡ comes ++ next → TakenSoFar is text_of mode kind blocks (es ++ e ∷ []) next old

@@ -1,5 +1,5 @@
 -- Entries one after another: each is its text and a trail, and then another lead comes, or the end.
-use Rattle.std.proofs.Common.{◌≡◌, ◌≢◌, sym, ap, ◌∙◌, List, [], ◌∷◌, ℕ, ◌++◌, append_assoc, Ok, Err}
+use Rattle.std.proofs.Common.{◌≡◌, ◌≢◌, sym, ap, ◌∙◌, List, [], ◌∷◌, ℕ, ◌++◌, append_assoc, Result, Ok, Err}
 use Rattle.std.proofs.lemmas.List.{append_cancel_left}
 use Rattle.std.proofs.lemmas.List.Elements.{All-nil, All-cons, All-head, All-tail}
 use Rattle.std.specs.Prelude.{All}
@@ -27,32 +27,9 @@ module _ {E : Type 0} (is : E → Type 0) (text_of : E → List ℕ) (lead trail
   flat : (p : E × List E) (u : List ℕ) → entries_text p ++ u ≡ text_of p.0 ++ (trail ++ (tail_of p.1 ++ u))
   flat p u = simp append_assoc
 
-  module _ (follows : (es : List E) (u : List ℕ) → MayFollow Debug (trail ++ (tail_of es ++ u))) where
-    entry_refused_by : (here : List ℕ) (fault : Fault) (new further : List ℕ) → TakesBy is text_of here (Err fault) new
-        → TakesBy (AreEntries is) entries_text here (Err fault) further
-    entry_refused_by here NotText new further none = λ p u are may same. none p.0 _ are.0 (follows p.1 u) (same ∙ flat p u)
-    entry_refused_by here OutOfMemory new further takes = tt
-
-    -- without an entry there are no entries
-    pub entry_refused : {here : List ℕ} {fault : Fault} {new further : List ℕ} → Takes is text_of here (Err fault) new
-        → Takes (AreEntries is) entries_text here (Err fault) further
-    entry_refused {here} {fault} {new} {further} takes = record { cases = entry_refused_by here fault new further takes.cases }
-
-    module _ (e : E) (here after : List ℕ) (takes : Takes is text_of here (Ok e) after) where
-      past_entry : (p : E × List E) (u : List ℕ) → AreEntries is p → here ≡ entries_text p ++ u → after ≡ trail ++ (tail_of p.1 ++ u)
-      past_entry p u are same = sym (takes.cases.2 p.0 _ are.0 (follows p.1 u) (same ∙ flat p u))
-
-      -- without a trail after it there are none
-      pub trail_refused : {new : List ℕ} → DoesNotBegin trail after → Takes (AreEntries is) entries_text here (Err NotText) new
-      trail_refused refuses = record { cases = λ p u are may same. refuses _ (past_entry p u are same) }
-
-      -- after an entry and its trail, the rest of the block is there
-      pub after_entry : (further : List ℕ) → after ≡ trail ++ further → Reduces (All is) tail_of (AreEntries is) entries_text (λ es. (e, es)) further here
-      after_entry further trail_is = record {
-        holds = λ es are. (takes.cases.1, are);
-        builds = λ es u at. takes.cases.0 ∙ ap (λ t. text_of e ++ t) (trail_is ∙ ap (λ t. trail ++ t) at) ∙ sym (flat (e, es) u);
-        finds = λ p u are may same. (p.1, are.1, append_cancel_left trail further _ (sym trail_is ∙ past_entry p u are same));
-      }
+  -- what comes after an entry may follow it
+  pub record GoesOn : Type 0 where
+    pub follows : (es : List E) (u : List ℕ) → MayFollow Debug (trail ++ (tail_of es ++ u))
 
   flat_tail : (e : E) (es : List E) (u : List ℕ) → tail_of (e ∷ es) ++ u ≡ lead ++ (entries_text (e, es) ++ u)
   flat_tail e es u = append_assoc lead (entries_text (e, es)) u
@@ -87,3 +64,36 @@ module _ {E : Type 0} (is : E → Type 0) (text_of : E → List ℕ) (lead trail
     -- or there is neither another entry nor the end
     pub end_refused : DoesNotBegin end here → Takes (All is) tail_of here (Err NotText) new
     end_refused no_end = record { cases = λ es u are may same. not_ended no_end es u same }
+
+module _ {E : Type 0} {is : E → Type 0} {text_of : E → List ℕ} {lead trail end : List ℕ} (goes_on : GoesOn is text_of lead trail end) where
+  -- the entries of this block
+  abbrev EntriesTaken : List ℕ → Result (E × List E) Fault → List ℕ → Type 0
+  EntriesTaken here outcome new = Takes (AreEntries is) (entries_text is text_of lead trail end) here outcome new
+
+  entry_refused_by : (here : List ℕ) (fault : Fault) (new further : List ℕ) → TakesBy is text_of here (Err fault) new
+      → TakesBy (AreEntries is) (entries_text is text_of lead trail end) here (Err fault) further
+  entry_refused_by here NotText new further none = λ p u are may same.
+      none p.0 _ are.0 (goes_on.follows p.1 u) (same ∙ flat is text_of lead trail end p u)
+  entry_refused_by here OutOfMemory new further takes = tt
+
+  -- without an entry there are no entries
+  pub entry_refused : {here : List ℕ} {fault : Fault} {new further : List ℕ} → Takes is text_of here (Err fault) new → EntriesTaken here (Err fault) further
+  entry_refused {here} {fault} {new} {further} takes = record { cases = entry_refused_by here fault new further takes.cases }
+
+  module _ {e : E} {here after : List ℕ} (takes : Takes is text_of here (Ok e) after) where
+    past_entry : (p : E × List E) (u : List ℕ) → AreEntries is p → here ≡ entries_text is text_of lead trail end p ++ u
+        → after ≡ trail ++ (tail_of is text_of lead trail end p.1 ++ u)
+    past_entry p u are same = sym (takes.cases.2 p.0 _ are.0 (goes_on.follows p.1 u) (same ∙ flat is text_of lead trail end p u))
+
+    -- without a trail after it there are none
+    pub trail_refused : {new : List ℕ} → DoesNotBegin trail after → EntriesTaken here (Err NotText) new
+    trail_refused refuses = record { cases = λ p u are may same. refuses _ (past_entry p u are same) }
+
+    -- after an entry and its trail, the rest of the block is there
+    pub after_entry : {further : List ℕ} → after ≡ trail ++ further
+        → Reduces (All is) (tail_of is text_of lead trail end) (AreEntries is) (entries_text is text_of lead trail end) (λ es. (e, es)) further here
+    after_entry {further} trail_is = record {
+      holds = λ es are. (takes.cases.1, are);
+      builds = λ es u at. takes.cases.0 ∙ ap (λ t. text_of e ++ t) (trail_is ∙ ap (λ t. trail ++ t) at) ∙ sym (flat is text_of lead trail end (e, es) u);
+      finds = λ p u are may same. (p.1, are.1, append_cancel_left trail further _ (sym trail_is ∙ past_entry p u are same));
+    }

@@ -31,14 +31,13 @@ module _ {K V : Type 0} (is_key : K → Type 0) (is_value : V → Type 0) (of_ke
   all_built : (blocks : ℕ) (es : List (K × V)) → All (PairFits blocks) es → PairsAreBuilt Debug (pairs_of (pair_documents es))
   all_built blocks [] fit = tt
   all_built blocks (e ∷ es) fit =
-      let here = All-head (PairFits blocks) e es fit in
-      (here.0.1.0, here.1.1.0, all_built blocks es (All-tail (PairFits blocks) e es fit))
+      let ((is, (key, key_deep)), (is_too, (value, value_deep))) = All-head (PairFits blocks) e es fit in
+      (key, value, all_built blocks es (All-tail (PairFits blocks) e es fit))
 
   all_nest : (blocks : ℕ) → blocks ≤ 255 → (es : List (K × V)) → All (PairFits blocks) es → nest_pairs (pairs_of (pair_documents es)) + blocks ≤ 255
   all_nest blocks most [] fit = omega (arith, most)
   all_nest blocks most (e ∷ es) fit =
-      let key : nest (of_key e.0) + blocks ≤ 255 = (All-head (PairFits blocks) e es fit).0.1.1 in
-      let value : nest (of_value e.1) + blocks ≤ 255 = (All-head (PairFits blocks) e es fit).1.1.1 in
+      let ((is, (key_built, key)), (is_too, (value_built, value))) = All-head (PairFits blocks) e es fit in
       let later : nest_pairs (pairs_of (pair_documents es)) + blocks ≤ 255 = all_nest blocks most es (All-tail (PairFits blocks) e es fit) in
       omega (arith, key, value, later)
 

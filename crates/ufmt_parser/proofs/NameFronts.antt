@@ -1,14 +1,15 @@
 -- The name at the front of a document's text is found byte by byte.
-use Rattle.std.proofs.Common.{◌≡◌, ◌≢◌, ◌⊎◌, inl, inr, refl, sym, ap, ◌∙◌, subst, ℕ, ◌==◌, ◌||◌, ◌&&◌, not, cond, Bool, true, false, List, [], ◌∷◌, ◌++◌, append_assoc, None, eqb-true}
+use Rattle.std.proofs.Common.{◌≡◌, ◌≢◌, ◌⊎◌, inl, inr, refl, sym, ap, ◌∙◌, subst, arith, ℕ, ◌==◌, ◌||◌, not, cond, Bool, true, false, List, [], ◌∷◌, ◌++◌, append_assoc, eqb-true}
 use Rattle.std.specs.Str.{bytes_eq}
-use Rattle.std.proofs.lemmas.Bool.{false_from_ne_true}
+use Rattle.std.proofs.lemmas.Bool.{cases_Bool, false_from_ne_true}
+use Rattle.std.proofs.lemmas.Bool.Decides.{nat_tests}
 use Rattle.std.proofs.lemmas.Slice.Eq.{bytes_eq-Decides}
 use Rattle.std.proofs.lemmas.List.{append_cancel_left}
 use Rattle.ufmt_core.specs.Document.{Document, leaf, joined, list_of, set_of, map_of, struct_of, non_exhaustive_of, tuple_of, pretty_part, no_documents, first_document, no_fields, first_field}
 use Rattle.ufmt_core.specs.Layout.{inside, layout}
 use Rattle.ufmt_core.specs.declared.layout.Setting.{Setting}
 use Rattle.ufmt_grammar.specs.declared.class.Class.TheVariants.{Debug}
-use Rattle.ufmt_grammar.specs.Leaves.{EndsLeaf, IsDebugFollower, IsName, MayFollow, beginning, begins_with, ends_in_colon, is_debug_byte, is_ender, is_quote, is_spaced, outside, place_outside}
+use Rattle.ufmt_grammar.specs.Leaves.{EndsLeaf, IsDebugFollower, IsName, MayFollow, beginning, begins_with, ends_in_colon, is_debug_byte, is_ender, is_spaced}
 use Rattle.ufmt_grammar.specs.Reading.{leaf_from}
 use Rattle.ufmt_grammar.specs.Token.{IsBuilt}
 use Rattle.ufmt_grammar.proofs.ClassLeaves.{Begins, Begins-append, begins_no, name_some}
@@ -24,23 +25,18 @@ use Rattle.ufmt_parser.proofs.Words.{begins_name, name_ends, name_ends_in_no_col
 -- ---- where a name is over
 
 each_end : (P : ℕ → Type 0) → P 32 → P 40 → P 91 → P 123 → P 44 → P 93 → P 41 → P 125 → (c : ℕ) → ends_name c ≡ true → P c
-each_end P space parenthesis bracket brace comma closing_bracket closing_parenthesis closing_brace c h =
-    go (c == 32) (c == 40) (c == 91) (c == 123) refl refl refl refl h
-  where
-    at : (k : ℕ) → (c == k) ≡ true → P k → P c
-    at k e p = subst P (sym (eqb-true c k e)) p
-
-    go : (a b d e : Bool) → (c == 32) ≡ a → (c == 40) ≡ b → (c == 91) ≡ d → (c == 123) ≡ e → (a || (b || d || e) || is_ender c) ≡ true → P c
-    go true b d e ha hb hd he k = at 32 ha space
-    go false true d e ha hb hd he k = at 40 hb parenthesis
-    go false false true e ha hb hd he k = at 91 hd bracket
-    go false false false true ha hb hd he k = at 123 he brace
-    go false false false false ha hb hd he k = each_ender P comma closing_bracket closing_parenthesis closing_brace c k
+each_end P space parenthesis bracket brace comma closing_bracket closing_parenthesis closing_brace c h = grind (arith, nat_tests)
 
 -- no byte of a name comes where one is over
 past_name_stops : (u : List ℕ) → is_past_name u ≡ true → StopsLeaf u
 past_name_stops [] h = tt
-past_name_stops (c ∷ u) h = go (c == 58) (c == 40) refl refl h
+past_name_stops (c ∷ u) h = elim (cases_Bool (c == 58)) [
+  | inl colon ↦ subst (λ b. StopsLeaf (b ∷ u)) (sym (eqb-true c 58 colon)) (rw (rw colon at h) (refl, refl))
+  | inr colon ↦ elim (cases_Bool (c == 40)) [
+    | inl parenthesis ↦ subst (λ b. StopsLeaf (b ∷ u)) (sym (eqb-true c 40 parenthesis)) (opens (begins_with 41 u) refl (rw (colon, parenthesis) at h))
+    | inr parenthesis ↦ other (subst (λ b. cond b (not (begins_with 41 u)) (ends_name c) ≡ true) parenthesis (rw colon at h)) parenthesis
+  ]
+]
   where
     opens : (closes : Bool) → begins_with 41 u ≡ closes → not closes ≡ true → StopsLeaf (40 ∷ u)
     opens true e k = absurd (cc)
@@ -48,11 +44,6 @@ past_name_stops (c ∷ u) h = go (c == 58) (c == 40) refl refl h
 
     other : ends_name c ≡ true → (c == 40) ≡ false → StopsLeaf (c ∷ u)
     other is = each_end (λ b. (b == 40) ≡ false → StopsLeaf (b ∷ u)) (λ e. (refl, refl)) (λ e. absurd (cc)) (λ e. (refl, refl)) (λ e. (refl, refl)) (λ e. (refl, refl)) (λ e. (refl, refl)) (λ e. (refl, refl)) (λ e. (refl, refl)) c is
-
-    go : (colon parenthesis : Bool) → (c == 58) ≡ colon → (c == 40) ≡ parenthesis → cond colon (is_spaced u) (cond parenthesis (not (begins_with 41 u)) (ends_name c)) ≡ true → StopsLeaf (c ∷ u)
-    go true parenthesis e f k = subst (λ b. StopsLeaf (b ∷ u)) (sym (eqb-true c 58 e)) (rw k (refl, refl))
-    go false true e f k = subst (λ b. StopsLeaf (b ∷ u)) (sym (eqb-true c 40 f)) (opens (begins_with 41 u) refl k)
-    go false false e f k = other k f
 
 ender_past : (c : ℕ) (u : List ℕ) → is_ender c ≡ true → is_past_name (c ∷ u) ≡ true
 ender_past c u h = each_ender (λ b. is_past_name (b ∷ u) ≡ true) refl refl refl refl c h
@@ -138,7 +129,10 @@ another_is_next name other text is (inr bracketed) refuses = other_bytes other n
 -- a text that begins with the name is its own if and only if the name is over there
 pub name_is_next : (name other text after : List ℕ) → is_debug_name name ≡ true → IsNamed other text ⊎ IsBracketed other text → text ≡ name ++ after
     → bytes_eq other name ≡ is_past_name after
-name_is_next name other text after is (inl named) at = go (is_past_name after) refl
+name_is_next name other text after is (inl named) at = elim (cases_Bool (is_past_name after)) [
+  | inl past ↦ rw past ((bytes_eq-Decides other name).1 (whole past))
+  | inr past ↦ rw past (other_bytes other name (longer past))
+]
   where
     whole : is_past_name after ≡ true → other ≡ name
     whole past = sym (leaf_from-append beginning other named.tail (some_begun beginning other named.some) named.ends (past_name_stops named.tail named.past) named.seam)
@@ -149,10 +143,6 @@ name_is_next name other text after is (inl named) at = go (is_past_name after) r
     longer past same =
         let tails : named.tail ≡ after = append_cancel_left name named.tail after (ap (λ w. w ++ named.tail) (sym same) ∙ sym named.is ∙ at) in
         absurd (cc (named.past, ap is_past_name tails))
-
-    go : (past : Bool) → is_past_name after ≡ past → bytes_eq other name ≡ past
-    go true past = (bytes_eq-Decides other name).1 (whole past)
-    go false past = other_bytes other name (longer past)
 name_is_next [] other text after is (inr bracketed) at = absurd (cc)
 name_is_next (c ∷ name) other text after is (inr bracketed) at =
     let same : bracketed.bracket ∷ bracketed.tail ≡ c ∷ (name ++ after) = sym bracketed.is ∙ at in

@@ -17,8 +17,8 @@ pub enum Detail<'t> {
     BeforeField(&'t str),
     /// The end of a struct or a tuple: it has no more fields.
     NoField,
-    /// A number of this range.
-    Range { from: i128, to: u128 },
+    /// A number of a range with this text, such as `0 to 255`.
+    Range(&'t str),
     /// A number other than 0.
     NonZero,
 }

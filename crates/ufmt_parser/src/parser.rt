@@ -1,12 +1,12 @@
 //! The rest of a text, and what is taken from its front.
-ghost use Rattle.std.specs.Prelude.{◌≡◌, ◌<◌, ◌≤◌, ◌-◌, length, MatchBool, false, if◌then◌else◌, not, suc, true};
+ghost use Rattle.std.specs.Prelude.{◌≡◌, ◌<◌, ◌≤◌, ◌-◌, length, MatchBool, false, not, suc, true};
 ghost use Rattle.std.specs.Str.{bytes_eq};
 ghost use Rattle.ufmt_core.specs.Layout.{ending, frame, lead};
 ghost use Rattle.ufmt_core.specs.declared.layout.Count.TheVariants.{Zero};
 ghost use Rattle.ufmt_core.specs.Document.{Document};
 ghost use Rattle.ufmt_grammar.specs.Bytes.{ends_name};
 ghost use Rattle.ufmt_parser.specs.Naming.{document_name, is_debug_name, is_past_name};
-ghost use Rattle.ufmt_parser.specs.Needs.{detail_of, need};
+ghost use Rattle.ufmt_parser.specs.Needs.{KeepsDetail, detail_of, need};
 ghost use Rattle.ufmt_parser.specs.Next.{IsNotNext, NextLeaves};
 ghost use Rattle.ufmt_parser.specs.Taking.{Eats, open_blocks, rest, setting_in};
 
@@ -179,7 +179,7 @@ impl<'t, M: ParseMode> Parser<'t, M> {
     pub fn refuse(&mut self, missing: Need) -> Fault
         ensures fault { result ≡ Fault.NotText }
         ensures needs { need self.new ≡ missing }
-        ensures detail { detail_of self.new ≡ (if M.keeps_detail then Detail.Nothing else detail_of self.old) }
+        ensures detail { KeepsDetail M.keeps_detail self.old Detail.Nothing self.new }
         ensures rest { rest self.new ≡ rest self.old }
         ensures blocks { open_blocks self.new ≡ open_blocks self.old }
     {
@@ -192,7 +192,7 @@ impl<'t, M: ParseMode> Parser<'t, M> {
     pub fn refuse_in_detail(&mut self, missing: Need, detail: Detail<'t>) -> Fault
         ensures fault { result ≡ Fault.NotText }
         ensures needs { need self.new ≡ missing }
-        ensures detail { detail_of self.new ≡ (if M.keeps_detail then detail.entry else detail_of self.old) }
+        ensures detail { KeepsDetail M.keeps_detail self.old detail.entry self.new }
         ensures rest { rest self.new ≡ rest self.old }
         ensures blocks { open_blocks self.new ≡ open_blocks self.old }
     {
@@ -204,7 +204,7 @@ impl<'t, M: ParseMode> Parser<'t, M> {
     /// Records what is expected next in detail, for calls that fail without `refuse`, if the mode is `Detailed`.
     #[inline(always)]
     pub fn note(&mut self, detail: Detail<'t>)
-        ensures detail { detail_of self.new ≡ (if M.keeps_detail then detail.entry else detail_of self.old) }
+        ensures detail { KeepsDetail M.keeps_detail self.old detail.entry self.new }
         ensures needs { need self.new ≡ need self.old }
         ensures rest { rest self.new ≡ rest self.old }
         ensures blocks { open_blocks self.new ≡ open_blocks self.old }

@@ -242,18 +242,19 @@ module _ (level : Level) (t : List ℕ) where
   pub with_front : (front : Front) → IsSplit level.class t front → (length front.text.now == 0) ≡ false
       → (parse_map events_of (reading t) ≡ scan_front level front.is_name front.text.now front.rest.now) × (suc (length front.rest.now) ≤ length t)
   with_front front is some = (
-    ap (parse_map events_of) (read_is level.class (setting_at level) (budget_of level) t ∙ go (front_of level.class t) (sym is.text) is.whole) ∙ front_is,
+    ap (parse_map events_of) (read_is level.class (setting_at level) (budget_of level) t
+        ∙ (elim (front_of level.class t) as (λ w. w ≡ front.text.now → is_whole level.class w ≡ true
+        → read_by_front level.class (setting_at level) (entry_of level) t w (after_front level.class t)
+        ≡ cond (is_name level.class w) (read_named level.class (setting_at level) (entry_of level) w (after_front level.class t)) (Some (leaf w, after_front level.class t))) [
+          | [] ↦ λ same whole. absurd (let none = ap length same in let more = longer front.text.now some in omega (arith, none, more))
+          | c ∷ w ↦ λ same whole. rw whole refl
+        ]) (sym is.text) is.whole) ∙ front_is,
     omega (arith, ap length (fronts_whole level.class t), length-append (front_of level.class t) (after_front level.class t), ap length is.text, ap length is.rest, longer front.text.now some),
   )
     where
       longer : (w : List ℕ) → (length w == 0) ≡ false → 0 < length w
       longer [] none = absurd (cc)
       longer (c ∷ w) none = omega arith
-
-      go : (w : List ℕ) → w ≡ front.text.now → is_whole level.class w ≡ true → read_by_front level.class (setting_at level) (entry_of level) t w (after_front level.class t)
-          ≡ cond (is_name level.class w) (read_named level.class (setting_at level) (entry_of level) w (after_front level.class t)) (Some (leaf w, after_front level.class t))
-      go [] same whole = absurd (let none = ap length same in let more = longer front.text.now some in omega (arith, none, more))
-      go (c ∷ w) same whole = rw whole refl
 
       front_is : parse_map events_of (cond (is_name level.class (front_of level.class t))
           (read_named level.class (setting_at level) (entry_of level) (front_of level.class t) (after_front level.class t))

@@ -134,27 +134,29 @@ module _ (leaf inside : List ℕ) (x : ℕ) (opens : leaf ≡ x ∷ inside) wher
       inner ∙ ap (λ e. (e ++ escaped_all 39 cs) ++ (39 ∷ [])) (lead c).2 ∙ simp append_assoc
 
   pub is_one : (b n : ℕ) (rest : List ℕ) → inside ≡ escaped_byte 39 b ++ rest → n ≡ 1 + continuation_len b → IsOneCharacter leaf (length rest == n)
-  is_one b n rest front is = record { one = go }
-    where
-      counted : (c : ℕ) (cs : List ℕ) → length rest + 1 ≡ n + (length (escaped_all 39 cs) + 1) → length cs ≤ length (escaped_all 39 cs) → (length rest == n) ≡ (length (c ∷ cs) == 1)
-      counted c [] long more = grind (arith, nat_tests)
-      counted c (d ∷ cs) long more = grind (arith, nat_tests)
-
-      go : (cs : List ℕ) → all_scalars cs ≡ true → leaf ≡ quoted 39 cs → (length rest == n) ≡ (length cs == 1)
-      go [] scalars whole = absurd (quote_ends 39 (inr refl) [] b rest (cc))
-      go (c ∷ cs) scalars whole =
+  is_one b n rest front is = record {
+    one = elim [
+      | [] ↦ λ scalars whole. absurd (quote_ends 39 (inr refl) [] b rest (cc))
+      | c ∷ cs ↦ λ scalars whole.
           let after = escaped_all 39 cs ++ (39 ∷ []) in
           let first = spelled_once 39 (inr refl) b (lead c).0 rest ((lead c).1 ++ after) (sym front ∙ led c cs whole) in
           counted c cs
           (omega (arith, is, ap length first.1, length-append (lead c).1 after, length-append (escaped_all 39 cs) (39 ∷ []), (lead c).3, ap continuation_len first.0))
           (omega (arith, length-le-encodes cs, length-escaped_bytes 39 (encode_utf8_all cs), ap length (escaped_all-bytes 39 (omega arith) cs)))
+    ];
+  }
+    where
+      counted : (c : ℕ) (cs : List ℕ) → length rest + 1 ≡ n + (length (escaped_all 39 cs) + 1) → length cs ≤ length (escaped_all 39 cs) → (length rest == n) ≡ (length (c ∷ cs) == 1)
+      counted c [] long more = grind (arith, nat_tests)
+      counted c (d ∷ cs) long more = grind (arith, nat_tests)
 
   pub none_written : ((b : ℕ) (rest : List ℕ) → inside ≢ escaped_byte 39 b ++ rest) → IsOneCharacter leaf false
-  none_written ends = record { one = go }
-    where
-      go : (cs : List ℕ) → all_scalars cs ≡ true → leaf ≡ quoted 39 cs → false ≡ (length cs == 1)
-      go [] scalars whole = refl
-      go (c ∷ cs) scalars whole = absurd (ends (lead c).0 ((lead c).1 ++ (escaped_all 39 cs ++ (39 ∷ []))) (led c cs whole))
+  none_written ends = record {
+    one = elim [
+      | [] ↦ λ scalars whole. refl
+      | c ∷ cs ↦ λ scalars whole. absurd (ends (lead c).0 ((lead c).1 ++ (escaped_all 39 cs ++ (39 ∷ []))) (led c cs whole))
+    ];
+  }
 
 -- unescaped bytes are ASCII, and each is written as itself
 abbrev IsPlain : List ℕ → ℕ → Type 0

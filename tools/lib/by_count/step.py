@@ -21,7 +21,7 @@ INNERMOST = re.compile(r"⟪(\*|-?,|\w+:)([^⟪⟫]*)⟫")
 
 def field(count, place):
     return {"A": TYPES[place], "a": TYPES[place].lower(), "P": PARSERS[place], "n": str(place), "v": "v" if count == 1 else "v.%d" % place,
-            "{are}": "are" + ".1" * place + ".0", "{lead}": " " if place % 6 else "\n            "}
+            "{lead}": " " if place % 6 else "\n            "}
 
 
 def replaced(text, words):

@@ -83,8 +83,8 @@ const FILLS: &str = "Err(Full) ************";
 
 const TEXT_AND_FILLS: &str = "Err(Full) x***********";
 
-// What is wanted of a number in a column of this width, and of a column in it. A column around a text that is as wide as it, or wider,
-// has no fills; around a narrower one it has, at the left after it.
+// What is wanted of the four numbers in a column of this width, and of `x` in a column of the width `padded` in it. A column that is wider
+// than its text has fills: after the text if it is aligned left, and otherwise before it.
 fn wanted_within(width: usize, align: Align, padded: usize) -> ([&'static str; 4], &'static str) {
     match align {
         Align::Left => (VALUES, TEXT_AND_FILLS),
@@ -93,8 +93,8 @@ fn wanted_within(width: usize, align: Align, padded: usize) -> ([&'static str; 4
     }
 }
 
-// Lines with a text that is padded to the width `padded` in a column of this width, and with a column of the width `padded` in it,
-// around `x`.
+// Lines with a column of this width, around each of four numbers that are padded to the width `padded`, and around `x` in a column of
+// that width.
 fn put_in_a_column(table: &mut Table, padded: usize, align: Align, width: usize) {
     let (wanted, nested) = wanted_within(width, align, padded);
     let (mut zeros, mut spaces) = (PREFIXED, PREFIXED);

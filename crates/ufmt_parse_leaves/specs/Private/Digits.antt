@@ -1,5 +1,5 @@
 -- The decimal digits at the front of a text, and the number that they denote.
-use Rattle.std.specs.Prelude.{◌≡◌, ◌≢◌, ℕ, ◌+◌, ◌-◌, ◌*◌, ◌^◌, ◌<◌, ◌==◌, Bool, true, false, if◌then◌else◌, not, List, [], ◌∷◌, ◌++◌, Option, Some, None, suc, ℤ, pos, negsuc, nat_abs}
+use Rattle.std.specs.Prelude.{◌≡◌, ◌≢◌, ℕ, ◌+◌, ◌-◌, ◌*◌, ◌^◌, ◌<◌, ◌==◌, Bool, true, false, if◌then◌else◌, not, List, [], ◌∷◌, ◌++◌, Option, Some, None, codes, suc, ℤ, pos, negsuc, nat_abs}
 use Rattle.std.specs.Char.{is_ascii_digit}
 use Rattle.ufmt_core.specs.Bytes.{hyphen, zero_digit}
 use Rattle.ufmt_core.specs.Decimal.{decimal}
@@ -51,6 +51,10 @@ sign false = []
 abbrev pub IsSigned : Bool → ℕ → ℤ → Type 0
 IsSigned negative n (pos m) = (negative ≡ false) × (n ≡ m)
 IsSigned negative n (negsuc m) = (negative ≡ true) × (n ≡ suc m)
+
+-- the text of the integers between these two, with both
+abbrev pub range_text : ℤ → ℤ → List ℕ
+range_text least greatest = decimal least ++ (codes " to " ++ decimal greatest)
 
 -- so many digits come first, which denote m, and then u
 pub record BeginsWithDigits (count m : ℕ) (t u : List ℕ) : Type 0 where

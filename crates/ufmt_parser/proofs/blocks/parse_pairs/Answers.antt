@@ -5,7 +5,7 @@ use Rattle.ufmt_parser.proofs.WholeBlocks.{begins_longer}
 use Rattle.ufmt_parser.proofs.blocks.parse_pairs.Goals as goal
 
 pub parse_entries-requires-clause-begin : goal.parse_entries-requires-clause-begin
-parse_entries-requires-clause-begin g c = λ blocks s e fits. begins_longer (document_begins_entry s (g.T.uDebug.document e.0) fits.0.1.0) _
+parse_entries-requires-clause-begin g c = λ blocks s e ((is, (built, deep)), value). begins_longer (document_begins_entry s (g.T.uDebug.document e.0) built) _
 
 pub returns-clause-takes : goal.returns-clause-takes
 returns-clause-takes g c = map_taken g.K.ParsesBy.is_value g.P.ParsesBy.is_value g.T.uDebug.document g.U.uDebug.document (open_blocks c.args.parser.now) g.M.ParseMode.mode

@@ -16,7 +16,7 @@ parse_struct-requires-clause-counted g c = λ v. refl
 
 pub returns-clause-values : goal.returns-clause-values
 returns-clause-values g c = IfOk-weaker c.parse_struct.result _ _
-    (λ v are. (are.0, are.1.0, are.1.1.0, are.1.1.1.0, are.1.1.1.1.0, are.1.1.1.1.1.0, are.1.1.1.1.1.1.0, are.1.1.1.1.1.1.1.0, are.1.1.1.1.1.1.1.1.0, are.1.1.1.1.1.1.1.1.1.0, are.1.1.1.1.1.1.1.1.1.1.0, are.1.1.1.1.1.1.1.1.1.1.1.0))
+    (λ v (is_a, (is_b, (is_c, (is_d, (is_e, (is_f, (is_g, (is_h, (is_i, (is_j, (is_k, (is_l, none)))))))))))). (is_a, is_b, is_c, is_d, is_e, is_f, is_g, is_h, is_i, is_j, is_k, is_l))
     c.parse_struct.ensures.values
 
 pub returns-clause-taken : goal.returns-clause-taken

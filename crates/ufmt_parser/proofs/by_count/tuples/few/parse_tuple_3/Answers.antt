@@ -6,7 +6,7 @@ use Rattle.ufmt_parser.proofs.by_count.tuples.few.parse_tuple_3.Goals as goal
 
 pub returns-clause-values : goal.returns-clause-values
 returns-clause-values g c = IfOk-weaker c.parse_tuple.result _ _
-    (λ v are. (are.0, are.1.0, are.1.1.0))
+    (λ v (is_a, (is_b, (is_c, none))). (is_a, is_b, is_c))
     c.parse_tuple.ensures.values
 
 pub returns-clause-taken : goal.returns-clause-taken

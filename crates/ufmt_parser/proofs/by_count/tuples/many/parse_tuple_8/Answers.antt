@@ -6,7 +6,7 @@ use Rattle.ufmt_parser.proofs.by_count.tuples.many.parse_tuple_8.Goals as goal
 
 pub returns-clause-values : goal.returns-clause-values
 returns-clause-values g c = IfOk-weaker c.parse_tuple.result _ _
-    (λ v are. (are.0, are.1.0, are.1.1.0, are.1.1.1.0, are.1.1.1.1.0, are.1.1.1.1.1.0, are.1.1.1.1.1.1.0, are.1.1.1.1.1.1.1.0))
+    (λ v (is_a, (is_b, (is_c, (is_d, (is_e, (is_f, (is_g, (is_h, none)))))))). (is_a, is_b, is_c, is_d, is_e, is_f, is_g, is_h))
     c.parse_tuple.ensures.values
 
 pub returns-clause-taken : goal.returns-clause-taken
