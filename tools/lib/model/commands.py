@@ -69,10 +69,6 @@ def rows_of(counter, programs, run, nothing):
     return rows, [run.name + ": another output"] if run.output not in (None, output) else []
 
 
-def runs_of(part):
-    return list(conv_runs() if part == "conv" else line_runs(part == "plain"))
-
-
 PARTS = ("conv", "pretty", "plain")
 
 
@@ -84,26 +80,16 @@ def counted(counter, programs, part):
                    for name, words in (("ufmt_conv", ["lengths"]), ("ufmt_lines", []))}
     rows, faults = {}, []
     with ThreadPoolExecutor() as pool:
-        for its, wrong in pool.map(lambda run: rows_of(counter, programs, run, nothing), runs_of(part)):
+        runs = conv_runs() if part == "conv" else line_runs(part == "plain")
+        for its, wrong in pool.map(lambda run: rows_of(counter, programs, run, nothing), runs):
             rows.update(its)
             faults += wrong
     return rows, faults
 
 
-def in_one_log(counter, programs, is_plain):
-    """A fault if ufmt_lines writes another log for all shapes, one after another, than for each alone."""
-    runs = runs_of("plain" if is_plain else "pretty")
-    words, data = [programs["ufmt_lines"], *runs[0].words], b"".join(run.data for run in runs)
-    output, _ = counter.run(words, data, "all shapes, %s" % is_plain, seconds=SECONDS)
-    return [] if output == b"".join(run.output for run in runs) else ["ufmt_lines: another output for a log of all shapes"]
-
-
 def faults_of(counter, programs, part):
     rows, wrong = counted(counter, programs, part)
-    wrong += measures.Table(MEASURED).faults(rows, is_whole=False)
-    if part != "conv":
-        wrong += in_one_log(counter, programs, part == "plain")
-    return wrong, len(rows)
+    return wrong + list(measures.Table(MEASURED).faults(rows, is_whole=False)), len(rows)
 
 
 def short_reads():
