@@ -132,9 +132,6 @@ class LeafMaker:
         letters = (in_quotes if (count - number) % 2 else WORDS[number % 3] for number in range(count))
         return joined(self.piece(letter, 1) for letter in letters)
 
-    def of_length(self, kind, length):
-        return self.word("p", length) if kind == "word" else 'b"' + "x" * (length - 3) + '"'
-
     def name(self, length):
         if self.random.random() < 0.5 or length < 4:
             return self.any_word(length)

@@ -37,12 +37,16 @@ def batches(texts):
 def wrong_lines(program, texts, name=shown):
     """The faults of a run of the program on these texts, which have names, and the cells that these fill."""
     lines, faults = cases.answers(program, texts)
-    cells = set()
+    wrong, cells = compared(texts, lines, name)
+    return faults + wrong, cells
+
+
+def compared(texts, lines, name):
+    faults, cells = [], set()
     for text, line in zip(texts, lines):
         wanted, found = verdicts.verdict(text)
         cells |= found
-        if line != wanted:
-            faults.append(case(name(text), wanted, line))
+        faults += [case(name(text), wanted, line)] if line != wanted else []
     return faults, cells
 
 
@@ -127,8 +131,5 @@ def answers(_given):
     folder = TOP / "crates" / "probe_model"
     stored, asked = (folder / "stdout").read_text().split("\n")[:-1], list(stored_texts((folder / "stdin").read_bytes()))
     faults = [] if len(stored) == len(asked) else [case("lines of stdout", len(asked), len(stored))]
-    for text, line in zip(asked, stored):
-        wanted = verdicts.verdict(text)[0]
-        if line != wanted:
-            faults.append(case("the line in stdout of %s" % shown(text), wanted, line))
+    faults += compared(asked, stored, lambda text: "the line in stdout of %s" % shown(text))[0]
     return ended(faults, "%d lines of the file stdout" % len(asked))
