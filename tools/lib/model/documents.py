@@ -124,22 +124,12 @@ class Maker:
 
     def changed(self, data):
         """The text with a change, most often by one byte or one piece."""
-        at, form = self.random.randrange(len(data) + 1), self.random.randrange(8)
-        piece, before, after = self.random.choice(self.pieces).encode(), data[:at], data[at:]
-        if form == 4:
-            return before + self.random.choice(BAD_BYTES) + after
-        if form == 5:
-            return self.changed_at(data, piece)
-        return (before, after, before + after[1:], before + piece + after[1:], None, None, data + piece, before + piece + after)[form]
-
-    def changed_at(self, data, piece):
-        old = self.random.choice(self.pieces).encode()
-        count = data.count(old)
-        if count == 0:
-            return piece + data
-        pieces = data.split(old)
-        at = self.random.randrange(1, count + 1)
-        return old.join(pieces[:at]) + piece + old.join(pieces[at:])
+        at, (piece, old) = self.random.randrange(len(data) + 1), map(str.encode, self.random.choices(self.pieces, k=2))
+        before, after = data[:at], data[at:]
+        return self.random.choice((
+            before, after, before + after[1:], before + piece + after[1:], before + self.random.choice(BAD_BYTES) + after,
+            before + after.replace(old, piece, 1), data + piece, before + piece + after,
+        ))
 
     def data(self):
         """The plain or the pretty text of a document, as it is or changed."""
