@@ -89,11 +89,8 @@ class LeafMaker:
 
     def any_word(self, length):
         """A word of any characters, most often ASCII."""
-        form = self.random.random()
-        if form < 0.5:
-            return "".join(self.random.choices("ab19.-+<>=_/", k=length))
-        if form < 0.8:
-            return "".join(self.random.choices(POINTS + PAST_ASCII + "ab", k=length))
+        if self.random.random() < 0.8:
+            return "".join(self.random.choices(self.random.choice(("ab19.-+<>=_/", POINTS + PAST_ASCII + "ab")), k=length))
         found = [characters.any_character(self.random) for _ in range(length)]
         return "".join(character if is_in_word(character) else "." for character in found)
 
