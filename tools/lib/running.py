@@ -49,8 +49,8 @@ def heartbeat(name):
 
 def begun(words, **how):
     """A process without input, with a pipe for the text of both of its outputs."""
-    process = subprocess.Popen(list(map(str, words)), start_new_session=True, stdin=subprocess.DEVNULL, stdout=subprocess.PIPE,
-                               stderr=subprocess.STDOUT, errors="replace", **how)
+    process = subprocess.Popen(list(map(str, words)), start_new_session=True, errors="replace", **how,
+                               stdin=subprocess.DEVNULL, stdout=subprocess.PIPE, stderr=subprocess.STDOUT)
     started.append(process)
     return process
 

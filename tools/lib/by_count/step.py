@@ -59,7 +59,8 @@ def wrapped(found):
 
 
 def written(name, counts, words):
-    parts = re.sub(r"(?m)^# .*\n", "", (data.DATA / "by_count" / name).read_text(encoding="utf-8")).split("====\n")
+    text = (data.DATA / "by_count" / name).read_text(encoding="utf-8")
+    parts = re.sub(r"(?m)^# .*\n", "", text).split("====\n")
     if len(parts) == 1:
         return filled(parts[0], counts[0], words).rstrip("\n") + "\n"
     head, each, tail = parts
@@ -76,7 +77,7 @@ def files():
     for part in ("all in a file", "each in a file"):
         for path, template, numbers, kind, *more in tables[part]:
             first, last = numbers.split("-")
-            words = {**shared, **words_of(tables[kind][0]), **words_of(more), "{first}": first, "{last}": last}
+            words = {**shared, **words_of([*tables[kind][0], *more, "first=" + first, "last=" + last])}
             counts = range(int(first), int(last) + 1)
             for its in [counts] if part == "all in a file" else [[count] for count in counts]:
                 yield filled(path, its[0], words), written(template, its, words)

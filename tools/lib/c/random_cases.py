@@ -1,5 +1,5 @@
-"""Random cases of every call of libufmt_c, the same ones for each seed: arguments of the cases of tables, mixed and changed. What they
-expect is by the models of calls.py."""
+"""Random cases of every call of libufmt_c, the same ones for each seed: arguments of the tables' cases, mixed
+and changed. What they expect is by the models of calls.py."""
 import random
 import re
 
@@ -11,8 +11,8 @@ from lib.model.documents import DebugMaker, Maker
 
 # A changed input is cut at so many bytes, so that many are tried. What happens to long ones is in the tables.
 LONGEST = 200
-# So many arguments are changed, of these so many to those of another case; and so many names are of a field in the line.
-CHANGED, OTHER, NAMED = 0.5, 0.3, 0.4
+# So many arguments are changed, so many of these to others of the tables; so many belong to the one before.
+CHANGED, OTHER, ALIKE = 0.5, 0.3, 0.4
 FIELD_NAME = re.compile(rb"([^\x00-\x20\"'(),\[\]{}]+): ")
 BITS = {"class": 2, "mode": 2, "bool": 1, "uint8_t": 8, "uint32_t": 32}
 # The calls in turn: a conversion has most ways to go.
@@ -34,8 +34,11 @@ class RandomCases:
         """Those of a case of the tables, of which some are changed, or are of another case."""
         both = zip(kinds_of(call), *self.random.choices(self.known[call], k=2))
         found = [self.changed(*its) if self.random.random() < CHANGED else its[1] for its in both]
-        if call == "field" and self.random.random() < NAMED:
+        if call == "field" and self.random.random() < ALIKE:
             found[2] = self.random.choice(FIELD_NAME.findall(found[1]) or [b"x"])
+        if kinds_of(call) == ["text", "text"] and self.random.random() < ALIKE:
+            lines = self.random.choices((b"", b"a", *found), k=self.random.randrange(9))
+            found = [b"\n".join(lines)[:LONGEST], self.data(b"\n".join(lines), found[1])[:LONGEST]]
         return found
 
     def changed(self, kind, value, other):
@@ -50,15 +53,17 @@ class RandomCases:
         """A number: small, of any length, or next to the largest."""
         bits = BITS.get(kind, 64)
         near = 2 ** self.random.randrange(bits) - self.random.randrange(2), -1 - self.random.randrange(3)
-        number = self.random.choice((self.random.randrange(200), *near, self.random.getrandbits(bits))) % 2**bits
+        some = self.random.randrange(200), *near, self.random.getrandbits(bits)
+        number = self.random.choice(some) % 2**bits
         return number - 2**63 if kind == "int64_t" else number
 
     def data(self, value, other):
-        """Bytes: these with a piece of others put in or in the place of one, a document, a number, characters, or anything."""
+        """Bytes: these with a piece put in or cut out, a document, a number, characters, or anything."""
         at, end = (self.random.randrange(len(value) + 1) for _ in range(2))
+        piece = self.random.choice((b'"', b"\\", b"\\u{", b" ", b"\n", other, self.random.randbytes(1)))
         return self.random.choice((
             lambda: value[:at] + value[end:],
-            lambda: value[:at] + self.random.choice((b'"', b"\\", b"\\u{", b" ", other, self.random.randbytes(1))) + value[at:],
+            lambda: value[:at] + piece + value[at:],
             lambda: value[:at] + other[self.random.randrange(len(other) + 1) :],
             lambda: self.random.choice(self.makers).data(),
             lambda: self.random.choice(("%d", "-%d", "%d.5")).encode() % self.number("uint64_t"),
@@ -69,8 +74,10 @@ class RandomCases:
         ))()
 
     def characters(self):
-        any_of = self.random.choice((lambda: any_character(self.random), lambda: self.random.choice("ab \"'\\\n\r\t\0\x1b\x7f{u}")))
-        return "".join(any_of() for _ in range(self.random.randrange(LONGEST // 4)))
+        count = self.random.randrange(LONGEST // 4)
+        if self.random.randrange(2):
+            return "".join(any_character(self.random) for _ in range(count))
+        return "".join(self.random.choices("ab \"'\\\n\r\t\0\x1b\x7f{u}", k=count))
 
     def rooms(self, case):
         """How long the buffers are with which a case is tried: a random one too."""

@@ -28,7 +28,8 @@ def public_of(crate):
     folder = CRATES / crate / "src"
     for _, function in public_functions(folder):
         yield "::".join(filter(None, (crate, function.owner and function.owner_name(), function.name)))
-    yield from ("%s::%s!" % (crate, name) for path in sources(folder) for name in MACRO.findall(path.read_text()))
+    for path in sources(folder):
+        yield from ("%s::%s!" % (crate, name) for name in MACRO.findall(path.read_text()))
 
 
 def listed():

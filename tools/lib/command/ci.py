@@ -36,7 +36,8 @@ def proved():
         last, ended = line.strip() or last, ENDED.match(line)
         if ended:
             count += 1
-            say("%d of %d crates: %s, after %d min" % (count, whole, ended[1], (time.monotonic() - began) // 60))
+            minutes = (time.monotonic() - began) // 60
+            say("%d of %d crates: %s, after %d min" % (count, whole, ended[1], minutes))
     yield trying.Result("rt ci", time.monotonic() - began, process.wait(), last)
 
 

@@ -1,8 +1,8 @@
 """Writes the files that have a call, impl, clause or proof for each number of fields, docs/API.md and docs/PROMISES.md.
 
 Run it after a change in tools/lib/by_count or in its templates, tools/data/by_count. It runs `rt fmt` in the crates of these
-files. docs/API.md changes with the public calls, and docs/PROMISES.md with the comments of promises in the sources. The steps
-`generated`, `api` and `promises` of `x try` compare the files with what it would write.
+files. docs/API.md changes with the public calls, and docs/PROMISES.md with the comments of promises in the
+sources. `x try generated api promises` compares the files with what it would write.
 """
 from lib import needs
 from lib.findings import ended

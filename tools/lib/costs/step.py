@@ -32,7 +32,8 @@ def quoted(size):
 
 def in_forms(size, *forms):
     """Each form, with each of those texts where it has a place for one."""
-    return [form.replace("TEXT", text) for form in forms for text in (quoted(size) if "TEXT" in form else [""])]
+    texts = {form: quoted(size) if "TEXT" in form else [""] for form in forms}
+    return [form.replace("TEXT", text) for form in forms for text in texts[form]]
 
 
 def items(form, numbers):
@@ -40,7 +41,7 @@ def items(form, numbers):
 
 
 def wide(begin, end, size, form, pretty_form):
-    """A list or set of so many items; one without its end, and one with a wrong item at its end; and the pretty text."""
+    """A list or set of so many items; one without its end, one with a wrong item there; the pretty text."""
     whole = begin + ", ".join(items(form, range(size)))
     lines = ("    %s,\n" % it for it in items(pretty_form, range(size)))
     return [whole + end, whole, whole + ", ?" + end, begin + "\n" + "".join(lines) + end]
@@ -53,7 +54,8 @@ def listed(size, form):
 def sorted_keys(size, form, pretty_form=None):
     """The same in order, with the last key before the others, with it twice, and in the other order."""
     others = ([*range(1, size), 0], [*range(size), size - 1], range(size - 1, -1, -1))
-    return wide("{", "}", size, form, pretty_form or form) + ["{%s}" % ", ".join(items(form, numbers)) for numbers in others]
+    wrong = ["{%s}" % ", ".join(items(form, numbers)) for numbers in others]
+    return wide("{", "}", size, form, pretty_form or form) + wrong
 
 
 def array(_size, length, form):
@@ -74,15 +76,16 @@ def nodes(size):
 
 
 # The texts by a size and what else a row has, by the part of the table.
-MAKERS = {"small": lambda _size, *texts: list(texts), "texts": in_forms, "lists": listed, "keys": sorted_keys, "arrays": array,
-          "trees": trees, "nodes": nodes}
+MAKERS = {"small": lambda _size, *texts: list(texts), "texts": in_forms, "lists": listed, "keys": sorted_keys,
+          "arrays": array, "trees": trees, "nodes": nodes}
 
 
 def types():
     for part, rows in data.rows("costs/types.txt").items():
+        make = MAKERS[part]
         for implementation, name, *cells in rows:
-            texts = list(map(data.text_of, cells))
-            yield Parsed(implementation, name, lambda size, make=MAKERS[part], texts=texts: make(size, *texts))
+            given = list(map(data.text_of, cells))
+            yield Parsed(implementation, name, lambda size, make=make, given=given: make(size, *given))
 
 
 def missing():

@@ -201,7 +201,8 @@ def missing_rows(files):
 
 def main(given):
     is_all = given.full
-    files = {path.name[: -len(".rt.txt")]: path.read_text() for path in sorted((CRATES / "tests").glob("*.rt.txt"))}
+    paths = sorted((CRATES / "tests").glob("*.rt.txt"))
+    files = {path.name.removesuffix(".rt.txt"): path.read_text() for path in paths}
     if not files or not list((CRATES / "refused").glob("*.txt")):
         sys.exit("tools/data/crates/tests or tools/data/crates/refused has no file")
     faults = list(missing_rows(files))
@@ -218,5 +219,6 @@ def main(given):
             for found in pool.map(lambda crate: crate.faults(), crates):
                 faults += found
     passing = [wanted == PASS for wanted in crates[0].wanted.values()]
-    told = len(crates), sum(passing), len(passing) - sum(passing), sum(len(crate.snippets) for crate in crates[1:])
+    lines = sum(len(crate.snippets) for crate in crates[1:])
+    told = len(crates), sum(passing), len(passing) - sum(passing), lines
     return ended(faults, "%d crates: %d tests that pass, %d that fail, %d lines that don't compile" % told)

@@ -2,7 +2,7 @@
 compares each of its reads and writes with those of a model, which shares no code with the project. With a C compiler memory, reads
 and writes are counted on long logs of each shape, and with valgrind steps (log_costs.py).
 
-Lines of nasty pieces, 100 times as many, are compared in the same way, each with every limit for values that stay.
+Lines of nasty pieces, 100 times as many, are compared in the same way, with each limit for values that stay.
 
 Last the built ufmt_conv reads texts in chunks, and each of its reads and writes is compared too.
 """
@@ -54,7 +54,8 @@ def wrong_runs(paths, batch, limit=log_model.LONGER_THAN):
     faults = []
     for (log, chunks), mode in itertools.product(batch, MODES):
         pieces, rounds = sent(mode, log, chunks, limit)
-        words = [*log_costs.ARGUMENTS[mode], *(["--longer-than", str(limit)] if mode == "pretty" and limit in LIMITS else [])]
+        is_limited = mode == "pretty" and limit in LIMITS
+        words = ["--longer-than", str(limit)] if is_limited else log_costs.ARGUMENTS[mode]
         for path in paths:
             fault = devices.fault(path, words, pieces, rounds)
             if fault:
@@ -92,7 +93,8 @@ def main(given):
         jobs = [pool.submit(wrong_texts, path, str(given.seed)) for path in converters]
         if shutil.which("cc"):
             jobs.append(pool.submit(log_costs.faults, paths[0]))
-        jobs += [pool.submit(wrong_runs, paths, nasty_logs(count * 100, str(given.seed)), limit) for limit in LIMITS]
+        lines = nasty_logs(count * 100, str(given.seed))
+        jobs += [pool.submit(wrong_runs, paths, lines, limit) for limit in LIMITS]
         jobs.append(pool.submit(wrong_runs, paths, [(FIVE_FORMATS, logs.whole(FIVE_FORMATS))]))
         pairs = logs.logs(count, str(given.seed))
         while batch := list(itertools.islice(pairs, BATCH)):

@@ -36,8 +36,8 @@ def number(dice):
 
 
 def made(seed):
-    """Requests of each two of the bounds as the width of a column and the length of a text, and as the length of a row and that
-    of what is dumped. One seed makes the same ones each time."""
+    """Requests of each two of the bounds as the width of a column and the length of a text, and as the length
+    of a row and that of what is dumped. One seed makes the same ones each time."""
     dice = random.Random(seed)
     choice = dice.choice
 

@@ -1,7 +1,7 @@
 """Documents that fill each cell of the table of coverage, and of what only debug texts have. What a cell leaves open is chosen at
 random."""
-from lib.model.coverage import (BLOCKS, DEBUG_LEAVES, DEBUG_PLACES, DEPTHS, EXACT_ENTRIES, EXACT_LENGTH, LEAVES, MANY, OPEN_STRUCTS,
-                                PLACES, powers)
+from lib.model.coverage import (BLOCKS, DEBUG_LEAVES, DEBUG_PLACES, DEPTHS, EXACT_ENTRIES, EXACT_LENGTH,
+                                LEAVES, MANY, OPEN_STRUCTS, PLACES, powers)
 from lib.model.debug_leaves import ESCAPED, SHAPES
 from lib.model.document import DEEPEST, STRUCTS, Block, list_of, quoted, tuple_of
 
@@ -18,7 +18,7 @@ def turns(row):
 
 
 class Covering:
-    """Of token texts. What debug texts have more are other blocks and structs; kinds and places are all that a class has."""
+    """Of token texts. Debug texts have other blocks and structs; kinds and places are all of a class."""
 
     blocks, structs, in_places, kinds = BLOCKS, ("struct",), PLACES, BLOCKS + LEAVES
 
@@ -62,7 +62,8 @@ class Covering:
         sizes = self.sizes(EXACT_LENGTH, 16384)
         for sixteen in (sizes[at : at + 16] for at in range(0, len(sizes), 16)):
             for kind in self.structs:
-                named = [Block(kind, self.word(size), [(self.word(size), self.word(size))]) for size in sixteen]
+                fields = [[(self.word(size), self.word(size))] for size in sixteen]
+                named = [Block(kind, self.word(size), its) for size, its in zip(sixteen, fields)]
                 yield Block("set", "", [(None, each) for each in named])
             yield list_of(*(tuple_of(self.text(size), name=self.word(size)) for size in sixteen))
         for size in map(self.within, powers(262144)[15:]):
@@ -103,15 +104,16 @@ class Covering:
         yield self.spine(lambda depth: map(self.of_kind, self.kinds if depth < DEEPEST else may_be_last))
         yield self.spine(lambda depth: map(self.word, map(self.within, powers(1024))))
         for kind in (*self.structs, "tuple"):
-            named = [Block(kind, self.word(size), [(self.word(size) if kind in STRUCTS else None, self.maker.small())])
-                     for size in map(self.within, powers(512))]
+            sizes = [self.within(size) for size in powers(512)]
+            names = [self.word(size) if kind in STRUCTS else None for size in sizes]
+            named = [Block(kind, self.word(size), [(name, "x")]) for size, name in zip(sizes, names)]
             yield from named
             yield self.spine(lambda depth, named=named: named if depth < DEEPEST else [], 1)
         yield self.spine(lambda depth: [self.wide(self.random.choice(self.blocks), self.within(size))
                                         for size in powers(256) if depth < DEEPEST], 1)
         # Maps in the keys of maps, with so many entries at some depths.
-        for count in (1, 2, 3):
-            yield self.nested(self.depths(-1) | {1}, lambda _depth: [self.maker.leaf() for _ in range(count - 1)], "key")
+        for more in (0, 1, 2):
+            yield self.nested(self.depths(-1) | {1}, lambda _depth: self.random.choices("xyz", k=more), "key")
 
     def depths(self, less):
         """A depth of each class, less this."""

@@ -90,7 +90,8 @@ class LeafMaker:
     def any_word(self, length):
         """A word of any characters, most often ASCII."""
         if self.random.random() < 0.8:
-            return "".join(self.random.choices(self.random.choice(("ab19.-+<>=_/", POINTS + PAST_ASCII + "ab")), k=length))
+            some = self.random.choice(("ab19.-+<>=_/", POINTS + PAST_ASCII + "ab"))
+            return "".join(self.random.choices(some, k=length))
         found = [characters.any_character(self.random) for _ in range(length)]
         return "".join(character if is_in_word(character) else "." for character in found)
 

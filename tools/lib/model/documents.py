@@ -124,11 +124,12 @@ class Maker:
 
     def changed(self, data):
         """The text with a change, most often by one byte or one piece."""
-        at, (piece, old) = self.random.randrange(len(data) + 1), map(str.encode, self.random.choices(self.pieces, k=2))
+        at = self.random.randrange(len(data) + 1)
+        piece, old = map(str.encode, self.random.choices(self.pieces, k=2))
         before, after = data[:at], data[at:]
         return self.random.choice((
-            before, after, before + after[1:], before + piece + after[1:], before + self.random.choice(BAD_BYTES) + after,
-            before + after.replace(old, piece, 1), data + piece, before + piece + after,
+            before, after, before + after[1:], before + piece + after[1:], before + piece + after, data + old,
+            before + self.random.choice(BAD_BYTES) + after, before + after.replace(old, piece, 1),
         ))
 
     def data(self):

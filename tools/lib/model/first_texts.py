@@ -49,7 +49,7 @@ def changed():
 
 
 def at_limits(maker):
-    """A document at each depth in each place, up to one that is too deep, and leaves of each length, also in some place."""
+    """A document at each depth in each place, up to one that is too deep; leaves of each length."""
     for depth, place in itertools.product((*DEPTHS, DEEPEST, DEEPEST + 1), maker.places):
         document = maker.random.choice((maker.leaf(), maker.empty(), "x"))
         for _ in range(depth):
@@ -62,8 +62,9 @@ def at_limits(maker):
 def noise(maker):
     """Pieces in a row, characters, lines of a few letters, and any bytes."""
     for size in powers(131072):
-        yield from ((maker.random.choice(maker.pieces).encode() * size)[:size], maker.characters(size).encode())
-        yield from (b"\n".join([b"a" * maker.random.randrange(9)] * (size // 4)), maker.random.randbytes(size))
+        piece, line = maker.random.choice(maker.pieces).encode(), b"a" * maker.random.randrange(9) + b"\n"
+        yield from ((piece * size)[:size], maker.characters(size).encode())
+        yield from (line * (size // 4), maker.random.randbytes(size))
 
 
 def first_texts(seed):

@@ -130,7 +130,8 @@ def told(form, word):
 def after_name(data, at):
     """What is printed of the name before a place, if a colon and a space come after one."""
     before = data[:at]
-    return told(", after `%s: `", before[len(before[:-2].rstrip(NAME_BYTES)) : -2] if before.endswith(b": ") else b"")
+    name = before[len(before[:-2].rstrip(NAME_BYTES)) : -2] if before.endswith(b": ") else b""
+    return told(", after `%s: `", name)
 
 
 def found_at(data, at):

@@ -7,7 +7,7 @@ from lib.rust.table import UNSAFE, rows
 
 # Words that no line of Rust here has. One that is left after the removal is a form that the tool doesn't know.
 UNKNOWN = ("ghost", "requires", "ensures", "tactic", "cycle", "Model", "Drop", "prove")
-# Comments of promises, attributes, what is left of bounds that only proofs read, and where lines were removed.
+# Comments of promises, attributes, and what is left of bounds that only proofs read and of removed lines.
 GHOST = rows("ghost")
 MATHEMATICS = re.compile(r"[^\x00-\x7f]")
 
