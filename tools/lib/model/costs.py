@@ -73,14 +73,15 @@ class Run:
 
     def rows(self):
         """Steps of each call, or memory of each that allocates some."""
-        rows, name = {}, "%s: %s" if self.is_counted else "%s: %s, memory"
+        rows, end = {}, "" if self.is_counted else ", memory"
         for one, half, _, call, counts in self.calls():
             if self.is_counted:
                 its = [("steps", counts - self.around)]
             else:
                 its = [(label, getattr(counts, label)) for label in MEMORY if counts.allocations]
             if its:
-                rows.setdefault(name % (one.name, half), []).extend(("%s: %s" % (call, label), it) for label, it in its)
+                row = rows.setdefault("%s: %s%s" % (one.name, half, end), [])
+                row += (("%s: %s" % (call, label), count) for label, count in its)
         return rows
 
 
@@ -130,6 +131,7 @@ def part_faults(counter, program, number, is_counted):
 
 def measured_rows(counter, program):
     rows = Run(counter, program, requested(), "measured", True).rows()
-    for number, (size, is_counted) in itertools.product(range(PARTS), ((COUNTED_SIZE, True), (TIMED_SIZE, False))):
+    kinds = (COUNTED_SIZE, True), (TIMED_SIZE, False)
+    for number, (size, is_counted) in itertools.product(range(PARTS), kinds):
         rows.update(Run(counter, program, list(samples(size, number)), "measured", is_counted).rows())
     return rows
