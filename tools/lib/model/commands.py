@@ -1,13 +1,11 @@
 """Runs of ufmt_conv and ufmt_lines: what they take of steps, memory and calls of their devices, beside what was measured in the past,
 the rows of tools/data/measured/texts.txt; and texts of 16 MiB by the calls of the library."""
-import resource
-import subprocess
 from collections import namedtuple
 from concurrent.futures import ThreadPoolExecutor
 
 from lib import measures
 from lib.log_model import log_model
-from lib.model import shapes, verdicts
+from lib.model import shapes
 from lib.model.costs import MEASURED, SECONDS
 from lib.model.document import list_of, plain, pretty
 
@@ -126,34 +124,13 @@ def measured_rows(counter, programs):
 # ---- Large texts. None of their costs is counted.
 
 SIZE = 16 * 1024 * 1024
-# A run that takes more seconds of the processor is a fault.
-PROCESSOR_SECONDS = 60
 
 
 def listed(leaf, count):
     return "[%s]" % ", ".join([leaf] * count), "[\n%s]" % ("    %s,\n" % leaf * count)
 
 
-# Each makes both texts of a document. Of a list of more words the model would take many minutes.
-DOCUMENTS = {
-    "a long word": lambda: ("x" * SIZE,),
-    "a long text": lambda: ('"%s"' % ("a" * SIZE),),
-    "a list of long words": lambda: listed("x" * 65536, SIZE // 65536),
-    "a list of short words": lambda: listed("x", 1_500_000),
-}
-
-
-def run_fault(program, text):
-    ran = subprocess.run([str(program)], input=b"%d\n%s" % (len(text), text), capture_output=True,
-                         preexec_fn=lambda: resource.setrlimit(resource.RLIMIT_CPU, (PROCESSOR_SECONDS, PROCESSOR_SECONDS)))
-    wanted, given = verdicts.verdict(text)[0] + "\n", ran.stdout.decode()
-    if ran.returncode != 0 or given != wanted:
-        return "status %d, wanted %d bytes, got %d that start with %r; %s" % (ran.returncode, len(wanted), len(given), given[:60], ran.stderr[-200:])
-    return None
-
-
-def large_faults(program):
-    """The faults of runs of probe_model on these texts, and how many there were."""
-    texts = [(name, text.encode()) for name, make in DOCUMENTS.items() for text in make()]
-    found = [(name, run_fault(program, text)) for name, text in texts]
-    return ["%s: %s" % it for it in found if it[1]], len(texts)
+def large_texts():
+    """A word, a text, and lists of long words and of short ones. Of more words the model would take many minutes."""
+    texts = "x" * SIZE, '"%s"' % ("a" * SIZE), *listed("x" * 65536, SIZE // 65536), *listed("x", 1_500_000)
+    return map(str.encode, texts)

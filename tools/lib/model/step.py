@@ -9,6 +9,7 @@ so are runs of both programs (commands.py). Memory is counted if there is a C co
 only passes texts of 16 MiB, and one of 1,500,000 words, to every call of the library, in some minutes.
 """
 import concurrent.futures
+import itertools
 import subprocess
 
 from lib import running
@@ -98,8 +99,8 @@ def counted(meter, number):
 def main(given):
     programs = counter.programs_of(given.program)
     if given.full:
-        wrong, count = commands.large_faults(programs["probe_model"])
-        return ended(wrong, "%d texts of 16 MiB" % count)
+        wrong = [wrong_lines(programs["probe_model"], [text])[0] for text in commands.large_texts()]
+        return ended(itertools.chain(*wrong), "%d texts of 16 MiB" % len(wrong))
     faults, cells, costs_counted = [], set(), 0
     with running.room("texts") as room, concurrent.futures.ProcessPoolExecutor() as pool:
         meter = counter.Counter(room)
