@@ -138,7 +138,7 @@ def tried_programs(counter, pool):
     for case in cases():
         words = [needs.built(case.program), *case.words]
         numbers = range(case.allocations + ASKED_AGAIN + QUIET + 1)
-        ample, *runs = pool.map(lambda it: counter.run_refused(words, case.text, "program-%d" % it, it), numbers)
+        ample, *runs = pool.map(lambda it: counter.run_refused(words, case.text, "run-%d" % it, it), numbers)
         found = faults_of(case, ample, runs)
         faults += ["%s %s of %s: %s" % (case.program, " ".join(case.words), case.text[:20], fault) for fault in found]
         count += len(runs)
