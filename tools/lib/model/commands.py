@@ -131,6 +131,6 @@ def listed(leaf, count):
 
 
 def large_texts():
-    """A word, a text, and lists of long and of short words. Of more words the model would take many minutes."""
+    """A word, a text, lists of long and of short words. Of more words the model would take many minutes."""
     texts = "x" * SIZE, '"%s"' % ("a" * SIZE), *listed("x" * 65536, SIZE // 65536), *listed("x", 1_500_000)
     return map(str.encode, texts)
