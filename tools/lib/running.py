@@ -7,7 +7,6 @@ import concurrent.futures
 import contextlib
 import os
 import pathlib
-import select
 import signal
 import subprocess
 import sys
@@ -25,14 +24,13 @@ class Job:
     """A command, by its name. When it has ended: its status, its seconds, and the lines that it printed."""
 
     def __init__(self, name, words, folder=None):
-        self.name, self.words, self.folder = name, [str(word) for word in words], folder
+        self.name, self.words, self.folder = name, words, folder
         self.status, self.seconds, self.lines, self.since = None, 0, [], None
 
     def run(self):
         self.since = time.monotonic()
-        process = begun(self.words, cwd=self.folder, stdin=subprocess.DEVNULL, stdout=subprocess.PIPE, stderr=subprocess.STDOUT,
-                        env={**os.environ, INSIDE: "1"})
-        self.lines = process.communicate()[0].decode(errors="replace").splitlines()
+        process = begun(self.words, cwd=self.folder, env={**os.environ, INSIDE: "1"})
+        self.lines = process.communicate()[0].splitlines()
         self.status, self.seconds = process.returncode, time.monotonic() - self.since
         return self
 
@@ -50,23 +48,11 @@ def heartbeat(name):
 
 
 def begun(words, **how):
-    process = subprocess.Popen(words, start_new_session=True, **how)
+    """A process without input, with a pipe for the text of both of its outputs."""
+    process = subprocess.Popen(list(map(str, words)), start_new_session=True, errors="replace", **how,
+                               stdin=subprocess.DEVNULL, stdout=subprocess.PIPE, stderr=subprocess.STDOUT)
     started.append(process)
     return process
-
-
-def lines_of(process):
-    """The lines that a process prints on the pipe of its standard output, and None for each minute in which none came."""
-    left, pipe = b"", process.stdout.fileno()
-    while True:
-        if not select.select([pipe], [], [], SAY)[0]:
-            yield None
-            continue
-        data = os.read(pipe, 65536)
-        *whole, left = (left + data).split(b"\n")
-        yield from (line.decode(errors="replace") for line in (whole if data else filter(None, [left])))
-        if not data:
-            return
 
 
 @contextlib.contextmanager

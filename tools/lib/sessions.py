@@ -39,14 +39,12 @@ def sessions_of(path):
 
 def said_by(script, room, environment):
     """What a shell says on both outputs. If it takes too long, all that it started ends."""
-    shell = running.begun(["bash", "-c", script], cwd=room, env=environment, stdin=subprocess.DEVNULL, stdout=subprocess.PIPE,
-                          stderr=subprocess.STDOUT)
+    shell = running.begun(["bash", "-c", script], cwd=room, env=environment)
     try:
-        said, _ = shell.communicate(timeout=SECONDS)
+        return shell.communicate(timeout=SECONDS)[0]
     except subprocess.TimeoutExpired:
         os.killpg(shell.pid, signal.SIGKILL)
-        said, _ = shell.communicate()
-    return said.decode(errors="replace")
+        return shell.communicate()[0]
 
 
 def faults_of(commands, variables):

@@ -135,13 +135,10 @@ def faults_of(case, ample, runs):
 def tried_programs(counter, pool):
     """The faults of all cases, and how many runs and refusals there were."""
     faults, count, refusals = [], 0, 0
-    for place, case in enumerate(cases()):
-
-        def run(number):
-            words = [needs.built(case.program), *case.words]
-            return counter.run_refused(words, case.text, "%s-%d-%d" % (case.program, place, number), number)
-
-        ample, *runs = pool.map(run, range(case.allocations + ASKED_AGAIN + QUIET + 1))
+    for case in cases():
+        words = [needs.built(case.program), *case.words]
+        numbers = range(case.allocations + ASKED_AGAIN + QUIET + 1)
+        ample, *runs = pool.map(lambda it: counter.run_refused(words, case.text, "run-%d" % it, it), numbers)
         found = faults_of(case, ample, runs)
         faults += ["%s %s of %s: %s" % (case.program, " ".join(case.words), case.text[:20], fault) for fault in found]
         count += len(runs)

@@ -134,27 +134,21 @@ def before(exports, parts, name, names):
     return "".join(part + "::" for part in parts[first:end])
 
 
-def of_crate(crate):
+def items_in(crate, names=None):
+    """The items that a crate has, or hands on from another: all that are public, or those of these names."""
     folder = TOP / "crates" / crate / "src"
-    found = list(items_shown(crate))
-    for other, names in handed_on((folder / "lib.rt").read_text()):
-        found += of_names(other, names)
-    return [*found, *macros_of(sources(folder), MACROS)]
-
-
-def of_names(crate, names):
-    """The items of these names that a crate has, or hands on from another."""
     found = list(items_shown(crate, names))
-    for path in sources(TOP / "crates" / crate / "src"):
+    for path in [folder / "lib.rt"] if names is None else sources(folder):
         for other, further in handed_on(path.read_text()):
-            found += of_names(other, names & further) if names & further else []
+            wanted = further if names is None else names & further
+            found += items_in(other, wanted) if wanted else []
     return found
 
 
 def section(crate):
     """The part of a crate: the calls outside of types first, then each type with its calls, by name."""
     groups = {}
-    for item in of_crate(crate):
+    for item in [*items_in(crate), *macros_of(sources(TOP / "crates" / crate / "src"), MACROS)]:
         groups.setdefault(("" if item.is_free else item.group, item.module), []).append(item)
     yield "\n## `%s`\n\n%s\n\n%s" % (crate, about(crate), (WORDS / (crate + ".md")).read_text(encoding="utf-8"))
     for (group, module), items in sorted(groups.items(), key=lambda found: (found[0][0] != "", found[0][0].lower(), found[0][1])):
@@ -168,12 +162,9 @@ def about(crate):
     return " ".join(lines[: lines.index("")] if "" in lines else lines)
 
 
-def text():
-    return (TOP / "tools" / "data" / "api.md").read_text(encoding="utf-8") + "".join(part for crate in CRATES for part in section(crate))
-
-
 def files():
-    return [("docs/API.md", text())]
+    head = (TOP / "tools" / "data" / "api.md").read_text(encoding="utf-8")
+    return [("docs/API.md", head + "".join(part for crate in CRATES for part in section(crate)))]
 
 
 def main(_given):

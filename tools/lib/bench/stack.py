@@ -79,7 +79,7 @@ class Frames:
         self.frames = {start: frame(its, lines, start) for start, its in lines.items()
                        if not self.names[start].endswith("@plt")}
         symbols = re.findall(r"(?m)^([0-9a-f]+) [tTwW] (.*)$", output_of(["nm", program]))
-        self.addresses, self.known, self.reach = {name: int(address, 16) for address, name in symbols}, {}, {}
+        self.addresses = {name: int(address, 16) for address, name in symbols}
 
     def next_of(self, start):
         """What a function calls or continues as, each with the bytes before it."""
@@ -93,30 +93,26 @@ class Frames:
         for target in its.jumps - its.calls:
             yield target, 0
 
+    @functools.lru_cache(maxsize=None)
     def reached(self, start):
         """The functions that a function reaches by calls: itself, if it is in a cycle."""
-        if start not in self.reach:
-            found, left = set(), [start]
-            while left:
-                its = self.frames.get(left.pop())
-                more = (its.calls | its.jumps) & self.frames.keys() - found if its else ()
-                found.update(more)
-                left += more
-            self.reach[start] = found
-        return self.reach[start]
+        found, left = set(), [start]
+        while left:
+            its = self.frames.get(left.pop())
+            more = (its.calls | its.jumps) & self.frames.keys() - found if its else ()
+            found.update(more)
+            left += more
+        return found
 
     def most(self, name):
         """What a call of the function with this name takes at most, with its return address."""
         most = self.most_at(self.addresses[name])
         return most._replace(size=most.size + RETURN_ADDRESS)
 
+    @functools.lru_cache(maxsize=None)
     def most_at(self, start):
         """What the function takes at most. Within a cycle's functions each path is gone that comes to none twice."""
-        if start not in self.frames:
-            return Most(0, 0, ())
-        if start not in self.known:
-            self.known[start] = self.walked(start, start, 0, (start,))
-        return self.known[start]
+        return self.walked(start, start, 0, (start,)) if start in self.frames else Most(0, 0, ())
 
     def walked(self, root, start, before, path):
         """The most from here on, of a path that began at the root with so many bytes before this function."""

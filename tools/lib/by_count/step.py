@@ -9,8 +9,8 @@ in a line `====`, the second comes for each number of fields. A line that begins
 """
 import re
 
+from lib import data
 from lib.command.generate import compare
-from lib.data import DATA
 
 MOST = 12
 TYPES, PARSERS = "ABCDEFGHIJKL", "PQRSTUVWXYZN"
@@ -59,46 +59,28 @@ def wrapped(found):
 
 
 def written(name, counts, words):
-    parts = re.sub(r"(?m)^# .*\n", "", (DATA / "by_count" / name).read_text(encoding="utf-8")).split("====\n")
+    text = (data.DATA / "by_count" / name).read_text(encoding="utf-8")
+    parts = re.sub(r"(?m)^# .*\n", "", text).split("====\n")
     if len(parts) == 1:
         return filled(parts[0], counts[0], words).rstrip("\n") + "\n"
     head, each, tail = parts
     return filled(head, MOST, words) + "".join(filled(each, count, words) for count in counts).rstrip("\n") + "\n" + filled(tail, MOST, words)
 
 
-SHARED = {"{written}": "`x generate` writes this file: change its template in tools/data/by_count."}
-STRUCT = {**SHARED, "{block}": "struct", "{list}": "Fields", "{same}": "SameFields", "{row}": "fields_of",
-          "{compared}": "_ _ _ _ _ _"}
-TUPLE = {**SHARED, "{block}": "tuple", "{list}": "Documents", "{same}": "SameDocuments", "{row}": "documents", "{compared}": "_ _ _ _ _"}
-EACH = range(1, MOST + 1)
-# The calls that parse a kind of block are in two files, with these numbers of fields.
-HALVES = {"few": range(1, 7), "many": range(7, MOST + 1)}
-CORE, PARSER, VALUES = "crates/ufmt_core/src/", "crates/ufmt_parser/", "crates/ufmt_parse/"
-# Files with a part for each number of fields, with their templates.
-WHOLE = {CORE + "tuple_impls.rt": "print_tuples.rt.txt", CORE + "laws/of_tuples.rt": "print_law.rt.txt",
-         VALUES + "src/core_impls/tuples.rt": "parse_tuples.rt.txt", VALUES + "src/laws/of_tuples.rt": "parse_law.rt.txt",
-         PARSER + "src/by_count/field_parsers.rt": "field_parsers.rt.txt"}
-PRINTED = {"structs/by_count.rt": ("struct", "Whole structs", STRUCT), "tuple/by_count.rt": ("tuple", "Whole tuples", TUPLE),
-           "structs/non_exhaustive_by_count.rt": ("non_exhaustive", "Structs that end in `..`,", STRUCT)}
+def words_of(cells):
+    return {"{%s}" % word: text for word, text in (cell.split("=", 1) for cell in cells)}
 
 
 def files():
-    for path, template in WHOLE.items():
-        yield path, written(template, EACH, SHARED)
-    for path, (kind, about, words) in PRINTED.items():
-        yield CORE + path, written("print_blocks.rt.txt", range(MOST + 1), {**words, "{kind}": kind, "{about}": about})
-    for count in EACH:
-        impl = "Tuple%d%sFieldParsersTuple%d" % (count, "Ref" * count, count)
-        yield PARSER + "proofs/by_count/field_parsers/%s/parse_rest/Answers.antt" % impl, written("field_parsers.antt.txt", [count], SHARED)
-        yield VALUES + "proofs/core_impls/tuples/Tuple%duParse/parse_from/Answers.antt" % count, written("parse_tuples.antt.txt", [count], SHARED)
-    for kind, words in (("struct", STRUCT), ("tuple", TUPLE)):
-        for half, counts in HALVES.items():
-            words = {**words, "{kind}": kind, "{half}": half, "{call}": "c.parse_" + kind, "{about}": kind.capitalize() + "s",
-                     "{first}": str(counts[0]), "{last}": str(counts[-1])}
-            yield PARSER + "src/by_count/%ss/%s.rt" % (kind, half), written("parse_blocks.rt.txt", counts, words)
-            for count in counts:
-                answers = "proofs/by_count/%ss/%s/parse_%s_%d/Answers.antt" % (kind, half, kind, count)
-                yield PARSER + answers, written("parse_blocks.antt.txt", [count], words)
+    tables = data.rows("by_count/files.txt")
+    shared = words_of(tables["shared"][0])
+    for part in ("all in a file", "each in a file"):
+        for path, template, numbers, kind, *more in tables[part]:
+            first, last = numbers.split("-")
+            words = {**shared, **words_of([*tables[kind][0], *more, "first=" + first, "last=" + last])}
+            counts = range(int(first), int(last) + 1)
+            for its in [counts] if part == "all in a file" else [[count] for count in counts]:
+                yield filled(path, its[0], words), written(template, its, words)
 
 
 def in_one_line(text):

@@ -1,5 +1,6 @@
 """The calls of libufmt_c: what each takes, and what it must return and leave, by models that share no code with the project: those
 of texts and of lines in tools/lib/model/ and tools/lib/log_model/, and Python's own decoding of UTF-8."""
+import itertools
 import re
 from collections import namedtuple
 
@@ -168,11 +169,10 @@ def float_fixed(bits, decimals):
 def first_difference(given, stored):
     """The number of the first line in which two texts differ, or 0, and the message about it."""
     given, stored = (data.decode().split("\n") for data in (given, stored))
-    for at in range(max(len(given), len(stored))):
-        lines = [lines[at] if at < len(lines) else None for lines in (given, stored)]
+    for number, lines in enumerate(itertools.zip_longest(given, stored), 1):
         if lines[0] != lines[1]:
             shown = ["none" if line is None else quoted(line) for line in lines]
-            return at + 1, "line %d differs\n given: %s\nstored: %s" % (at + 1, *shown)
+            return number, "line %d differs\n given: %s\nstored: %s" % (number, *shown)
     return 0, ""
 
 

@@ -93,9 +93,9 @@ HUGE_SECONDS = 20
 RANDOM_CASES, LEAST_RANDOM, RANDOM_EACH = 44_000, 100_000, 5
 
 
-def at_random(faults, program, seed):
+def at_random(faults, program, seed, known):
     """Makes random calls, some of them under valgrind. Returns how many, and how many of these."""
-    made = RandomCases(seed)
+    made = RandomCases(seed, known)
     tried = [(case, room) for case in made.made(RANDOM_CASES) for room in made.rooms(case)]
     if len(tried) < LEAST_RANDOM or {case.call for case, _ in tried} != set(CALLS) - {"version"}:
         faults.append(findings.case("random calls", "%d, of each name" % LEAST_RANDOM, "%d" % len(tried)))
@@ -156,7 +156,7 @@ def main(given):
         by_program(faults, program, tried_huge, seconds=HUGE_SECONDS)
         by_all = len(tried_huge) + by_program(faults, program, tried)
         tried += tried_huge
-        randomly, some = at_random(faults, program, given.seed)
+        randomly, some = at_random(faults, program, given.seed, made + huge)
         steps = costs.counted(program) if is_ours else {}
         faults += measures.Table("c").faults(steps) if steps else []
         if is_ours:

@@ -11,7 +11,7 @@ import fnmatch
 import re
 
 from lib import data
-from lib.contracts.functions import Exports, functions_of
+from lib.contracts.functions import public_functions
 from lib.contracts.source import sources
 from lib.findings import ended
 from lib.top import TOP, libraries
@@ -25,11 +25,10 @@ NAMED = re.compile(r"`([^`]+)` of (probe_\w+)")
 
 def public_of(crate):
     """The public functions, methods and macros of a library: `crate::name`, `crate::Type::name` or `crate::name!`."""
-    exports = Exports(CRATES / crate / "src")
-    for path in sources(CRATES / crate / "src"):
-        for function in functions_of(path):
-            if exports.has(function):
-                yield "::".join(filter(None, (crate, function.owner and function.owner_name(), function.name)))
+    folder = CRATES / crate / "src"
+    for _, function in public_functions(folder):
+        yield "::".join(filter(None, (crate, function.owner and function.owner_name(), function.name)))
+    for path in sources(folder):
         yield from ("%s::%s!" % (crate, name) for name in MACRO.findall(path.read_text()))
 
 

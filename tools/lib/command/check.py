@@ -15,10 +15,9 @@ import os
 import pathlib
 import shutil
 import signal
-import subprocess
 import sys
 
-from lib import needs, top
+from lib import needs, running, top
 from lib.command import verdict
 
 CHECKER = shutil.which("rattle")
@@ -40,12 +39,6 @@ def command(folder, kept, crate, lines, paths, jobs, tests):
     for path in paths:
         call += ["--only", path]
     return call
-
-
-def ended(run):
-    """Ends the checker and its processes, if this tool is ended."""
-    os.killpg(run.pid, signal.SIGTERM)
-    sys.exit("not checked: ended before the verdict")
 
 
 def add_arguments(parser):
@@ -71,16 +64,16 @@ def main(given):
     if not kept.is_dir():
         print("the first check of a repository also checks library functions, and may say nothing for minutes", flush=True)
     kept.mkdir(parents=True, exist_ok=True)
-    run = subprocess.Popen(command(folder, kept, given.crate, lines, paths, given.jobs, given.tests), cwd=folder, text=True,
-                           start_new_session=True, stdout=subprocess.PIPE, stderr=subprocess.STDOUT)
-    for number in (signal.SIGINT, signal.SIGTERM):
-        signal.signal(number, lambda _number, _frame: ended(run))
+    run = running.begun(command(folder, kept, given.crate, lines, paths, given.jobs, given.tests), cwd=folder)
     counts, short = None, verdict.Short(given.crate)
-    for line in run.stdout:
-        counts = verdict.ONLY.match(line) or counts
-        if not (verdict.PROVED.match(line) or verdict.ONLY.match(line) or line.startswith(verdict.NOISE)):
-            print(line if given.long else short.shown(line), end="", flush=True)
-    status = run.wait()
+    try:
+        for line in run.stdout:
+            counts = verdict.ONLY.match(line) or counts
+            if not (verdict.PROVED.match(line) or verdict.ONLY.match(line) or line.startswith(verdict.NOISE)):
+                print(line if given.long else short.shown(line), end="", flush=True)
+        status = run.wait()
+    except KeyboardInterrupt:
+        sys.exit("not checked: ended before the verdict")
     print(*short.ended(), sep="", end="")
     said = "%s of %s functions proved; " % (counts[2], counts[1]) if counts else ""
     if status < 0:

@@ -9,7 +9,6 @@ import contextlib
 import pathlib
 import re
 import resource
-import subprocess
 import time
 
 from lib import needs, running, steps, top
@@ -31,15 +30,14 @@ def add_arguments(parser):
 def proved():
     """Runs `rt ci`, shows what it prints, with how many crates are proved, and yields how it ended."""
     began, last, count, whole = time.monotonic(), "nothing was said", 0, len(top.listed())
-    process = running.begun(["rt", "ci"], cwd=top.TOP, stdin=subprocess.DEVNULL, stdout=subprocess.PIPE, stderr=subprocess.STDOUT)
-    for line in running.lines_of(process):
-        if line is not None:
-            say(line)
-            last = line.strip() or last
-        ended = ENDED.match(line or "")
-        count += bool(ended)
-        if ended or line is None:
-            say("%d of %d crates%s, after %d min" % (count, whole, ": " + ended[1] if ended else "", (time.monotonic() - began) // 60))
+    process = running.begun(["rt", "ci"], cwd=top.TOP)
+    for line in map(str.rstrip, process.stdout):
+        say(line)
+        last, ended = line.strip() or last, ENDED.match(line)
+        if ended:
+            count += 1
+            minutes = (time.monotonic() - began) // 60
+            say("%d of %d crates: %s, after %d min" % (count, whole, ended[1], minutes))
     yield trying.Result("rt ci", time.monotonic() - began, process.wait(), last)
 
 
@@ -51,6 +49,7 @@ def processor_minutes():
 
 def main(given):
     needs.require("ci", "rt")
+    running.heartbeat("x ci")
     began = time.monotonic()
     if LAST.exists():
         say("the last run on this machine took %s min" % LAST.read_text().strip())

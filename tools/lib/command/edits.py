@@ -40,18 +40,17 @@ def clone(room, crates):
 
 
 def main(given):
+    running.heartbeat("x edits")
     crates, refused, said, last = given.crates or having(), 0, 0, []
     with running.room("edits") as folder:
         room = folder / "clone"
         count = clone(room, crates)
-        process = running.begun(["rt", "must-fail", *crates], cwd=room, stdin=subprocess.DEVNULL, stdout=subprocess.PIPE, stderr=subprocess.STDOUT)
-        for line in running.lines_of(process):
-            last = [*last[-19:], line or ""]
-            if line is None:
-                print("%d of %d edits" % (said, count), flush=True)
-            elif line.startswith(SAYS):
-                print(line[len(SAYS):], flush=True)
+        process = running.begun(["rt", "must-fail", *crates], cwd=room)
+        for line in map(str.rstrip, process.stdout):
+            last = [*last[-19:], line]
+            if line.startswith(SAYS):
                 said += 1
+                print("%d of %d: %s" % (said, count, line[len(SAYS):]), flush=True)
                 refused += line.split(":")[2].strip().startswith("refused")
         process.wait()
     if not said:

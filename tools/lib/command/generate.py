@@ -1,8 +1,8 @@
 """Writes the files that have a call, impl, clause or proof for each number of fields, docs/API.md and docs/PROMISES.md.
 
 Run it after a change in tools/lib/by_count or in its templates, tools/data/by_count. It runs `rt fmt` in the crates of these
-files. docs/API.md changes with the public calls, and docs/PROMISES.md with the comments of promises in the sources. With
-`--check` it writes nothing: it compares the files with what it would write, but for spaces, line ends and last commas.
+files. docs/API.md changes with the public calls, and docs/PROMISES.md with the comments of promises in the
+sources. `x try generated api promises` compares the files with what it would write.
 """
 from lib import needs
 from lib.findings import ended
@@ -26,18 +26,16 @@ def compare(files, told, faults=(), same=str):
     return ended([*faults, *stale], told)
 
 
-def add_arguments(parser):
-    parser.add_argument("--check", action="store_true", help="compares the files, and prints a line for each that differs")
+def add_arguments(_parser):
+    pass
 
 
-def main(given):
+def main(_given):
     # These parts compare their files by this module.
     from lib.api import page as calls
     from lib.by_count import step as by_count
     from lib.promises import page as promises
 
-    if given.check:
-        return max(part.main(given) for part in (by_count, calls, promises))
     needs.require("generate", "rt")
     write(by_count.files())
     # docs/API.md shows lines of these files.

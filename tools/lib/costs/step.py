@@ -20,13 +20,8 @@ from lib.top import TOP
 # A text is whole, or has another list, map or text in it that isn't right at its end. So memory that isn't given back is seen on each way out.
 
 IMPLEMENTATION = re.compile(r"uParse<\w+>\s+for\s+([^{]+?)\s*\{")
-TABLES = data.parts("costs/types.txt")
 # An implementation as its source has it, a type, and texts of the type by a size.
 Parsed = namedtuple("Parsed", "implementation type texts")
-
-
-def plainly(*texts):
-    return lambda _size: list(texts)
 
 
 def quoted(size):
@@ -35,35 +30,37 @@ def quoted(size):
     return texts + ['"%s%s%s"' % (escape, "é" * size, end) for escape in ("", "\\n") for end in ("", "\udcff")]
 
 
-def wide(begin, item, end, size, pretty_item=None):
-    """A list or set of so many items; one without its end, and one with a wrong item at its end; and the pretty text."""
-    whole = begin + ", ".join(map(item, range(size)))
-    lines = ("    %s,\n" % it for it in map(pretty_item or item, range(size)))
+def in_forms(size, *forms):
+    """Each form, with each of those texts where it has a place for one."""
+    texts = {form: quoted(size) if "TEXT" in form else [""] for form in forms}
+    return [form.replace("TEXT", text) for form in forms for text in texts[form]]
+
+
+def items(form, numbers):
+    return [form.format(number, short=100 + number % 100) for number in numbers]
+
+
+def wide(begin, end, size, form, pretty_form):
+    """A list or set of so many items; one without its end, one with a wrong item there; the pretty text."""
+    whole = begin + ", ".join(items(form, range(size)))
+    lines = ("    %s,\n" % it for it in items(pretty_form, range(size)))
     return [whole + end, whole, whole + ", ?" + end, begin + "\n" + "".join(lines) + end]
 
 
-def listed(item):
-    return lambda size: wide("[", item, "]", size)
+def listed(size, form):
+    return wide("[", "]", size, form, form)
 
 
-def sorted_keys(item, pretty_item=None):
+def sorted_keys(size, form, pretty_form=None):
     """The same in order, with the last key before the others, with it twice, and in the other order."""
-    def texts(size):
-        others = ([*range(1, size), 0], [*range(size), size - 1], range(size - 1, -1, -1))
-        return wide("{", item, "}", size, pretty_item) + ["{%s}" % ", ".join(map(item, numbers)) for numbers in others]
-    return texts
+    others = ([*range(1, size), 0], [*range(size), size - 1], range(size - 1, -1, -1))
+    wrong = ["{%s}" % ", ".join(items(form, numbers)) for numbers in others]
+    return wide("{", "}", size, form, pretty_form or form) + wrong
 
 
-def number(value):
-    return "%d" % (100 + value % 100)
-
-
-short_text = '"{}"'.format
-
-
-def array(size, item):
+def array(_size, length, form):
     """A list as long as the array, one with an item less, and one with an item more."""
-    return plainly(*("[%s]" % ", ".join(map(item, range(count))) for count in (size, size - 1, size + 1)))
+    return ["[%s]" % ", ".join(items(form, range(int(length) + more))) for more in (0, -1, 1)]
 
 
 def trees(size):
@@ -78,42 +75,17 @@ def nodes(size):
     return [node, node[:-1]]
 
 
-# The texts by a size, as the table names them.
-BY_SIZE = {
-    "a text": quoted,
-    "a result": lambda size: ["Ok(%s)" % it for it in quoted(size)] + ["Err('a')", "Err(a)"],
-    "a control flow": lambda size: ["Break(1)"] + ["Continue(%s)" % it for it in quoted(size)],
-    "a list of numbers": listed(number),
-    "a list of long numbers": listed("184467440737{:08d}".format),
-    "a list of texts": listed(short_text),
-    "a list of lists": listed("[1, 2]".format),
-    "a set of numbers": sorted_keys(str),
-    "a set of texts": sorted_keys('"{:06d}"'.format),
-    "a map of options": sorted_keys('"{:06d}": Some(7)'.format, '"{:06d}": Some(\n        7,\n    )'.format),
-    "a map of lists": sorted_keys("{}: [1, 2]".format),
-    "a tree": trees,
-    "nodes in a row": nodes,
-}
-
-
-def tuple_of(count):
-    fields = ["255", "true"] * count
-    longer, wrong = fields[: count + 1], [*fields[: count - 1], "?"]
-    texts = plainly(in_parentheses(fields[:count]), "(%s)" % ", ".join(longer), "(%s)" % ", ".join(wrong))
-    return Parsed(in_parentheses("ABCDEFGHIJKL"[:count]), in_parentheses((["u8", "bool"] * count)[:count]), texts)
-
-
-def in_parentheses(names):
-    return "(%s)" % ", ".join(names) if len(names) > 1 else "(%s,)" % names[0]
+# The texts by a size and what else a row has, by the part of the table.
+MAKERS = {"small": lambda _size, *texts: list(texts), "texts": in_forms, "lists": listed, "keys": sorted_keys,
+          "arrays": array, "trees": trees, "nodes": nodes}
 
 
 def types():
-    small, by_size = ([row.split(" => ") for row in TABLES[part]] for part in ("small", "by size"))
-    yield from (Parsed(implementation, name, plainly(*map(data.text_of, texts))) for implementation, name, *texts in small)
-    yield from (Parsed(implementation, name, BY_SIZE[texts]) for implementation, name, texts in by_size)
-    yield from (Parsed("[T; N]", "[u16; %d]" % size, array(size, number)) for size in (1, 3, 16))
-    yield Parsed("[T; N]", "[String; 4]", array(4, short_text))
-    yield from map(tuple_of, range(1, 13))
+    for part, rows in data.rows("costs/types.txt").items():
+        make = MAKERS[part]
+        for implementation, name, *cells in rows:
+            given = list(map(data.text_of, cells))
+            yield Parsed(implementation, name, lambda size, make=make, given=given: make(size, *given))
 
 
 def missing():
@@ -150,7 +122,7 @@ def built(room):
     folder.mkdir(parents=True)
     (folder / "main.rt").write_text(source())
     shutil.copy(COUNTED, folder / "costs.rt")
-    return build.quick_program(room, "costs", below)
+    return build.program(room, "costs", below, is_quick=True)
 
 
 def lines():

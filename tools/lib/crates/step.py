@@ -51,10 +51,6 @@ def run(room, name, arguments):
     return running.said(["rt", "try", "--seconds", SECONDS, *arguments], cwd=room / "crates" / name)[1]
 
 
-def read(folder):
-    return {path.name[: -len(".rt.txt")]: path.read_text() for path in sorted(folder.glob("*.rt.txt"))}
-
-
 def wanted_in(module, text):
     for comment, name in TEST.findall(text):
         _, fails, message = "".join(line[3:] for line in comment.splitlines(True)).partition("fails:\n")
@@ -76,10 +72,6 @@ class Tests:
         modules = "".join("mod %s;\n" % module for module in sorted(files))
         written = {"tests/%s.rt" % module: text for module, text in files.items()}
         write(room, "tests", {"lib.rt": TESTS, "tests.rt": "//! All of them.\n" + modules, **written})
-
-    def counts(self):
-        failing = sum(wanted != PASS for wanted in self.wanted.values())
-        return len(self.wanted) - failing, failing
 
     def faults(self):
         said = run(self.room, "tests", ["--test", "--fail-alloc", self.refused])
@@ -209,7 +201,8 @@ def missing_rows(files):
 
 def main(given):
     is_all = given.full
-    files = read(CRATES / "tests")
+    paths = sorted((CRATES / "tests").glob("*.rt.txt"))
+    files = {path.name.removesuffix(".rt.txt"): path.read_text() for path in paths}
     if not files or not list((CRATES / "refused").glob("*.txt")):
         sys.exit("tools/data/crates/tests or tools/data/crates/refused has no file")
     faults = list(missing_rows(files))
@@ -225,6 +218,7 @@ def main(given):
         with ThreadPoolExecutor(3) as pool:
             for found in pool.map(lambda crate: crate.faults(), crates):
                 faults += found
-    passing, failing = crates[0].counts()
-    return ended(faults, "%d crates: %d tests that pass, %d that fail, %d lines that don't compile" % (
-        len(crates), passing, failing, sum(len(crate.snippets) for crate in crates[1:])))
+    passing = [wanted == PASS for wanted in crates[0].wanted.values()]
+    lines = sum(len(crate.snippets) for crate in crates[1:])
+    told = len(crates), sum(passing), len(passing) - sum(passing), lines
+    return ended(faults, "%d crates: %d tests that pass, %d that fail, %d lines that don't compile" % told)

@@ -20,17 +20,12 @@ from lib.floats import patterns
 
 COUNT = 20_000
 
-
-def built(name, libraries, room):
-    """Built of tools/data/floats/NAME.rt.txt over copies of these libraries and of what is below them, with nothing proved."""
-    return build.over_copies(room, name, libraries, "floats")
-
-
-ours = functools.partial(built, "floats", ["ufmt_fixed"])
+built = functools.partial(build.over_copies, folder="floats")
+ours = functools.partial(built, name="floats", names=["ufmt_fixed"])
 # What its calls take is counted.
-by_ufmt = functools.partial(built, "by_ufmt", ["ufmt"])
+by_ufmt = functools.partial(built, name="by_ufmt", names=["ufmt"])
 # It prints an exponent or a point by rules of its own.
-ryu = functools.partial(built, "ryu_floats", ["ryu"])
+ryu = functools.partial(built, name="ryu_floats", names=["ryu"])
 
 
 def theirs(room):

@@ -10,6 +10,7 @@ It also puts each wrong body of tools/data/wrong_growths.txt into its source, in
 that isn't found is a fault. The crates of tests and the probes aren't looked at, since what they write is compared.
 """
 import collections
+import itertools
 import math
 import re
 
@@ -45,10 +46,8 @@ def indent(line):
 
 
 def loop_at(lines, at):
-    end = at + 1
-    while end < len(lines) and (not lines[end] or indent(lines[end]) > indent(lines[at])):
-        end += 1
-    return "\n".join(lines[at:end])
+    inner = itertools.takewhile(lambda line: not line or indent(line) > indent(lines[at]), lines[at + 1 :])
+    return "\n".join([lines[at], *inner])
 
 
 def is_large(line):

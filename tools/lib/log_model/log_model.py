@@ -152,13 +152,7 @@ def end_in(mode, line, inside):
     return None if opens or (inside and is_indented) else len(line)
 
 
-def uncut_end_in(mode, line, inside):
-    """The same for groups that are larger: no line is cut in them."""
-    continues = mode == "plain" and (line[:-1].endswith(OPENING) or (inside and line.startswith(b" ")))
-    return None if continues else len(line)
-
-
-def groups(mode, log, end_in=end_in):
+def groups(mode, log):
     """The groups of a log, each with the number of bytes after which it is known to end: its line's, or None for what is left at the end."""
     *lines, rest = log.split(b"\n")
     found, group, read = [], b"", 0
@@ -176,15 +170,6 @@ def groups(mode, log, end_in=end_in):
     return found
 
 
-def outputs(mode, log, longer_than=LONGER_THAN, end_in=end_in):
-    """The output for each group, with the number of bytes after which it is known to end."""
-    return [(read, output(mode, group, longer_than)) for read, group in groups(mode, log, end_in)]
-
-
-def whole_output(mode, log, longer_than=LONGER_THAN, end_in=end_in):
-    return b"".join(text for _read, text in outputs(mode, log, longer_than, end_in))
-
-
 def gathered(pieces):
     """Outputs as they are written: as soon as there are LEAST bytes, and at the end."""
     found = [b""]
@@ -197,7 +182,7 @@ def gathered(pieces):
 def writes(mode, log, chunks, longer_than=LONGER_THAN):
     """What is written after each chunk is read, and last after the end: a list for each, with a piece for each write. The outputs
     for the groups that end in a chunk are one write, or more if they are long."""
-    whole = outputs(mode, log, longer_than)
+    whole = [(end, output(mode, group, longer_than)) for end, group in groups(mode, log)]
     rounds, read, at = [], 0, 0
     for chunk in chunks:
         read += len(chunk)

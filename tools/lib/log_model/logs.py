@@ -25,8 +25,7 @@ class Maker:
         return int((most + 1) ** self.random.random())
 
     def text(self):
-        document = self.documents.chain() if self.random.random() < 0.02 else self.documents.grown(self.size(50), 0)
-        return self.random.choice((plain, pretty))(document).encode()
+        return self.random.choice((plain, pretty))(self.documents.grown(self.size(50), 0)).encode()
 
     def changed(self, text):
         """The text with a byte or a piece too many or too few, or with its lines changed."""

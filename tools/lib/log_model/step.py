@@ -2,8 +2,7 @@
 compares each of its reads and writes with those of a model, which shares no code with the project. With a C compiler memory, reads
 and writes are counted on long logs of each shape, and with valgrind steps (log_costs.py).
 
-100 times as many logs of nasty pieces hold the model to its laws: a log that `--plain` leaves as it is comes back after pretty and
-plain, for every limit, and cuts of groups change no output.
+Lines of nasty pieces, 100 times as many, are compared in the same way, with each limit for values that stay.
 
 Last the built ufmt_conv reads texts in chunks, and each of its reads and writes is compared too.
 """
@@ -19,7 +18,7 @@ from lib.model import verdicts
 from lib.model.documents import Maker
 from lib.model.reading import MODES
 
-LIMITS = (0, 8, 40)
+LIMITS = (0, 8, log_model.LONGER_THAN + 1)
 NAMED, PIECES = ([data.data_of(row) for row in data.parts("logs/nasty.txt")[part]] for part in ("named", "pieces"))
 FIVE_FORMATS = (data.DATA / "logs" / "five_formats.log").read_bytes()
 
@@ -29,28 +28,12 @@ def nasty(chance):
     return b"".join(chance.choice(pieces) for _ in range(chance.randint(1, 14)))
 
 
-def cut_faults(log, plain):
-    """What is wrong with the groups: put together they are the log, and cuts change no output."""
-    if b"".join(group for _read, group in log_model.groups("plain", log)) != log:
-        yield "the groups of %r aren't it" % log
-    if log_model.whole_output("plain", log, end_in=log_model.uncut_end_in) != plain:
-        yield "%r is %r with cut groups" % (log, plain)
-
-
-def law_faults(count, seed):
+def nasty_logs(count, seed):
+    """Logs of so many lines, or some more where a piece has a line feed, each with its chunks."""
     chance = random.Random(seed)
-    found = []
-    for log in [*NAMED, *(nasty(chance) for _ in range(count))]:
-        plain = log_model.whole_output("plain", log, 0)
-        found += cut_faults(log, plain)
-        for given in {log, plain}:
-            if log_model.whole_output("plain", given, 0) != given:
-                continue
-            for longer_than in LIMITS:
-                pretty = log_model.whole_output("pretty", given, longer_than)
-                if log_model.whole_output("plain", pretty, 0) != given:
-                    found.append("%r doesn't come back from %r, at %d bytes" % (given, pretty, longer_than))
-    return found
+    lines = [*NAMED, *(nasty(chance) for _ in range(count))]
+    joined = (b"\n".join(lines[at : at + 100]) for at in range(0, len(lines), 100))
+    return [(log, log.splitlines(keepends=True)) for log in joined]
 
 
 # How many logs there are, how many a process runs, and how many texts of each class ufmt_conv reads.
@@ -58,21 +41,23 @@ COUNT, BATCH, TEXTS = 60, 25, 100
 COMMANDS = ("lengths", "pretty", "plain")
 
 
-def sent(mode, log, chunks):
+def sent(mode, log, chunks, limit):
     """The chunks, and what is written after each. Chunks are halved if a write of theirs is too long for a message."""
-    rounds = log_model.writes(mode, log, chunks)
+    rounds = log_model.writes(mode, log, chunks, limit)
     while max((len(text) for texts in rounds for text in texts), default=0) > devices.LONGEST and len(chunks) < len(log):
         chunks = [half for chunk in chunks for half in (chunk[: len(chunk) // 2], chunk[len(chunk) // 2 :]) if half]
-        rounds = log_model.writes(mode, log, chunks)
+        rounds = log_model.writes(mode, log, chunks, limit)
     return chunks, rounds
 
 
-def wrong_runs(paths, batch):
+def wrong_runs(paths, batch, limit=log_model.LONGER_THAN):
     faults = []
     for (log, chunks), mode in itertools.product(batch, MODES):
-        pieces, rounds = sent(mode, log, chunks)
+        pieces, rounds = sent(mode, log, chunks, limit)
+        is_limited = mode == "pretty" and limit in LIMITS
+        words = ["--longer-than", str(limit)] if is_limited else log_costs.ARGUMENTS[mode]
         for path in paths:
-            fault = devices.fault(path, log_costs.ARGUMENTS[mode], pieces, rounds)
+            fault = devices.fault(path, words, pieces, rounds)
             if fault:
                 faults.append("%s, to %s, a log of %d bytes: %s" % (path.name, mode, len(log), fault))
     return faults
@@ -108,7 +93,8 @@ def main(given):
         jobs = [pool.submit(wrong_texts, path, str(given.seed)) for path in converters]
         if shutil.which("cc"):
             jobs.append(pool.submit(log_costs.faults, paths[0]))
-        jobs.append(pool.submit(law_faults, count * 100, str(given.seed)))
+        lines = nasty_logs(count * 100, str(given.seed))
+        jobs += [pool.submit(wrong_runs, paths, lines, limit) for limit in LIMITS]
         jobs.append(pool.submit(wrong_runs, paths, [(FIVE_FORMATS, logs.whole(FIVE_FORMATS))]))
         pairs = logs.logs(count, str(given.seed))
         while batch := list(itertools.islice(pairs, BATCH)):

@@ -27,40 +27,34 @@ def huge():
                     for group, offset in product((0, 1, LONG, *HUGE), (0, 0xFFFFFFFF, 2**32)))
 
 
-class Asker:
-    """Makes requests. One seed makes the same ones each time."""
+def number(dice):
+    """A number of some count of digits, or one near a bound of a type."""
+    digits, bits = dice.randrange(39), dice.choice((7, 8, 15, 16, 31, 32, 63, 64, 127, 128))
+    some = dice.randrange(10**digits, 10 ** (digits + 1))
+    near = dice.choice((2**bits, 10**digits)) + dice.choice((-1, 0, 1))
+    return b"%d" % (dice.choice((some, near)) * dice.choice((1, -1)))
 
-    def __init__(self, seed):
-        self.random = random.Random(seed)
 
-    def request(self, width, per_row, payload):
-        choice = self.random.choice
+def made(seed):
+    """Requests of each two of the bounds as the width of a column and the length of a text, and as the length
+    of a row and that of what is dumped. One seed makes the same ones each time."""
+    dice = random.Random(seed)
+    choice = dice.choice
+
+    def request(width, per_row, payload):
         return Request(
             width, choice((0, 1, 2)), ord(choice((" ", choice(FILLS)))),
             choice((0, 1)), choice((48, 32, choice(range(128)))), choice(BOUNDS), choice((0, 1)),
             per_row, choice((0, 1, 2, 3, 4, 16, choice(BOUNDS))), choice(OFFSETS), choice((0, 1, 1)), payload,
         ).data()
 
-    def text(self, length):
-        return (self.random.choice(KINDS) * length)[:length].encode()
+    def text(length):
+        return (choice(KINDS) * length)[:length].encode()
 
-    def number(self):
-        """A number of some count of digits, or one near a bound of a type."""
-        digits, bits = self.random.randrange(39), self.random.choice((7, 8, 15, 16, 31, 32, 63, 64, 127, 128))
-        some = self.random.randrange(10**digits, 10 ** (digits + 1))
-        near = self.random.choice((2**bits, 10**digits)) + self.random.choice((-1, 0, 1))
-        number = self.random.choice((some, near))
-        return str(self.random.choice((number, -number))).encode()
-
-
-def made(seed):
-    """Requests of each two of the bounds as the width of a column and the length of a text, and as the length of a row and that
-    of what is dumped."""
-    asker = Asker(seed)
     for (place, width), (other, length) in itertools.product(enumerate(BOUNDS), repeat=2):
         per_row = BOUNDS[(place + other) % len(BOUNDS)]
-        yield asker.request(width, per_row, asker.text(length))
-        yield asker.request(min(width, 130), asker.random.randrange(1, 41), asker.number())
-        yield asker.request(0, per_row, asker.random.randbytes(length))
-    yield from (asker.request(1, 1, str(bits).encode()) for width in (32, 64) for bits in floats.edges(width))
-    yield from (asker.request(length, length, asker.text(length)) for length in (20_000, 70_000))
+        yield request(width, per_row, text(length))
+        yield request(min(width, 130), dice.randrange(1, 41), number(dice))
+        yield request(0, per_row, dice.randbytes(length))
+    yield from (request(1, 1, b"%d" % bits) for width in (32, 64) for bits in floats.edges(width))
+    yield from (request(length, length, text(length)) for length in (20_000, 70_000))

@@ -1,13 +1,11 @@
 """Runs of ufmt_conv and ufmt_lines: what they take of steps, memory and calls of their devices, beside what was measured in the past,
 the rows of tools/data/measured/texts.txt; and texts of 16 MiB by the calls of the library."""
-import resource
-import subprocess
 from collections import namedtuple
 from concurrent.futures import ThreadPoolExecutor
 
 from lib import measures
 from lib.log_model import log_model
-from lib.model import shapes, verdicts
+from lib.model import shapes
 from lib.model.costs import MEASURED, SECONDS
 from lib.model.document import list_of, plain, pretty
 
@@ -69,10 +67,6 @@ def rows_of(counter, programs, run, nothing):
     return rows, [run.name + ": another output"] if run.output not in (None, output) else []
 
 
-def runs_of(part):
-    return list(conv_runs() if part == "conv" else line_runs(part == "plain"))
-
-
 PARTS = ("conv", "pretty", "plain")
 
 
@@ -84,26 +78,16 @@ def counted(counter, programs, part):
                    for name, words in (("ufmt_conv", ["lengths"]), ("ufmt_lines", []))}
     rows, faults = {}, []
     with ThreadPoolExecutor() as pool:
-        for its, wrong in pool.map(lambda run: rows_of(counter, programs, run, nothing), runs_of(part)):
+        runs = conv_runs() if part == "conv" else line_runs(part == "plain")
+        for its, wrong in pool.map(lambda run: rows_of(counter, programs, run, nothing), runs):
             rows.update(its)
             faults += wrong
     return rows, faults
 
 
-def in_one_log(counter, programs, is_plain):
-    """A fault if ufmt_lines writes another log for all shapes, one after another, than for each alone."""
-    runs = runs_of("plain" if is_plain else "pretty")
-    words, data = [programs["ufmt_lines"], *runs[0].words], b"".join(run.data for run in runs)
-    output, _ = counter.run(words, data, "all shapes, %s" % is_plain, seconds=SECONDS)
-    return [] if output == b"".join(run.output for run in runs) else ["ufmt_lines: another output for a log of all shapes"]
-
-
 def faults_of(counter, programs, part):
     rows, wrong = counted(counter, programs, part)
-    wrong += measures.Table(MEASURED).faults(rows, is_whole=False)
-    if part != "conv":
-        wrong += in_one_log(counter, programs, part == "plain")
-    return wrong, len(rows)
+    return wrong + list(measures.Table(MEASURED).faults(rows, is_whole=False)), len(rows)
 
 
 def short_reads():
@@ -140,34 +124,13 @@ def measured_rows(counter, programs):
 # ---- Large texts. None of their costs is counted.
 
 SIZE = 16 * 1024 * 1024
-# A run that takes more seconds of the processor is a fault.
-PROCESSOR_SECONDS = 60
 
 
 def listed(leaf, count):
     return "[%s]" % ", ".join([leaf] * count), "[\n%s]" % ("    %s,\n" % leaf * count)
 
 
-# Each makes both texts of a document. Of a list of more words the model would take many minutes.
-DOCUMENTS = {
-    "a long word": lambda: ("x" * SIZE,),
-    "a long text": lambda: ('"%s"' % ("a" * SIZE),),
-    "a list of long words": lambda: listed("x" * 65536, SIZE // 65536),
-    "a list of short words": lambda: listed("x", 1_500_000),
-}
-
-
-def run_fault(program, text):
-    ran = subprocess.run([str(program)], input=b"%d\n%s" % (len(text), text), capture_output=True,
-                         preexec_fn=lambda: resource.setrlimit(resource.RLIMIT_CPU, (PROCESSOR_SECONDS, PROCESSOR_SECONDS)))
-    wanted, given = verdicts.verdict(text)[0] + "\n", ran.stdout.decode()
-    if ran.returncode != 0 or given != wanted:
-        return "status %d, wanted %d bytes, got %d that start with %r; %s" % (ran.returncode, len(wanted), len(given), given[:60], ran.stderr[-200:])
-    return None
-
-
-def large_faults(program):
-    """The faults of runs of probe_model on these texts, and how many there were."""
-    texts = [(name, text.encode()) for name, make in DOCUMENTS.items() for text in make()]
-    found = [(name, run_fault(program, text)) for name, text in texts]
-    return ["%s: %s" % it for it in found if it[1]], len(texts)
+def large_texts():
+    """A word, a text, lists of long and of short words. Of more words the model would take many minutes."""
+    texts = "x" * SIZE, '"%s"' % ("a" * SIZE), *listed("x" * 65536, SIZE // 65536), *listed("x", 1_500_000)
+    return map(str.encode, texts)

@@ -4,6 +4,7 @@ past: the rows of tools/data/measured/texts.txt (tools/lib/measures.py).
 Steps are counted on short texts. Memory is counted on long ones, and so are the steps of a text there with a call that took longer than its
 steps on the short one let expect: steps that grow in another order are far more.
 """
+import itertools
 from collections import namedtuple
 
 from lib import findings, measures
@@ -64,24 +65,23 @@ class Run:
         steps = counter.steps([program, "costs"], data, name + ", steps", seconds=seconds) if is_counted else []
         self.counts = steps or counts
         # What the marks around a call take is no step of the call.
-        self.around = min(steps, default=0)
+        self.is_counted, self.around = is_counted, min(steps, default=0)
         self.made = [(one, *call) for one, line in zip(texts, self.lines) for call in calls_of(line)]
 
     def calls(self):
         return [(*call, counts) for call, counts in zip(self.made, self.counts)]
 
-    def steps(self):
-        rows = {}
-        for one, half, _, call, steps in self.calls():
-            rows.setdefault("%s: %s" % (one.name, half), []).append(("%s: steps" % call, steps - self.around))
-        return rows
-
-    def memory(self):
-        rows = {}
+    def rows(self):
+        """Steps of each call, or memory of each that allocates some."""
+        rows, end = {}, "" if self.is_counted else ", memory"
         for one, half, _, call, counts in self.calls():
-            if counts.allocations:
-                labelled = [("%s: %s" % (call, label), getattr(counts, label)) for label in MEMORY]
-                rows.setdefault("%s: %s, memory" % (one.name, half), []).extend(labelled)
+            if self.is_counted:
+                its = [("steps", counts - self.around)]
+            else:
+                its = [(label, getattr(counts, label)) for label in MEMORY if counts.allocations]
+            if its:
+                row = rows.setdefault("%s: %s%s" % (one.name, half, end), [])
+                row += (("%s: %s" % (call, label), count) for label, count in its)
         return rows
 
 
@@ -104,16 +104,16 @@ def slow_faults(counter, program, run, small):
             for call, most in found if call[-1] > most]
 
 
-def faults_of(run, rows):
+def faults_of(run):
     if len(run.lines) != len(run.texts) or len(run.counts) < len(run.made):
         return ["%d lines and %d counts of %d texts" % (len(run.lines), len(run.counts), len(run.texts))], len(run.made)
-    return list(measures.Table(MEASURED).faults(rows, is_whole=False)), len(run.made)
+    return list(measures.Table(MEASURED).faults(run.rows(), is_whole=False)), len(run.made)
 
 
 def request_faults(counter, program, is_counted):
     """The faults of calls with huge options, and how many calls were counted. Each must find its buffer full."""
     run = Run(counter, program, requested(), "requests", is_counted, REQUEST_SECONDS)
-    wrong, count = faults_of(run, run.steps() if is_counted else run.memory())
+    wrong, count = faults_of(run)
     fitting = ["%s: a text fits: %s" % (one.name, line) for one, line in zip(run.texts, run.lines) if " yes" in line]
     return wrong + fitting, count
 
@@ -122,7 +122,7 @@ def part_faults(counter, program, number, is_counted):
     """The faults of one part of the texts, and how many calls were counted."""
     texts = list(samples(COUNTED_SIZE if is_counted else TIMED_SIZE, number))
     run = Run(counter, program, texts, "part %d, %s" % (number, is_counted), is_counted)
-    wrong, count = faults_of(run, run.steps() if is_counted else run.memory())
+    wrong, count = faults_of(run)
     if not is_counted and not wrong:
         small = {one.name: one.size for one in samples(COUNTED_SIZE, number)}
         wrong += slow_faults(counter, program, run, small)
@@ -130,8 +130,8 @@ def part_faults(counter, program, number, is_counted):
 
 
 def measured_rows(counter, program):
-    rows = Run(counter, program, requested(), "measured", True).steps()
-    for number in range(PARTS):
-        rows.update(Run(counter, program, list(samples(COUNTED_SIZE, number)), "measured", True).steps())
-        rows.update(Run(counter, program, list(samples(TIMED_SIZE, number)), "measured").memory())
+    rows = Run(counter, program, requested(), "measured", True).rows()
+    kinds = (COUNTED_SIZE, True), (TIMED_SIZE, False)
+    for number, (size, is_counted) in itertools.product(range(PARTS), kinds):
+        rows.update(Run(counter, program, list(samples(size, number)), "measured", is_counted).rows())
     return rows

@@ -1,6 +1,7 @@
 """Documents that fill each cell of the table of coverage, and of what only debug texts have. What a cell leaves open is chosen at
 random."""
-from lib.model.coverage import BLOCKS, DEBUG_LEAVES, DEBUG_PLACES, DEPTHS, EXACT_ENTRIES, EXACT_LENGTH, LEAVES, MANY, OPEN_STRUCTS, PLACES, powers
+from lib.model.coverage import (BLOCKS, DEBUG_LEAVES, DEBUG_PLACES, DEPTHS, EXACT_ENTRIES, EXACT_LENGTH,
+                                LEAVES, MANY, OPEN_STRUCTS, PLACES, powers)
 from lib.model.debug_leaves import ESCAPED, SHAPES
 from lib.model.document import DEEPEST, STRUCTS, Block, list_of, quoted, tuple_of
 
@@ -17,36 +18,38 @@ def turns(row):
 
 
 class Covering:
-    in_places = PLACES
+    """Of token texts. Debug texts have other blocks and structs; kinds and places are all of a class."""
+
+    blocks, structs, in_places, kinds = BLOCKS, ("struct",), PLACES, BLOCKS + LEAVES
 
     def __init__(self, maker):
         self.maker, self.random, self.inside = maker, maker.random, maker.inside
 
     def documents(self):
-        yield from (self.of_kind(kind) for kind in BLOCKS + LEAVES)
+        yield from map(self.of_kind, self.kinds)
         for each in (self.places, self.lengths, self.entries, self.spines, self.equals):
             yield from each()
 
     def of_kind(self, kind):
         if kind.startswith("empty"):
-            return Block(kind[6:], "", [])
-        if kind in BLOCKS:
+            return Block(kind[6:], self.maker.word() if kind[6:] in STRUCTS else "", [])
+        if kind in BLOCKS or kind in STRUCTS:
             return self.maker.block(kind, [self.maker.leaf() for _ in range(self.random.choice((1, 1, 2, 3)))])
         if kind == "text":
             return self.maker.text(self.random.randrange(9))
         return "()" if kind == "unit" else self.maker.word() if kind == "word" else self.maker.character()
 
-    def kinds(self):
-        documents = [self.of_kind(kind) for kind in BLOCKS + LEAVES]
+    def some(self):
+        documents = [*map(self.of_kind, self.kinds)]
         self.random.shuffle(documents)
         return documents
 
     def places(self):
         """Each kind in each place: alone, first, in the middle and last; and in each place of a block in each place."""
-        for place in PLACES:
-            yield list_of(*(self.inside(place, [document]) for document in self.kinds()))
-            yield from (self.inside(place, documents) for documents in turns(self.kinds()))
-            yield from (self.inside(outer, [self.inside(place, self.kinds())]) for outer in PLACES)
+        for place in self.in_places:
+            yield list_of(*(self.inside(place, [document]) for document in self.some()))
+            yield from (self.inside(place, documents) for documents in turns(self.some()))
+            yield from (self.inside(outer, [self.inside(place, self.some())]) for outer in self.in_places)
 
     def within(self, size):
         return self.random.randint(size // 2 + 1, size)
@@ -58,19 +61,23 @@ class Covering:
     def lengths(self):
         sizes = self.sizes(EXACT_LENGTH, 16384)
         for sixteen in (sizes[at : at + 16] for at in range(0, len(sizes), 16)):
-            named = [Block("struct", self.maker.word(size), [(self.maker.word(size), self.maker.word(size))]) for size in sixteen]
-            yield Block("set", "", [(None, each) for each in named])
-            yield list_of(*(tuple_of(self.text(size), name=self.maker.word(size)) for size in sixteen))
-        for size in powers(262144)[15:]:
-            yield self.maker.word(self.within(size))
-            yield self.text(self.within(size))
-        yield from (self.maker.word(self.within(size)) for size in powers(16384))
+            for kind in self.structs:
+                fields = [[(self.word(size), self.word(size))] for size in sixteen]
+                named = [Block(kind, self.word(size), its) for size, its in zip(sixteen, fields)]
+                yield Block("set", "", [(None, each) for each in named])
+            yield list_of(*(tuple_of(self.text(size), name=self.word(size)) for size in sixteen))
+        for size in map(self.within, powers(262144)[15:]):
+            yield from (self.word(size), self.text(size))
+        yield from map(self.word, map(self.within, powers(16384)))
+
+    def word(self, length):
+        return self.maker.word(length)
 
     def text(self, length):
         return quoted("".join(self.random.choices("ab ,:[]{}()\u00e9\u20ac\U0001f980", k=max(length - 2, 0))))
 
     def entries(self):
-        for kind in BLOCKS:
+        for kind in self.blocks:
             row, leaves = [], 0
             for count in self.sizes(EXACT_ENTRIES, 1024):
                 row.append(self.wide(kind, count))
@@ -93,19 +100,20 @@ class Covering:
 
     def spines(self):
         """Blocks nested as deep as allowed, with each of these beside at each class of depths."""
-        yield self.spine(lambda depth: [self.of_kind(kind) for kind in (BLOCKS if depth < DEEPEST else ()) + LEAVES])
-        yield self.spine(lambda depth: [self.maker.word(self.within(size)) for size in powers(1024)])
-        for kind in ("struct", "tuple"):
-            named = [self.deep_named(kind, self.within(size)) for size in powers(512)]
+        may_be_last = [kind for kind in self.kinds if kind not in (*BLOCKS, *STRUCTS)]
+        yield self.spine(lambda depth: map(self.of_kind, self.kinds if depth < DEEPEST else may_be_last))
+        yield self.spine(lambda depth: map(self.word, map(self.within, powers(1024))))
+        for kind in (*self.structs, "tuple"):
+            sizes = [self.within(size) for size in powers(512)]
+            names = [self.word(size) if kind in STRUCTS else None for size in sizes]
+            named = [Block(kind, self.word(size), [(name, "x")]) for size, name in zip(sizes, names)]
             yield from named
-            yield self.spine(lambda depth, named=named: list(named) if depth < DEEPEST else [], 1)
-        sizes = powers(256)
-        yield self.spine(lambda depth: [self.wide(self.random.choice(BLOCKS), self.within(size)) for size in sizes if depth < DEEPEST], 1)
-        yield from map(self.keys, (1, 2, 3))
-
-    def deep_named(self, kind, length):
-        field = self.maker.word(length) if kind == "struct" else None
-        return Block(kind, self.maker.word(length), [(field, self.maker.small())])
+            yield self.spine(lambda depth, named=named: named if depth < DEEPEST else [], 1)
+        yield self.spine(lambda depth: [self.wide(self.random.choice(self.blocks), self.within(size))
+                                        for size in powers(256) if depth < DEEPEST], 1)
+        # Maps in the keys of maps, with so many entries at some depths.
+        for more in (0, 1, 2):
+            yield self.nested(self.depths(-1) | {1}, lambda _depth: self.random.choices("xyz", k=more), "key")
 
     def depths(self, less):
         """A depth of each class, less this."""
@@ -115,7 +123,7 @@ class Covering:
         """A chain of blocks. At these depths it has documents beside."""
         document = self.maker.leaf()
         for depth in range(DEEPEST, 0, -1):
-            documents = beside(depth) if depth in depths else []
+            documents = list(beside(depth)) if depth in depths else []
             documents.insert(self.random.randint(0, len(documents)), document)
             document = self.inside(place or self.random.choice(self.in_places), documents)
         return document
@@ -123,53 +131,38 @@ class Covering:
     def spine(self, beside, less=0):
         return self.nested(self.depths(less), beside, None)
 
-    def keys(self, count):
-        """Maps in the keys of maps, as deep as allowed. At some depths they have so many entries."""
-        return self.nested(self.depths(-1) | {1}, lambda _depth: [self.maker.leaf() for _ in range(count - 1)], "key")
-
     def equals(self):
-        for kind in BLOCKS:
+        for kind in self.blocks:
             for names in ("aa", "aba", "baa", "abca", "aaa"):
-                entries = [(name, self.maker.leaf()) for name in names if kind in ("map", "struct")]
-                yield Block(kind, "S" if kind == "struct" else "", entries) if entries else self.maker.block(kind, list(names))
+                entries = [(name, self.maker.leaf()) for name in names if kind == "map" or kind in STRUCTS]
+                name = "S" if kind in STRUCTS else ""
+                yield Block(kind, name, entries) if entries else self.maker.block(kind, list(names))
 
 
 class DebugCovering(Covering):
-    in_places = DEBUG_PLACES
+    blocks, structs, in_places = ("open struct",), STRUCTS, DEBUG_PLACES
+    kinds = BLOCKS + LEAVES + DEBUG_LEAVES + OPEN_STRUCTS
 
     def documents(self):
         self.leaves = self.maker.leaves
-        for each in (self.shapes, self.debug_places, self.debug_lengths, self.counts, self.names, self.debug_spines, self.open_structs, self.dots):
+        yield from super().documents()
+        for each in (self.shapes, self.counts, self.names, self.dots):
             yield from each()
 
-    def of_debug_kind(self, kind):
-        """A leaf that is a word, or one with quotes; or a struct that ends in dots."""
-        if kind in OPEN_STRUCTS:
-            return self.open_struct(0 if kind == "empty open struct" else self.random.choice((1, 1, 2, 3)))
-        return self.leaves.of_shape("p" if kind == "debug word" else self.random.choice(("o", "wt", "cpc", "Ct")))
+    def of_kind(self, kind):
+        shapes = {"word": "w", "debug word": "p", "quotes": self.random.choice(("o", "wt", "cpc", "Ct"))}
+        return self.leaves.of_shape(shapes[kind]) if kind in shapes else super().of_kind(kind)
+
+    def word(self, length):
+        return self.leaves.word(self.random.choice("pu"), length)
+
+    def text(self, length):
+        return 'b"%s"' % ("x" * (length - 3))
 
     def shapes(self):
         for start in range(0, len(SHAPES), SHAPES_EACH):
             yield list_of(*map(self.leaves.of_shape, SHAPES[start : start + SHAPES_EACH]))
         yield from (list_of(*("b%s\\%s%s" % (quote, character, quote) for character in ESCAPED)) for quote in "\"'")
-
-    def debug_places(self):
-        for kind in DEBUG_LEAVES + OPEN_STRUCTS:
-            yield self.of_debug_kind(kind)
-            for place in DEBUG_PLACES:
-                yield from (self.inside(place, [self.of_debug_kind(kind) for _ in range(count)]) for count in (1, 3))
-
-    def debug_lengths(self):
-        sizes, word = self.sizes(EXACT_LENGTH, 4096), self.leaves.word
-        yield list_of(*(self.leaves.of_length("word", size) for size in sizes))
-        yield list_of(*(self.leaves.of_length("quotes", size) for size in sizes if size > 2))
-        yield Block("struct", "S", [(word("u", size), "x") for size in sizes])
-        yield list_of(*(tuple_of("x", name=word("u", size)) for size in sizes))
-        yield from (list_of(*(Block(kind, word("p", size), [("f", "x")]) for size in sizes)) for kind in STRUCTS)
-        yield list_of(*(Block("open struct", word("u", size), []) for size in sizes))
-        for size in powers(131072)[13:]:
-            yield from (self.leaves.of_length(kind, self.within(size)) for kind in ("word", "quotes"))
-        yield from (word("p", self.within(size)) for size in powers(4096))
 
     def counts(self):
         sizes = self.sizes(EXACT_ENTRIES, 1024)
@@ -180,29 +173,12 @@ class DebugCovering(Covering):
         yield from ("a" + ":" * self.within(size) + "1.5" for size in (*powers(32768)[11:], 131072))
 
     def names(self):
+        """Names of these shapes, and for each length that of a struct with nothing but dots."""
         for letters in NAME_SHAPES:
             name = self.leaves.of_shape
             yield list_of(*(Block(kind, name(letters), [(name(letters), "1.5")]) for kind in STRUCTS))
             yield list_of(Block("open struct", name(letters), []), tuple_of("x", name=name(letters)))
-
-    def debug_spines(self):
-        """Blocks nested as deep as allowed, with a leaf of each kind beside at each class of depths."""
-        for kind in DEBUG_LEAVES:
-            yield self.spine(lambda depth, kind=kind: [self.of_debug_kind(kind)])
-            document = self.of_debug_kind(kind)
-            for _ in range(DEEPEST):
-                document = self.inside(self.random.choice(DEBUG_PLACES), [document])
-            yield document
-        yield self.spine(lambda depth: [self.of_debug_kind(kind) for kind in OPEN_STRUCTS if depth < DEEPEST or kind == "empty open struct"])
-
-    def open_struct(self, count):
-        return Block("open struct", self.maker.word(), [(self.maker.word(), self.maker.small()) for _ in range(count)])
-
-    def open_structs(self):
-        """With each number of fields, and with each kind of value: alone, first, in the middle and last."""
-        yield from map(self.open_struct, (0, *self.sizes(EXACT_ENTRIES, 1024)))
-        for values in turns([*map(self.of_kind, BLOCKS + LEAVES), *map(self.of_debug_kind, OPEN_STRUCTS)]):
-            yield from (self.maker.block("open struct", some) for some in (values, values[:1]))
+        yield list_of(*(Block("open struct", self.word(size), []) for size in self.sizes(EXACT_LENGTH, 4096)))
 
     def dots(self):
         """Dots as values and as names of fields: alone, first, in the middle and last. Dots as the name of a struct."""

@@ -89,11 +89,9 @@ class LeafMaker:
 
     def any_word(self, length):
         """A word of any characters, most often ASCII."""
-        form = self.random.random()
-        if form < 0.5:
-            return "".join(self.random.choices("ab19.-+<>=_/", k=length))
-        if form < 0.8:
-            return "".join(self.random.choices(POINTS + PAST_ASCII + "ab", k=length))
+        if self.random.random() < 0.8:
+            some = self.random.choice(("ab19.-+<>=_/", POINTS + PAST_ASCII + "ab"))
+            return "".join(self.random.choices(some, k=length))
         found = [characters.any_character(self.random) for _ in range(length)]
         return "".join(character if is_in_word(character) else "." for character in found)
 
@@ -131,9 +129,6 @@ class LeafMaker:
         in_quotes = self.random.choice(QUOTES)
         letters = (in_quotes if (count - number) % 2 else WORDS[number % 3] for number in range(count))
         return joined(self.piece(letter, 1) for letter in letters)
-
-    def of_length(self, kind, length):
-        return self.word("p", length) if kind == "word" else 'b"' + "x" * (length - 3) + '"'
 
     def name(self, length):
         if self.random.random() < 0.5 or length < 4:

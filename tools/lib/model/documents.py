@@ -15,9 +15,8 @@ CHARACTERS = ("\0\t\n\r\\\"'\x01\x08\x0b\x0c\x0e\x1b\x1f\x7f aZ~,:[]{}()\u0080\u
 KINDS_OF_CHARACTERS = "a\u00e9\u20ac\U0001f980\0\t\n\r\\\"'\x01\x1b"
 # Entries of wide blocks.
 SMALL = ("x", "7", "-", "()", '""', "'a'", Block("list", "", []), Block("map", "", []))
-# Lengths and depths around those where a counter or a buffer could end.
+# Lengths around those where a counter or a buffer could end.
 LENGTHS = (1, 2, 15, 16, 63, 64, 65, 127, 128, 129, 254, 255, 256, 257, 511, 512, 600, 1023, 1024, 4095, 4096, 4097, 65535, 65536, 100_000)
-DEPTHS = (1, 2, 3, 4, 5, 8, 12, 13, 16, 17, 31, 32, 33, 64, 100, 127, 128, 129, 200, 254, 255, 256)
 # A document of a random size has at most so many nodes, and its leaves and names together about so many bytes.
 MOST_NODES = 1500
 MOST_BYTES = 6000
@@ -77,11 +76,8 @@ class Maker:
     def small(self):
         return self.random.choice(SMALL)
 
-    def long_leaf(self):
-        length = self.random.choice((self.random.choice(LENGTHS), self.up_to(100_000)))
-        return self.random.choice(self.long_leaves())(length)
-
     def long_leaves(self):
+        """What makes leaves of a length."""
         return self.word, lambda length: quoted(self.random.choice(CHARACTERS) * length), self.text
 
     def empty(self):
@@ -126,59 +122,21 @@ class Maker:
             return Block(self.random.choice(("list", "set")), "", [(None, self.leaf()), (None, document)])
         return tuple_of(document, self.leaf()) if place == "first of two" else self.inside(place, [document])
 
-    def chain(self):
-        """Nested blocks with one document inside, at one place or at any. They can be one deeper than allowed."""
-        depth = self.random.choice(DEPTHS)
-        self.longest = self.up_to(40)
-        place = self.random.choice(self.places)
-        is_mixed = self.random.random() < 0.3
-        document = self.random.choice((self.leaf(), self.empty(), "x"))
-        for _ in range(depth):
-            document = self.deeper(self.random.choice(self.places) if is_mixed else place, document)
-        return document
-
-    def whole_text(self):
-        """The plain or the pretty text of a document, which can be too deep."""
-        form = self.random.random()
-        if form < 0.85:
-            document = self.document() if form < 0.65 else types.made(self.random)
-        else:
-            document = self.chain() if form < 0.92 else self.long_leaf()
-            if form >= 0.92 and self.random.random() < 0.5:
-                document = self.deeper(self.random.choice(self.places), document)
-        return self.random.choice((plain, pretty))(document)
-
     def changed(self, data):
         """The text with a change, most often by one byte or one piece."""
-        at, form = self.random.randrange(len(data) + 1), self.random.randrange(8)
-        piece, before, after = self.random.choice(self.pieces).encode(), data[:at], data[at:]
-        if form == 4:
-            return before + self.random.choice(BAD_BYTES) + after
-        if form == 5:
-            return self.changed_at(data, piece)
-        return (before, after, before + after[1:], before + piece + after[1:], None, None, data + piece, before + piece + after)[form]
-
-    def changed_at(self, data, piece):
-        old = self.random.choice(self.pieces).encode()
-        count = data.count(old)
-        if count == 0:
-            return piece + data
-        pieces = data.split(old)
-        at = self.random.randrange(1, count + 1)
-        return old.join(pieces[:at]) + piece + old.join(pieces[at:])
-
-    def noise(self):
-        length, form = self.up_to(100_000), self.random.randrange(4)
-        if form < 2:
-            return self.random.choice(self.pieces).encode() * length if form else self.characters(length).encode()
-        return b"\n".join(b"a" * self.random.randrange(9) for _ in range(length // 4)) if form == 2 else self.random.randbytes(length)
+        at = self.random.randrange(len(data) + 1)
+        piece, old = map(str.encode, self.random.choices(self.pieces, k=2))
+        before, after = data[:at], data[at:]
+        return self.random.choice((
+            before, after, before + after[1:], before + piece + after[1:], before + piece + after, data + old,
+            before + self.random.choice(BAD_BYTES) + after, before + after.replace(old, piece, 1),
+        ))
 
     def data(self):
-        form = self.random.random()
-        if form < 0.04:
-            return self.noise()
-        text = self.whole_text().encode()
-        for _ in range(0 if form < 0.5 else self.random.choice((1, 1, 1, 2))):
+        """The plain or the pretty text of a document, as it is or changed."""
+        document = self.document() if self.random.random() < 0.75 else types.made(self.random)
+        text = self.random.choice((plain, pretty))(document).encode()
+        for _ in range(self.random.choice((0, 0, 0, 0, 1, 1, 1, 2))):
             text = self.changed(text)
         return text
 

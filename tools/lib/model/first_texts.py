@@ -48,12 +48,23 @@ def changed():
         yield from (b'"' + b"x" * before + piece + b"x" * (LETTERS - before) + b'"' for before in range(LETTERS))
 
 
-def too_deep(maker):
-    for depth, place in itertools.product((DEEPEST - 1, DEEPEST, DEEPEST + 1), maker.places):
-        document = "x"
+def at_limits(maker):
+    """A document at each depth in each place, up to one that is too deep; leaves of each length."""
+    for depth, place in itertools.product((*DEPTHS, DEEPEST, DEEPEST + 1), maker.places):
+        document = maker.random.choice((maker.leaf(), maker.empty(), "x"))
         for _ in range(depth):
             document = maker.deeper(place, document)
         yield document
+    for make, length in itertools.product(maker.long_leaves(), LENGTHS):
+        yield maker.deeper(maker.random.choice(maker.places), make(length)) if length % 2 else make(length)
+
+
+def noise(maker):
+    """Pieces in a row, characters, lines of a few letters, and any bytes."""
+    for size in powers(131072):
+        piece, line = maker.random.choice(maker.pieces).encode(), b"a" * maker.random.randrange(9) + b"\n"
+        yield from ((piece * size)[:size], maker.characters(size).encode())
+        yield from (line * (size // 4), maker.random.randbytes(size))
 
 
 def first_texts(seed):
@@ -62,8 +73,9 @@ def first_texts(seed):
     yield from (b"", b"\n", b"()", b"[]", b"{}", b'""', b"''", b"x\n")
     yield from in_both_modes(at_bounds())
     yield from in_both_modes(types.first_documents(maker.random))
-    for each in (too_deep(maker), too_deep(debug_maker), covering.documents(), debug_covering.documents()):
+    for each in (at_limits(maker), at_limits(debug_maker), covering.documents(), debug_covering.documents()):
         yield from in_both_modes(each)
+    yield from itertools.chain(noise(maker), noise(debug_maker))
     yield from in_both_modes([*PRINTED, list_of(*PRINTED)])
     yield from itertools.chain(*REFUSED.values())
     yield from changed()

@@ -119,14 +119,19 @@ def stop(kind, texts):
 LATER_BYTES = bytes(range(0x80, 0xC0))
 
 
+def told(form, word):
+    """A word as it is printed, or nothing if there is none or it isn't UTF-8."""
+    try:
+        return form % word.decode() if word else ""
+    except UnicodeDecodeError:
+        return ""
+
+
 def after_name(data, at):
     """What is printed of the name before a place, if a colon and a space come after one."""
     before = data[:at]
     name = before[len(before[:-2].rstrip(NAME_BYTES)) : -2] if before.endswith(b": ") else b""
-    try:
-        return ", after `%s: `" % name.decode() if name else ""
-    except UnicodeDecodeError:
-        return ""
+    return told(", after `%s: `", name)
 
 
 def found_at(data, at):
@@ -134,11 +139,7 @@ def found_at(data, at):
     left = data[at:]
     if left in (b"", b"\n"):
         return ", found one last line feed" if left else ", found the end of the text"
-    word = left[: len(left) - len(left.lstrip(WORD_BYTES))]
-    try:
-        return ", found `%s`" % word.decode() if word else ""
-    except UnicodeDecodeError:
-        return ""
+    return told(", found `%s`", left[: len(left) - len(left.lstrip(WORD_BYTES))])
 
 
 def stopped(data, at, expected):

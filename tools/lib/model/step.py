@@ -9,6 +9,7 @@ so are runs of both programs (commands.py). Memory is counted if there is a C co
 only passes texts of 16 MiB, and one of 1,500,000 words, to every call of the library, in some minutes.
 """
 import concurrent.futures
+import itertools
 import subprocess
 
 from lib import running
@@ -37,12 +38,16 @@ def batches(texts):
 def wrong_lines(program, texts, name=shown):
     """The faults of a run of the program on these texts, which have names, and the cells that these fill."""
     lines, faults = cases.answers(program, texts)
-    cells = set()
+    wrong, cells = compared(texts, lines, name)
+    return faults + wrong, cells
+
+
+def compared(texts, lines, name):
+    faults, cells = [], set()
     for text, line in zip(texts, lines):
         wanted, found = verdicts.verdict(text)
         cells |= found
-        if line != wanted:
-            faults.append(case(name(text), wanted, line))
+        faults += [case(name(text), wanted, line)] if line != wanted else []
     return faults, cells
 
 
@@ -94,8 +99,8 @@ def counted(meter, number):
 def main(given):
     programs = counter.programs_of(given.program)
     if given.full:
-        wrong, count = commands.large_faults(programs["probe_model"])
-        return ended(wrong, "%d texts of 16 MiB" % count)
+        wrong = [wrong_lines(programs["probe_model"], [text])[0] for text in commands.large_texts()]
+        return ended(itertools.chain(*wrong), "%d texts of 16 MiB" % len(wrong))
     faults, cells, costs_counted = [], set(), 0
     with running.room("texts") as room, concurrent.futures.ProcessPoolExecutor() as pool:
         meter = counter.Counter(room)
@@ -127,8 +132,5 @@ def answers(_given):
     folder = TOP / "crates" / "probe_model"
     stored, asked = (folder / "stdout").read_text().split("\n")[:-1], list(stored_texts((folder / "stdin").read_bytes()))
     faults = [] if len(stored) == len(asked) else [case("lines of stdout", len(asked), len(stored))]
-    for text, line in zip(asked, stored):
-        wanted = verdicts.verdict(text)[0]
-        if line != wanted:
-            faults.append(case("the line in stdout of %s" % shown(text), wanted, line))
+    faults += compared(asked, stored, lambda text: "the line in stdout of %s" % shown(text))[0]
     return ended(faults, "%d lines of the file stdout" % len(asked))

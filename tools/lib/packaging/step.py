@@ -86,7 +86,7 @@ def compared_builds(room, programs, library):
         asked[name] = place, all((place / "crates" / crate / "src").is_dir() for crate in sources), sorted(below)
         return kept(place, next(path for path in programs if path.name == name))
 
-    with mock.patch.multiple(build, program=program, quick_program=None, library_for_c=lambda place: kept(place, library)):
+    with mock.patch.multiple(build, program=program, library_for_c=lambda place: kept(place, library)):
         made, archive = dist.unproved(room)
     yield "the programs", [path.read_bytes() for path in programs], [path.read_bytes() for path in made]
     yield "the library", library.read_bytes(), archive.read_bytes()

@@ -35,7 +35,8 @@ class Edit:
 
     def __init__(self, listed, number, lines):
         self.crate, self.name = listed.parent, lines[0]
-        self.place = "%s:%d: %s" % (listed.relative_to(TOP), number, self.name)
+        # It may be of a clone.
+        self.place = "crates/%s/%s:%d: %s" % (self.crate.name, listed.name, number, self.name)
         self.guards = [line[len("guards: ") :] for line in lines if line.startswith("guards: ")]
         self.change = [line for line in lines[1:] if not line.startswith("guards: ")]
         self.path, self.is_in_gate = self.crate / "must-fail" / (self.name + ".edit"), not self.change

@@ -236,9 +236,6 @@ QUESTIONS = {
 
 # ---- The step.
 
-# So many texts a run of the program takes.
-BATCH = 50
-
 
 def asked(row, faults):
     """The texts that a row passes to the program. Where the model says something else than the row wants, that is a fault."""
@@ -264,9 +261,7 @@ def main(given):
             faults += wrong_dump(row)
         for text in asked(row, faults):
             places.setdefault(text, row.place)
-    texts = list(places)
     with concurrent.futures.ProcessPoolExecutor() as pool:
-        jobs = [pool.submit(step.wrong_lines, program, texts[at : at + BATCH], places.get) for at in range(0, len(texts), BATCH)]
-        for job in jobs:
-            faults += job.result()[0]
+        jobs = [pool.submit(step.wrong_lines, program, batch, places.get) for batch in step.batches(places)]
+        faults += [fault for job in jobs for fault in job.result()[0]]
     return ended(faults, "%d rows, %d texts" % (count, len(places)))

@@ -5,13 +5,10 @@ import re
 from lib.contracts.source import Edits, Fault, Source, outside_texts
 from lib.rust.table import UNSAFE, rows
 
-ATTRIBUTES = ("tactic", "cycle")
 # Words that no line of Rust here has. One that is left after the removal is a form that the tool doesn't know.
 UNKNOWN = ("ghost", "requires", "ensures", "tactic", "cycle", "Model", "Drop", "prove")
-# A comment that says which promise the clauses below it carry.
-PROMISE = r"(?m)^ *// Promise \(.*\n(?: *// (?!Promise).*\n)*"
-# What is left of bounds that only proofs read, and where lines were removed.
-BOUNDS = rows("ghost")
+# Comments of promises, attributes, and what is left of bounds that only proofs read and of removed lines.
+GHOST = rows("ghost")
 MATHEMATICS = re.compile(r"[^\x00-\x7f]")
 
 
@@ -19,10 +16,10 @@ def without_ghost(path, text):
     source = Source(path, text)
     edits = Edits(source)
     for at, token in enumerate(source.tokens):
-        if token.name in REMOVERS and token.kind in ("name", "sign"):
+        if token.name in REMOVERS and token.kind == "name":
             REMOVERS[token.name](source, edits, at)
-    left = re.sub(PROMISE, "", edits.apply())
-    for pattern, new in BOUNDS:
+    left = edits.apply()
+    for pattern, new in GHOST:
         left = outside_texts(path, left, pattern, new)
     return left.lstrip("\n")
 
@@ -91,14 +88,7 @@ def remove_clause(source, edits, at):
     edits.remove_lines(source.tokens[at].start, source.tokens[source.tokens[after].pair].end)
 
 
-def remove_attribute(source, edits, at):
-    """`#[tactic(..)]`, `#![tactic(..)]` and `#[cycle(..)]`."""
-    bracket = at + 1 + (source.name(at + 1) == "!")
-    if source.name(bracket) == "[" and source.name(bracket + 1) in ATTRIBUTES:
-        edits.remove_lines(source.tokens[at].start, source.tokens[source.tokens[bracket].pair].end)
-
-
-REMOVERS = {"ghost": remove_ghost, "requires": remove_clause, "ensures": remove_clause, "#": remove_attribute}
+REMOVERS = {"ghost": remove_ghost, "requires": remove_clause, "ensures": remove_clause}
 
 
 KEYWORDS = set("as break const crate dyn else enum fn for if impl in let loop match mod move mut pub ref return static struct trait type "
@@ -206,15 +196,10 @@ def in_rust(path, text):
     text = imports(path, text)
     for old, new in PATTERNS:
         text = re.sub(old, new, text)
-    text = edited(path, text)
-    check(path, text)
-    return text
-
-
-def edited(path, text):
     for edit, pattern in EDITS:
         if re.search(pattern, text):
             edits = Edits(Source(path, text))
             edit(edits.source, edits)
             text = edits.apply()
+    check(path, text)
     return text
