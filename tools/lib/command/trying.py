@@ -27,8 +27,7 @@ def add_arguments(parser):
     add_jobs(parser, "steps")
     parser.add_argument("--count", metavar="N", type=int, help="texts, logs, floats: how many random ones (1000, 60, 20000)")
     parser.add_argument("--seed", metavar="N", type=int, default=1, help="c, floats, logs, texts: what makes the random ones the same each time (1)")
-    parser.add_argument("--full", action="store_true", help="macros: each number of fields up to 25; texts: 16 MiB through every call")
-    parser.add_argument("--every-f32", metavar="BLOCK", nargs="?", type=int, const=0, help="floats: every f32, from this block of 2^24 on (0 to 255)")
+    parser.add_argument("--full", action="store_true", help="macros: each number of fields up to 25")
     parser.add_argument("--program", metavar="PATH", help="c, logs, programs, rows, texts: another build of the library or the program")
     parser.add_argument("--proved", action="store_true", help="c: the library as `rt lib` proves and builds it")
     parser.add_argument("--write", action="store_true", help="c: writes what rustc prints, in place of a trial; growths: writes its table anew")
@@ -36,7 +35,7 @@ def add_arguments(parser):
 
 def words_of(given):
     """The options for a step that runs by itself."""
-    valued = {"--seed": given.seed, "--count": given.count, "--every-f32": given.every_f32, "--program": given.program}
+    valued = {"--seed": given.seed, "--count": given.count, "--program": given.program}
     words = [word for pair in valued.items() if pair[1] is not None for word in pair]
     return words + ["--%s" % word for word in ("full", "proved", "write") if getattr(given, word)]
 

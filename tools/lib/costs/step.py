@@ -182,7 +182,7 @@ def refused(counter, program):
     return found, faults
 
 
-def measured(room):
+def measured(room, _given):
     found, wrong = counted(Counter(room), built(room))
     return found, [*missing(), *wrong]
 

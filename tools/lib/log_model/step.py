@@ -8,7 +8,6 @@ Last the built ufmt_conv reads texts in chunks, and each of its reads and writes
 """
 import concurrent.futures
 import itertools
-import random
 import shutil
 
 from lib import data, needs
@@ -19,19 +18,13 @@ from lib.model.documents import Maker
 from lib.model.reading import MODES
 
 LIMITS = (0, 8, log_model.LONGER_THAN + 1)
-NAMED, PIECES = ([data.data_of(row) for row in data.parts("logs/nasty.txt")[part]] for part in ("named", "pieces"))
 FIVE_FORMATS = (data.DATA / "logs" / "five_formats.log").read_bytes()
-
-
-def nasty(chance):
-    pieces = chance.sample(PIECES, chance.randint(2, 12)) if chance.random() < 0.7 else PIECES
-    return b"".join(chance.choice(pieces) for _ in range(chance.randint(1, 14)))
 
 
 def nasty_logs(count, seed):
     """Logs of so many lines, or some more where a piece has a line feed, each with its chunks."""
-    chance = random.Random(seed)
-    lines = [*NAMED, *(nasty(chance) for _ in range(count))]
+    maker = logs.Maker(seed)
+    lines = [*logs.NAMED, *(maker.words() for _ in range(count))]
     joined = (b"\n".join(lines[at : at + 100]) for at in range(0, len(lines), 100))
     return [(log, log.splitlines(keepends=True)) for log in joined]
 
