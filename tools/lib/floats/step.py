@@ -43,8 +43,7 @@ def counted(program):
 
 
 def past_bounds(program, counts):
-    """A line for each call that takes more steps than its bound, and for each function that is past a bound of stack, where there
-    is objdump."""
+    """A line for each call that takes more steps than its bound, or more stack, where there is objdump."""
     past = list(measures.Table("floats").faults(counts)) if counts else []
     known = stack.Frames(program) if shutil.which("objdump") else None
     for name, (most, own) in measures.Table("stack").of("float").items() if known else ():

@@ -1,10 +1,8 @@
-"""Makes random logs, runs the built ufmt_lines on each with and without `--plain`, also as the other compiler built it, and
-compares each of its reads and writes with those of a model, which shares no code with the project. With a C compiler memory, reads
-and writes are counted on long logs of each shape, and with valgrind steps (log_costs.py).
-
-Lines of nasty pieces, 100 times as many, are compared in the same way, with each limit for values that stay.
-
-Last the built ufmt_conv reads texts in chunks, and each of its reads and writes is compared too.
+"""Makes random logs, runs the built ufmt_lines on each with and without `--plain`, also as the other compiler
+built it, and compares each of its reads and writes with those of a model, which shares no code with the
+project; and lines of nasty pieces, 100 times as many, with each limit for values that stay. Then the built
+ufmt_conv reads texts in chunks. With a C compiler costs are counted on long logs of each shape
+(log_costs.py).
 """
 import concurrent.futures
 import itertools

@@ -55,8 +55,7 @@ def line_runs(is_plain):
 
 
 def rows_of(counter, programs, run, nothing):
-    """What a run takes: memory, reads and writes, and if valgrind is there its steps, less those of a run on
-    nothing; and what is wrong with its output."""
+    """What a run takes, its steps less those of a run on nothing; and what is wrong with its output."""
     words = [programs[run.program], *run.words]
     output, counts = counter.run(words, run.data, run.name, seconds=SECONDS)
     rows = {run.name: [(label, getattr(counts[0], label)) for label in LABELS]}

@@ -8,6 +8,8 @@ from lib.model.document import DEEPEST, STRUCTS, Block, list_of, quoted, tuple_o
 # Blocks of blocks have about so many leaves.
 LEAVES_EACH = 500
 DOTS = ".."
+# Entries of wide blocks.
+SMALL = ("x", "7", "-", "()", '""', "'a'", Block("list", "", []), Block("map", "", []))
 SHAPES_EACH = 60
 
 
@@ -88,7 +90,7 @@ class Covering:
             yield from (self.wide(kind, self.within(size)) for size in powers(512))
 
     def wide(self, kind, count):
-        return self.maker.block(kind, [self.maker.small() for _ in range(count)])
+        return self.maker.block(kind, self.random.choices(SMALL, k=count))
 
     def many(self):
         for kind in BLOCKS:

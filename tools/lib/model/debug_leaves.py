@@ -9,7 +9,7 @@ import itertools
 import re
 
 from lib import data
-from lib.model.document import DEEPEST, QUOTED_CHARACTER, QUOTED_TEXT, STRUCTS, WORD, Block, plain, pretty
+from lib.model.document import QUOTED_CHARACTER, QUOTED_TEXT, WORD
 from lib.model.reading import IN_QUOTES, LIFETIME, START, UNIT, WORD_BYTES
 
 WORDS, QUOTES, COLONS, UNITS, LIFETIMES, STARTS = "wpu", "tco", "C", "U", "L", "WA"
@@ -88,16 +88,6 @@ def texts_of(row):
     return [text.replace(mark, each) for each in EACH[mark]] if mark else [text]
 
 
-def too_deep():
-    """Blocks of which one is too deep, with a leaf and with names that no token document has."""
-    for kind, name in (("list", ""), ("tuple", "a::B"), ("struct", "\u00e9"), ("open struct", "P")):
-        for document in ("1.5", Block("open struct", "P", [])):
-            for _ in range(DEEPEST + 1):
-                document = Block(kind, name, [("1.5" if kind in STRUCTS else None, document)])
-            yield from (plain(document).encode(), pretty(document).encode())
-
-
 REFUSED = {reason: [text for row in rows for text in texts_of(row)] for reason, rows in data.parts("texts/refused.txt").items()}
 REFUSED["many quotes of which the last isn't closed"] = [b'"a"' * MANY_PIECES + b'"', b"'a'.." * MANY_PIECES + b"'", b'""' * MANY_PIECES + b"'"]
-REFUSED["256 blocks"] = list(too_deep())
 REASON_OF = {text: reason for reason, texts in REFUSED.items() for text in texts}

@@ -16,8 +16,6 @@ CHARACTERS = ("\0\t\n\r\\\"'\x01\x08\x0b\x0c\x0e\x1b\x1f\x7f aZ~,:[]{}()\u0080\u
               "\U00010000\U0001f980\U0010ffff")
 # One character of each length in bytes, and one of each escape. The longest texts are made only of these.
 KINDS_OF_CHARACTERS = "a\u00e9\u20ac\U0001f980\0\t\n\r\\\"'\x01\x1b"
-# Entries of wide blocks.
-SMALL = ("x", "7", "-", "()", '""', "'a'", Block("list", "", []), Block("map", "", []))
 # Lengths around those where a counter or a buffer could end.
 LENGTHS = (1, 2, 15, 16, 63, 64, 65, 127, 128, 129, 254, 255, 256, 257, 511, 512, 600, 1023, 1024, 4095, 4096, 4097, 65535, 65536, 100_000)
 # A random document is mixed of at most so many others. Its leaves and names have at most so many characters.
@@ -74,9 +72,6 @@ class Maker:
         if form < 0.55:
             return self.word() if form < 0.45 else "()"
         return self.text(self.size(LONGEST) - 1) if form < 0.8 else self.character()
-
-    def small(self):
-        return self.random.choice(SMALL)
 
     def long_leaves(self):
         """What makes leaves of a length."""
