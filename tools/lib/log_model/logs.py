@@ -12,6 +12,7 @@ NUMBERS = (*range(1, 18), 31, 32, 33, 63, 64, 65, 127, 128, 129, 254, 255, 256, 
 LENGTHS = (4095, 4096, 4097, 8191, 8192, 8193, 65_535, 65_536, 65_537, 131_072, 200_000)
 # The most that a chunk has: a read takes no more.
 CHUNK = 64 * 1024
+PAST_CHUNK = CHUNK + 4096
 
 
 class Maker:
@@ -101,9 +102,9 @@ def each_number():
 
 def each_length():
     """Long lines with a text at the end, which ends near the end of a chunk; and one piece many times. A
-    block could open at each `(a, ` or `(\\' `, and each is read: of these there are fewer."""
+    block could open at each `(a, ` or `[`, and each is read: of these there are fewer."""
     for piece, end in itertools.product(LONG, (b"", b" ", b"[1]", b" [1]")):
-        yield piece * ((1000 if piece.startswith(b"(") else 100_000) // len(piece)) + end
+        yield piece * ((1000 if piece.startswith((b"(", b"[")) else PAST_CHUNK) // len(piece)) + end
     for length, text in itertools.product(LENGTHS, (b" [1]", b" [\n    1,\n]", b'["')):
         yield b"a" * (length - len(text)) + text
         yield text + b"a" * (length - len(text) - 1) + b'"]'
