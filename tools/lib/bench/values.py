@@ -55,8 +55,8 @@ FORMATS = {"plain": plain, "pretty": pretty, "json": to_json, "ron": to_ron}
 
 
 def words(chance, has_odd):
-    count = chance.randint(1, 4)
-    parts = (chance.choice(ODD_WORDS if has_odd and chance.randrange(4) == 0 else WORDS) for _ in range(count))
+    parts = (chance.choice(ODD_WORDS if has_odd and chance.randrange(4) == 0 else WORDS)
+             for _ in range(chance.randint(1, 4)))
     return quoted(" ".join(parts) + " ")
 
 

@@ -55,7 +55,8 @@ def main(given):
         say("the last run on this machine took %s min" % LAST.read_text().strip())
     trying.say_missing(trying.STEPS)
     results, minutes = [], []
-    cheap, others = ([step for step in trying.STEPS if (step.kind == trying.SOURCES) == is_cheap] for is_cheap in (True, False))
+    cheap = [step for step in trying.STEPS if step.kind == trying.SOURCES]
+    others = [step for step in trying.STEPS if step not in cheap]
     for group in (trying.all_of(cheap, [], given.jobs), proved(), trying.all_of(others, [], given.jobs)):
         before = processor_minutes()
         results += list(group)

@@ -7,9 +7,9 @@
 - `logs`: steps and memory of ufmt_lines on a log of each shape; steps on 32 KiB, memory on 512 KiB
 
 With `--write` it writes the tables in tools/data/measured again, if there is no fault. What `costs`, `c` and
-`floats` count is built with nothing proved; `texts` and `logs` count the proved programs that `rt ci` leaves, or
-for `logs` another build, as `x dist` makes one. With `--all` it prints each count. The status is 0 if each bound is
-in the band.
+`floats` count is built with nothing proved; `texts` and `logs` count the programs that `rt ci` leaves, or for
+`logs` another build, as `x dist` makes one. With `--all` it prints each count. The status is 0 if each bound
+is in the band.
 """
 from lib import findings, measures, needs, running, top
 from lib.command.main import add_names

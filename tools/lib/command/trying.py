@@ -12,7 +12,7 @@ from lib import data, needs, running, top
 from lib.command.main import add_jobs, add_names
 from lib.running import say
 
-# What a step looks at: the sources alone, builds that it makes with nothing proved, or what `rt ci` or `rt run` left.
+# What a step looks at: the sources alone, builds that it makes, or what `rt ci` or `rt run` left.
 KINDS = SOURCES, _, _ = "the sources", "builds with nothing proved", "built programs"
 Step = namedtuple("Step", "name kind place told needs uses")
 

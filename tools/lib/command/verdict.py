@@ -28,7 +28,7 @@ REST = re.compile(r"`(\d+) (?:\(codes \"(.*?)\"\)|mathlib\.Core\.List\.\[\])`")
 
 
 def counted(count, proved):
-    """How many functions are proved. A check that goes on after it was stopped also counts some of which it was not asked."""
+    """How many functions are proved. A check that goes on after it was stopped counts more."""
     of_all = "%d of " % proved if proved < count else ""
     return "%s%d function%s proved; " % (of_all, count, "" if count == 1 else "s")
 

@@ -123,5 +123,6 @@ def of_part(counter, program, number, is_counted):
     run = Run(counter, program, texts, "part %d, %s" % (number, is_counted), is_counted)
     wrong = run.faults()
     if not is_counted and not wrong:
-        wrong = slow_faults(counter, program, run, {one.name: one.size for one in samples(COUNTED_SIZE, number)})
+        small = {one.name: one.size for one in samples(COUNTED_SIZE, number)}
+        wrong = slow_faults(counter, program, run, small)
     return run.rows(), wrong

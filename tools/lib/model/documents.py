@@ -6,8 +6,8 @@ import re
 
 from lib import data
 from lib.model import asked, characters, floats, types
-from lib.model.debug_leaves import (COLONS, LIFETIMES, NAME_SHAPES, PAST_ASCII, POINTS, PRINTED, QUOTES, SHAPES, UNITS,
-                                    WORDS, joined)
+from lib.model.debug_leaves import (COLONS, LIFETIMES, NAME_SHAPES, PAST_ASCII, POINTS, PRINTED, QUOTES,
+                                    SHAPES, UNITS, WORDS, joined)
 from lib.model.document import STRUCTS, Block, plain, pretty, quoted, tuple_of, unquoted
 
 LETTERS = "abcxyzABCXYZ0189_-"
@@ -108,7 +108,7 @@ class Maker:
         return self.varied(self.random.choice(types.VALUES))
 
     def varied(self, document):
-        """The document with other numbers and texts, and other entries in blocks without names, as a rule sorted."""
+        """The document with other numbers and texts, and other entries in lists and the like."""
         if isinstance(document, str):
             if self.random.random() < 0.5:
                 return document

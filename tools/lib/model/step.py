@@ -112,7 +112,8 @@ def main(given):
             cells |= found
         faults += ["no text fills the cell: " + cell for cell in coverage.empty(cells)]
         rows, wrong = found_by(costing)
-    faults += [*wrong, *measures.Table(costs.MEASURED).faults(rows, is_whole=bool(meter.library and meter.valgrind))]
+    is_whole = bool(meter.library and meter.valgrind)
+    faults += [*wrong, *measures.Table(costs.MEASURED).faults(rows, is_whole)]
     told = "%d texts with seed %s fill %d cells" % (sum(map(len, texts)), given.seed, len(cells))
     return ended(faults, "%s, %s" % (told, counted(meter, len(rows))))
 
