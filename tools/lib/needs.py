@@ -7,7 +7,8 @@ import sys
 from lib.top import TOP
 
 PACKAGES = {"valgrind": "valgrind", "cc": "gcc", "gcc": "gcc", "g++": "g++", "rustc": "rustc", "cargo": "cargo", "objdump": "binutils", "nm": "binutils",
-            "readelf": "binutils", "man": "man-db", "pkg-config": "pkgconf", "xxd": "xxd", "setarch": "util-linux", "git": "git", "clippy-driver": "rust-clippy"}
+            "readelf": "binutils", "man": "man-db", "pkg-config": "pkgconf", "xxd": "xxd", "git": "git",
+            "clippy-driver": "rust-clippy"}
 
 # What leaves the built programs.
 BUILDS = "`rt ci` builds it, and so does `rt run` in its crate"

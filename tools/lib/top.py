@@ -41,8 +41,7 @@ def closure(names, lines=None):
 
 
 def is_ours(crate):
-    """Whether a crate is a library or a program of this repository. Tests, probes and examples have other names, and so has what
-    a user puts beside these."""
+    """Whether a crate is a library or a program of this repository: no test, probe or example."""
     return crate == "ufmt" or crate.startswith("ufmt_")
 
 

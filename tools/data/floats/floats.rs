@@ -21,32 +21,6 @@ fn count(input: &str, turns: u64) -> u64 {
     length
 }
 
-// A writer that keeps a digest (FNV-1a) of all that is written.
-struct Digest(u64);
-
-impl Write for Digest {
-    fn write(&mut self, text: &[u8]) -> io::Result<usize> {
-        for byte in text {
-            self.0 = (self.0 ^ u64::from(*byte)).wrapping_mul(0x100_0000_01b3);
-        }
-        Ok(text.len())
-    }
-
-    fn flush(&mut self) -> io::Result<()> {
-        Ok(())
-    }
-}
-
-// What `x try floats --every-f32` compares: the digest of the lines of all these floats.
-fn digest(from: u64, to: u64) -> u64 {
-    let mut digest = Digest(0xcbf2_9ce4_8422_2325);
-    for bits in from..to {
-        let x = f32::from_bits(bits as u32);
-        writeln!(digest, "{x:?} {x}").unwrap();
-    }
-    digest.0
-}
-
 fn write_fixed<W: Write>(output: &mut W, bits: &str, decimals: usize) {
     if bits.len() == 16 {
         let x = f64::from_bits(u64::from_str_radix(bits, 16).unwrap());
@@ -59,11 +33,6 @@ fn write_fixed<W: Write>(output: &mut W, bits: &str, decimals: usize) {
 
 fn main() {
     let arguments: Vec<String> = std::env::args().skip(1).collect();
-    if let [from, to] = &arguments[..] {
-        let bits = |text| u64::from_str_radix(text, 16).unwrap();
-        print!("{}", digest(bits(from), bits(to)));
-        return;
-    }
     let mut input = String::new();
     io::stdin().read_to_string(&mut input).unwrap();
     let mut output = BufWriter::new(io::stdout().lock());

@@ -71,8 +71,7 @@ def faults_of_calls(ample, order, runs):
 
 
 def tried_calls(counter, pool):
-    """The faults of the runs, and how many there were. The first has ample memory, and makes as many allocations as its lines say: none
-    of the C library's is counted."""
+    """The faults of the runs, and how many there were. The first one allocates as its lines say."""
     program, ample = needs.built("probe_memory"), (TOP / "crates" / "probe_memory" / "stdout").read_text().splitlines()
     order = [place for place, line in enumerate(ample) for _ in range(int(AMPLE.search(line)[1]) or 1)]
 
@@ -109,8 +108,7 @@ def cases():
 
 
 def wrong_run(case, ended):
-    """What is wrong with a run in which an allocation was to be refused: it ends with want of memory and no output, or as with ample
-    memory."""
+    """What is wrong with a run: it ends with want of memory and no output, or as with ample memory."""
     is_wanted = ended[:3] == (OUT_OF_MEMORY, b"", case.program.encode() + b": out of memory\n")
     wrong = ended.fault((OUT_OF_MEMORY, case.status))
     if wrong or is_wanted or ended[:3] == (case.status, case.output, case.error):

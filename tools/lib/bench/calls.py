@@ -59,8 +59,7 @@ def cargo(room, name, kind, dependencies, features, profiles):
 
 
 def peers(room, name, kind, ufmt, profiles):
-    """The folder of what cargo made of a crate, and which peers are in it: `core`, and `ufmt` if its crate was found. None if
-    the machine has no cargo that builds it."""
+    """The folder of what cargo made of a crate, or None; and its peers, of which `ufmt` may be missing."""
     where = 'path = "%s"' % ufmt.resolve() if ufmt else 'version = "0.2.0"'
     wanted = "ufmt = { %s%s, optional = true }" % (where, ', features = ["std"]' if kind == "program" else "")
     for dependencies, features, found in (([wanted], ["ufmt"], ("ufmt", "core")), ([], [], ("core",))):
@@ -74,8 +73,7 @@ def line(told, cells):
 
 
 def beside_peers(kind, ufmt, room, profiles, rows):
-    """A line for each row: ours, and what each peer takes in each profile. A row has its name, our figure, and what finds a
-    peer's in the folder of a profile, or None."""
+    """A line for each row: its name, our figure, and what finds a peer's in a profile's folder."""
     made, found = peers(room, *kind, ufmt, profiles)
     for told, ours, theirs in rows:
         line(told, [ours, *(theirs(made / profile, peer) if theirs and peer in found else None for profile in profiles for peer in ("ufmt", "core"))])

@@ -3,15 +3,11 @@ bounds are in tools/data/measured/stack.txt. Calls that convert or scan are trie
 
 - Of ufmt_conv and ufmt_lines it finds how many bytes of stack their `main` takes at most on any input, in their machine code (Frames).
   What the C library takes isn't in it.
-- It runs ufmt_conv and probe_model on blocks of each kind that are 248 deep, with no more stack than the bound and OUTSIDE: so what
-  was found in the machine code is tested too. `setarch` lets a program's stack begin in one place.
 - Of example_print_program and example_parse_program it adds up the bytes of the functions of our crates. Each has one type and
   some lines, so a call that is compiled into each of its callers is seen.
 """
 import functools
 import re
-import resource
-import subprocess
 import sys
 from collections import namedtuple
 
@@ -134,22 +130,10 @@ class Frames:
 
 # ---- What is beside its bounds.
 
-PAGE = 4096
-# What the kernel and the C library put on the stack before and below `main`.
-OUTSIDE = 8 * 1024
-DEPTH = 248
 TABLE = measures.Table("stack")
 BOUNDS, CODE = TABLE.of("program"), {name: most for name, (most,) in TABLE.of("code").items()}
 # A program, the library that it is over, and its calls: what each does, and its functions.
 PROGRAMS = [(*part.split(), [(told, *names.split()) for told, names in rows]) for part, rows in data.rows("bench/stack.txt").items()]
-# A shape is what begins a block before the next one in it, and what ends it, of one level or two.
-DOCUMENTS = ((b"[", b"1", b"]"), (b"{", b"1", b"}"), (b"{1: ", b"1", b"}"), (b"{", b"1", b": 1}"), (b"a(", b"1", b")"),
-             (b"(", b"1", b",)"), (b"a { b: ", b"1", b" }"))
-VALUES = ((b"Tree { size: 1, children: [", b"Tree { size: 1, children: [] }", b"] }"),
-          (b"Node { value: 1, next: Some(", b"Node { value: 1, next: None }", b") }"))
-# The words of a run, whether its text has its length before it, the shapes of its texts, and the levels of each; its program's name.
-RUNS = (("ufmt_conv", ["pretty"], False, DOCUMENTS, 1), ("probe_model", [], True, DOCUMENTS, 1),
-        ("probe_model", [], True, VALUES, 2))
 
 
 def past_bounds(room, programs):
@@ -176,13 +160,6 @@ def table(room, _given):
     return ended(past_bounds(room, PROGRAMS), "calls beside their bounds")
 
 
-def runs(words, text, size):
-    limit = functools.partial(resource.setrlimit, resource.RLIMIT_STACK, (size, size))
-    ran = subprocess.run(["setarch", "-R", *words], input=text, stdout=subprocess.PIPE, stderr=subprocess.DEVNULL, preexec_fn=limit,
-                         env={})
-    return ran.returncode == 0 and b"FAULT" not in ran.stdout
-
-
 def code_faults(name):
     """Prints what a program's machine code takes, and yields a line if that is past its bound. The kit's `main` tests the
     processor, and then continues as the program's with the stack as it was. A build with nothing proved has only a `main`."""
@@ -202,18 +179,8 @@ def size_faults(name):
         yield findings.most(name, CODE[name], size, "bytes of code")
 
 
-def run_faults(name, words, has_length, shapes, levels):
-    """A line for each shape on which the program doesn't end well with the stack of its bound."""
-    size, level = BOUNDS[name]
-    allowed, depth = -(-(size + level * DEPTH + OUTSIDE) // PAGE) * PAGE, DEPTH // levels
-    for begin, inside, end in shapes:
-        text = begin * depth + inside + end * depth
-        if not runs([needs.built(name), *words], b"%d\n" % len(text) * has_length + text, allowed):
-            yield case("%s, blocks of %r, %d deep" % (name, begin.decode(), DEPTH), "at most %d bytes of stack" % allowed, "more")
-
-
 def main(_given):
     with running.room("stack") as room:
         faults = past_bounds(room, PROGRAMS[:2])
-    figures = [*map(code_faults, ("ufmt_conv", "ufmt_lines")), *(run_faults(*run) for run in RUNS), *map(size_faults, sorted(CODE))]
+    figures = [*map(code_faults, ("ufmt_conv", "ufmt_lines")), *map(size_faults, sorted(CODE))]
     return ended(faults + [fault for its in figures for fault in its], "%d figures of built programs, and those of calls" % len(figures))

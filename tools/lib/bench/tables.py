@@ -1,7 +1,7 @@
 """The tables of `x bench` that count instructions of texts, floats, parsing and logs."""
 import sys
 
-from lib import data, measures
+from lib import data
 from lib.bench import build, values
 from lib.bench.calls import bytes_of, cargo, counted
 from lib.floats import patterns
@@ -59,26 +59,6 @@ def floats(room, _given):
         print("%-24s%8d%12d%8d" % (value, *(float_instructions(program, value) for program in made)), flush=True)
     for value in map(":".join, FIGURES["floats with decimals"]):
         print("%-24s%8d%12d" % (value, *(float_instructions(program, value) for program in made[:2])), flush=True)
-
-
-# ---- Each byte of a log of each shape of log_costs.py, beside what the table has, of which `x try logs` allows some more.
-
-
-def lines(room, given):
-    """Each log is counted at two sizes: the difference is what its bytes cost."""
-    from lib.log_model import log_costs
-    from lib.model.counter import Counter
-
-    build_in = room / "ufmt_lines"
-    build_in.mkdir()
-    program = given.program or build.program(build_in, "ufmt_lines", build.of_sources(build_in, "ufmt_lines"))
-    counter, measured = Counter(room), measures.Table(log_costs.MEASURED).rows
-    print("%-40s %-6s %10s %8s" % ("instructions a byte", "to", "measured", "table"))
-    for shape in log_costs.SHAPES:
-        logs = [shape.log(size) for size in (log_costs.SIZE // 2, log_costs.SIZE)]
-        steps = [log_costs.steps(counter, program, shape.mode, log, shape.name) for log in logs]
-        cost, known = (steps[1] - steps[0]) / (len(logs[1]) - len(logs[0])), measured[shape.name][0] / len(logs[1])
-        print("%-40s %-6s %10.1f %8d" % (shape.name, shape.mode, cost, known), flush=True)
 
 
 # ---- Parsing, for each byte of a text and for each value, beside serde_json and ron; and the bytes of one more type that is parsed.

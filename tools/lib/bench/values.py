@@ -1,10 +1,12 @@
 """Values made from one seed, as documents of the model, and their texts: as `{:?}` and `{:#?}` print them, as JSON and as RON."""
 import functools
 import json
+import random
 
 from lib.model.document import Block, list_of, plain, pretty, quoted, tuple_of, unquoted
 
-MASK = (1 << 64) - 1
+# Each run makes the same values.
+SEED = 1
 WORDS = ("status", "the line is open", "a, b: [c]", "x", "sensor 4 of 12", "valve",
          "retry later, or call the operator of the second line", "ok")
 SHORT_WORDS = ("status", "the line is open", "a, b: [c]", "x", "sensor 4 of 12", "it's late", "{}", "retry later")
@@ -13,28 +15,12 @@ ODD_WORDS = ('say "yes"', "two\nlines", "caf\u00e9 \u20ac", "\x1b[0m")
 STARTED, LOST = "Started", "Lost"
 
 
-class Random:
-    """Marsaglia's xorshift*, so that each run makes the same values."""
+def number(chance, limit, more=0):
+    return str(chance.randrange(limit) + more)
 
-    def __init__(self):
-        self.state = 0x9E3779B97F4A7C15
 
-    def below(self, limit):
-        state = self.state
-        state ^= state << 13 & MASK
-        state ^= state >> 7
-        state ^= state << 17 & MASK
-        self.state = state
-        return (state * 0x2545F4914F6CDD1D & MASK) % limit
-
-    def number(self, limit, more=0):
-        return str(self.below(limit) + more)
-
-    def flag(self):
-        return "true" if self.below(2) == 0 else "false"
-
-    def of(self, choices):
-        return choices[self.below(len(choices))]
+def flag(chance):
+    return chance.choice(("true", "false"))
 
 
 def to_json(document):
@@ -68,35 +54,38 @@ FORMATS = {"plain": plain, "pretty": pretty, "json": to_json, "ron": to_ron}
 # ---- Values of each kind that is parsed.
 
 
-def words(random, has_odd):
-    parts = [random.of(ODD_WORDS if has_odd and random.below(4) == 0 else WORDS) for _ in range(1 + random.below(4))]
+def words(chance, has_odd):
+    parts = (chance.choice(ODD_WORDS if has_odd and chance.randrange(4) == 0 else WORDS)
+             for _ in range(chance.randint(1, 4)))
     return quoted(" ".join(parts) + " ")
 
 
-def option(random):
-    return "None" if random.below(4) == 0 else tuple_of(tuple_of(random.number(100000), random.flag()), name="Some")
+def option(chance):
+    pair = tuple_of(number(chance, 100000), flag(chance))
+    return "None" if chance.randrange(4) == 0 else tuple_of(pair, name="Some")
 
 
-def event(random):
-    kind = random.below(4)
+def event(chance):
+    kind = chance.randrange(4)
     if kind == 0:
         return STARTED
     if kind == 1:
-        return tuple_of(random.number(65536), name="Node")
-    number = random.number(1000000)
+        return tuple_of(number(chance, 65536), name="Node")
+    count = number(chance, 1000000)
     if kind == 2:
-        return tuple_of(number, random.flag(), name="Said")
-    return Block("struct", LOST, [("since", number), ("peers", random.number(256))])
+        return tuple_of(count, flag(chance), name="Said")
+    return Block("struct", LOST, [("since", count), ("peers", number(chance, 256))])
 
 
 MAKERS = {
-    "u64": lambda random: random.number(1 << 64),
-    "u32": lambda random: random.number(10 ** (1 + random.below(4))),
-    "f64": lambda random: str(1 + random.below(10 ** 6) / 1000),
-    "long-f64": lambda random: str(1 + random.below(1 << 53) / (1 << 40)),
-    "measurement": lambda random: Block("struct", "Measurement", [("channel", random.number(32)), ("celsius", random.number(1000, -300))]),
-    "strings": lambda random: words(random, False),
-    "escapes": lambda random: words(random, True),
+    "u64": lambda chance: number(chance, 1 << 64),
+    "u32": lambda chance: number(chance, 10 ** (1 + chance.randrange(4))),
+    "f64": lambda chance: str(1 + chance.randrange(10 ** 6) / 1000),
+    "long-f64": lambda chance: str(1 + chance.randrange(1 << 53) / (1 << 40)),
+    "measurement": lambda chance: Block("struct", "Measurement", [("channel", number(chance, 32)),
+                                                                  ("celsius", number(chance, 1000, -300))]),
+    "strings": lambda chance: words(chance, False),
+    "escapes": lambda chance: words(chance, True),
     "options": option,
     "event": event,
 }
@@ -104,9 +93,9 @@ MAKERS = {
 
 def many(make, size):
     """Values until their plain texts have so many bytes, with what is between them."""
-    random, made, length = Random(), [], 2
+    chance, made, length = random.Random(SEED), [], 2
     while length < size:
-        made.append(make(random))
+        made.append(make(chance))
         length += len(plain(made[-1]).encode()) + 2
     return made
 
@@ -117,10 +106,10 @@ def of_kind(kind, size):
     if kind != "map":
         made = many(MAKERS[kind], size)
         return list_of(*made), len(made)
-    random, made, length = Random(), [], 2
+    chance, made, length = random.Random(SEED), [], 2
     while length < size:
-        key = quoted("sensor-%07d" % (len(made) * 7 + random.below(7)))
-        made.append((key, list_of(*(random.number(65536) for _ in range(random.below(10))))))
+        key = quoted("sensor-%07d" % (len(made) * 7 + chance.randrange(7)))
+        made.append((key, list_of(*(number(chance, 65536) for _ in range(chance.randrange(10))))))
         length += len(key) + len(plain(made[-1][1])) + 4
     return Block("map", "", made), len(made)
 
@@ -128,18 +117,18 @@ def of_kind(kind, size):
 # ---- Values whose texts are converted and read.
 
 
-def wide(random):
-    numbers = [random.number(10 ** (1 + random.below(8))) for _ in range(1 + random.below(7))]
-    pair = tuple_of(random.number(10 ** 5), random.number(10 ** 5))
-    return Block("map", "", [(random.number(10 ** 6), list_of(*numbers)), (random.number(10 ** 6), pair)])
+def wide(chance):
+    numbers = [number(chance, 10 ** (1 + chance.randrange(8))) for _ in range(1 + chance.randrange(7))]
+    pair = tuple_of(number(chance, 10 ** 5), number(chance, 10 ** 5))
+    return Block("map", "", [(number(chance, 10 ** 6), list_of(*numbers)), (number(chance, 10 ** 6), pair)])
 
 
-def short_text(random):
-    return random.of(ODD_WORDS if random.below(8) == 0 else SHORT_WORDS)
+def short_text(chance):
+    return chance.choice(ODD_WORDS if chance.randrange(8) == 0 else SHORT_WORDS)
 
 
-def of_texts(random):
-    texts = list_of(*(quoted(short_text(random)) for _ in range(1 + random.below(4))))
-    first, second = quoted(short_text(random)), quoted(short_text(random) + "2")
-    pair = tuple_of(quoted(random.of(("a", "'", "\u00e9")), "'"), random.number(1000))
+def of_texts(chance):
+    texts = list_of(*(quoted(short_text(chance)) for _ in range(1 + chance.randrange(4))))
+    first, second = quoted(short_text(chance)), quoted(short_text(chance) + "2")
+    pair = tuple_of(quoted(chance.choice(("a", "'", "\u00e9")), "'"), number(chance, 1000))
     return Block("map", "", [(first, texts), (second, pair)])

@@ -64,8 +64,7 @@ def request(case, room):
 
 
 def wanted_of(case, room):
-    """The result, the detail and the buffer that a call must leave in a buffer of this length, and whether only the buffer's
-    length counts."""
+    """The result, detail and buffer that a call must leave, and whether only the buffer's length counts."""
     filled = bytes([FILL]) * (room or 0)
     if case.number is not None:
         return 0, DETAIL, (case.number % 2**64).to_bytes(NUMBER_SIZE, "little"), False

@@ -100,5 +100,5 @@ def stacks(faults, program):
             faults.append(findings.most(told, bound, found, "bytes of stack"))
 
 
-def measured(room):
+def measured(room, _given):
     return counted(caller_in_c(room, build.library_for_c(room))), []

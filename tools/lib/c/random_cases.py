@@ -4,9 +4,6 @@ import random
 import re
 
 from lib.c.calls import CALLS, FRONT, STYLES, has_buffer, kinds_of, wanted
-from lib.model import floats
-from lib.model.characters import any_character
-from lib.model.document import quoted
 from lib.model.documents import DebugMaker, Maker
 
 # A changed input is cut at so many bytes, so that many are tried. What happens to long ones is in the tables.
@@ -60,24 +57,19 @@ class RandomCases:
     def data(self, value, other):
         """Bytes: these with a piece put in or cut out, a document, a number, characters, or anything."""
         at, end = (self.random.randrange(len(value) + 1) for _ in range(2))
-        piece = self.random.choice((b'"', b"\\", b"\\u{", b" ", b"\n", other, self.random.randbytes(1)))
+        piece, maker = self.random.choice((b"\\u{", other)), self.random.choice(self.makers)
+        length = self.random.randrange(LONGEST // 4)
         return self.random.choice((
             lambda: value[:at] + value[end:],
             lambda: value[:at] + piece + value[at:],
             lambda: value[:at] + other[self.random.randrange(len(other) + 1) :],
-            lambda: self.random.choice(self.makers).data(),
-            lambda: self.random.choice(("%d", "-%d", "%d.5")).encode() % self.number("uint64_t"),
-            lambda: floats.debug(self.number("double"), 64).encode(),
-            lambda: quoted(self.characters()).encode(),
-            lambda: self.characters().encode(),
+            lambda: maker.changed(value),
+            maker.data,
+            lambda: maker.number().encode(),
+            lambda: maker.text(length).encode(),
+            lambda: maker.characters(length).encode(),
             lambda: self.random.randbytes(self.random.randrange(LONGEST)),
         ))()
-
-    def characters(self):
-        count = self.random.randrange(LONGEST // 4)
-        if self.random.randrange(2):
-            return "".join(any_character(self.random) for _ in range(count))
-        return "".join(self.random.choices("ab \"'\\\n\r\t\0\x1b\x7f{u}", k=count))
 
     def rooms(self, case):
         """How long the buffers are with which a case is tried: a random one too."""

@@ -13,7 +13,6 @@ numbers each time. Without a NAME it measures all, one after another. The progra
   that cargo can't build have `-`.
 - `floats`: instructions of one `{:?}` of an `f64`, beside core::fmt and the kit's ryu, and of one `{:.N}`, as `21.5:2`.
 - `stack`: bytes of stack that a call takes at most, and what a level more takes. The status is 1 if one is past its bound.
-- `lines`: instructions that ufmt_lines takes for each byte of a log of each shape. PROGRAM is another build of it.
 """
 import pathlib
 
@@ -23,13 +22,12 @@ from lib.command.main import add_names
 # What prints the figures, of a folder and what is asked, and may return a status; and what it needs.
 TABLES = {"calls": ("lib.bench.calls:table", "rt valgrind gcc readelf"), "texts": ("lib.bench.tables:texts", "rt valgrind"),
           "parse": ("lib.bench.tables:parse", "rt valgrind gcc readelf"), "floats": ("lib.bench.tables:floats", "rt valgrind rustc"),
-          "stack": ("lib.bench.stack:table", "rt objdump nm"), "lines": ("lib.bench.tables:lines", "rt valgrind")}
+          "stack": ("lib.bench.stack:table", "rt objdump nm")}
 
 
 def add_arguments(parser):
     add_names(parser, "NAME", TABLES, ", ".join(TABLES))
     parser.add_argument("--ufmt", type=pathlib.Path, metavar="FOLDER", help="calls: a checkout of ufmt 0.2.0")
-    parser.add_argument("--program", type=pathlib.Path, metavar="PATH", help="lines: another build of ufmt_lines")
 
 
 def main(given):

@@ -75,7 +75,7 @@ def main(given):
     except KeyboardInterrupt:
         sys.exit("not checked: ended before the verdict")
     print(*short.ended(), sep="", end="")
-    said = "%s of %s functions proved; " % (counts[2], counts[1]) if counts else ""
+    said = verdict.counted(*map(int, counts.groups())) if counts else ""
     if status < 0:
         said += "the checker was killed by signal %d%s; " % (-status, ", mostly for want of memory: fewer --jobs need less" if status == -signal.SIGKILL else "")
     print("%s: %sthe libraries are trusted" % ("not checked" if status else "checked", said))

@@ -11,7 +11,7 @@ import re
 import resource
 import time
 
-from lib import needs, running, steps, top
+from lib import needs, running, top
 from lib.command import trying
 from lib.command.main import add_jobs
 from lib.running import say
@@ -53,9 +53,10 @@ def main(given):
     began = time.monotonic()
     if LAST.exists():
         say("the last run on this machine took %s min" % LAST.read_text().strip())
-    trying.say_missing(steps.STEPS)
+    trying.say_missing(trying.STEPS)
     results, minutes = [], []
-    cheap, others = ([step for step in steps.STEPS if (step.kind == steps.SOURCES) == is_cheap] for is_cheap in (True, False))
+    cheap = [step for step in trying.STEPS if step.kind == trying.SOURCES]
+    others = [step for step in trying.STEPS if step not in cheap]
     for group in (trying.all_of(cheap, [], given.jobs), proved(), trying.all_of(others, [], given.jobs)):
         before = processor_minutes()
         results += list(group)

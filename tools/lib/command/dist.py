@@ -46,8 +46,7 @@ def proved():
 
 
 def share(library, folder):
-    """Links the archive as a shared library. A version before 1.0 may change a call with its second number, so the name for the
-    loader has both."""
+    """Links the archive as a shared library. The loader's name has the version's first two numbers."""
     name, made = ("%s.so.%s" % (LIBRARY, number) for number in (".".join(version().split(".")[:2]), version()))
     (folder / "exports").write_text(EXPORTS)
     try:

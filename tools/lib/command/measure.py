@@ -4,11 +4,12 @@
 - `c`: steps of each call of the library for C, at two sizes and with options up to the largest number
 - `floats`: steps of `{:?}` of floats, and of floats with decimals
 - `texts`: steps and memory of each call on a text of each shape, and of runs of ufmt_conv and ufmt_lines
-- `logs`: steps and memory of ufmt_lines on a log of each shape
+- `logs`: steps and memory of ufmt_lines on a log of each shape; steps on 32 KiB, memory on 512 KiB
 
-With `--write` it writes the tables in tools/data/measured again. What `costs`, `c` and `floats` count is
-built with nothing proved; `texts` and `logs` count the proved programs that `rt ci` leaves.
-The status is 0 if each bound is in the band.
+With `--write` it writes the tables in tools/data/measured again, if there is no fault. What `costs`, `c` and
+`floats` count is built with nothing proved; `texts` and `logs` count the programs that `rt ci` leaves, or for
+`logs` another build, as `x dist` makes one. With `--all` it prints each count. The status is 0 if each bound
+is in the band.
 """
 from lib import findings, measures, needs, running, top
 from lib.command.main import add_names
@@ -22,20 +23,25 @@ MEASURED = {"costs": ("lib.costs.step:measured", "rt cc valgrind"), "c": ("lib.c
 def add_arguments(parser):
     add_names(parser, "NAME", MEASURED, "%s (all)" % ", ".join(MEASURED))
     parser.add_argument("--write", action="store_true", help="writes the tables again")
+    parser.add_argument("--all", action="store_true", help="prints each count")
+    parser.add_argument("--program", metavar="PATH", help="logs: another build of ufmt_lines")
 
 
 def main(given):
     running.heartbeat("x measure")
-    return max(measured(name, given.write) for name in given.names or MEASURED)
+    return max(measured(name, given) for name in given.names or MEASURED)
 
 
-def measured(name, is_written):
+def measured(name, given):
     """Writes a table again, or names each row whose bound left the band. Returns the status."""
     place, needed = MEASURED[name]
     needs.require("measure", *needed.split())
     with running.room("measure") as room:
-        found, faults = top.function_of(place)(room)
+        found, faults = top.function_of(place)(room, given)
+    for row, counts in found.items() if given.all else ():
+        print("%s: %s" % (row, ", ".join("%d %s" % (count, label) for label, count in counts)))
     table = measures.Table(name)
-    if is_written:
+    if given.write and not faults:
         table.write(found)
-    return findings.ended([*faults, *([] if is_written else table.left(found))], "%s: %d calls counted" % (name, len(found)))
+    faults += [] if given.write else table.left(found)
+    return findings.ended(faults, "%s: %d calls counted" % (name, len(found)))

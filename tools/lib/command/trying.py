@@ -8,27 +8,38 @@ import argparse
 import sys
 from collections import namedtuple
 
-from lib import needs, running, steps, top
+from lib import data, needs, running, top
 from lib.command.main import add_jobs, add_names
 from lib.running import say
+
+# What a step looks at: the sources alone, builds that it makes, or what `rt ci` or `rt run` left.
+KINDS = SOURCES, _, _ = "the sources", "builds with nothing proved", "built programs"
+Step = namedtuple("Step", "name kind place told needs uses")
+
+
+def step(name, kind, place, told, needs="", uses=""):
+    return Step(name, kind, place, told, needs.split(), uses.split())
+
+
+STEPS = [step(*row) for row in data.rows("steps.txt")["steps"]]
+BY_NAME = {one.name: one for one in STEPS}
 
 
 def epilog():
     lines = []
-    for kind in steps.KINDS:
-        its = [step for step in sorted(steps.STEPS) if step.kind == kind]
+    for kind in KINDS:
+        its = [step for step in sorted(STEPS) if step.kind == kind]
         lines += ["", "Of %s:" % kind, *("  %-10s %s" % (step.name, step.told) for step in its)]
     return "\n".join(lines).strip() + "\n\nBuilt programs are those that `rt ci` leaves, or `rt run` in each program's crate."
 
 
 def add_arguments(parser):
     parser.epilog, parser.formatter_class = epilog(), argparse.RawDescriptionHelpFormatter
-    add_names(parser, "NAME", steps.BY_NAME, "a step, see below")
+    add_names(parser, "NAME", BY_NAME, "a step, see below")
     add_jobs(parser, "steps")
     parser.add_argument("--count", metavar="N", type=int, help="texts, logs, floats: how many random ones (1000, 60, 20000)")
     parser.add_argument("--seed", metavar="N", type=int, default=1, help="c, floats, logs, texts: what makes the random ones the same each time (1)")
-    parser.add_argument("--full", action="store_true", help="macros: each number of fields up to 25; texts: 16 MiB through every call")
-    parser.add_argument("--every-f32", metavar="BLOCK", nargs="?", type=int, const=0, help="floats: every f32, from this block of 2^24 on (0 to 255)")
+    parser.add_argument("--full", action="store_true", help="macros: each number of fields up to 25")
     parser.add_argument("--program", metavar="PATH", help="c, logs, programs, rows, texts: another build of the library or the program")
     parser.add_argument("--proved", action="store_true", help="c: the library as `rt lib` proves and builds it")
     parser.add_argument("--write", action="store_true", help="c: writes what rustc prints, in place of a trial; growths: writes its table anew")
@@ -36,7 +47,7 @@ def add_arguments(parser):
 
 def words_of(given):
     """The options for a step that runs by itself."""
-    valued = {"--seed": given.seed, "--count": given.count, "--every-f32": given.every_f32, "--program": given.program}
+    valued = {"--seed": given.seed, "--count": given.count, "--program": given.program}
     words = [word for pair in valued.items() if pair[1] is not None for word in pair]
     return words + ["--%s" % word for word in ("full", "proved", "write") if getattr(given, word)]
 
@@ -69,7 +80,7 @@ def all_of(tried, words, most):
 
 
 def main(given):
-    tried = [step for step in steps.STEPS if step.name in (given.names or steps.BY_NAME)]
+    tried = [step for step in STEPS if step.name in (given.names or BY_NAME)]
     say_missing(tried)
     if len(given.names) == 1:
         running.heartbeat("x try %s" % tried[0].name)

@@ -27,6 +27,12 @@ ALONE = re.compile(r"has `(\d+)`")
 REST = re.compile(r"`(\d+) (?:\(codes \"(.*?)\"\)|mathlib\.Core\.List\.\[\])`")
 
 
+def counted(count, proved):
+    """How many functions are proved. A check that goes on after it was stopped counts more."""
+    of_all = "%d of " % proved if proved < count else ""
+    return "%s%d function%s proved; " % (of_all, count, "" if count == 1 else "s")
+
+
 def text_of(codes):
     """Bytes as a text in a clause, if they are printed ASCII or a line feed."""
     if not all(32 <= code < 127 or code == 10 for code in codes):

@@ -137,8 +137,7 @@ def lines():
 
 
 def run(counter, program, asked, refused=0):
-    """Each call, with whether it returned a value, and its counts; nothing if some are missing. Of each call the allocation of this
-    number is refused, if it isn't 0."""
+    """Each call, with whether it returned a value, and its counts; or nothing. Counter.run refuses."""
     output, counts = counter.run([program], b"".join(line for _, line in asked), "costs", seconds=SECONDS, refused=refused)
     answers = output.decode().splitlines()
     calls = [("%s: %s" % (name, call), answer == "yes") for (name, _), line in zip(asked, answers) for call, answer in CALL.findall(line)]
@@ -182,7 +181,7 @@ def refused(counter, program):
     return found, faults
 
 
-def measured(room):
+def measured(room, _given):
     found, wrong = counted(Counter(room), built(room))
     return found, [*missing(), *wrong]
 

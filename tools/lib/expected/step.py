@@ -1,12 +1,11 @@
 """Reads what rustc printed of values of std, by the model, and compares what comes out with what rustc
-printed in the other mode, for each class of texts: token texts and debug texts.
+printed in the other mode, for token texts and for debug texts.
 
-tools/expected/rows.txt has each value's text by `{:?}` and by `{:#?}`: tools/expected/print wrote it. In
-tools/expected/reasons each row that a class refuses, or that comes out as another text, has its reason. A row
+tools/expected/rows.txt has each value's text by `{:?}` and by `{:#?}`: tools/expected/print wrote it. Each
+row that a class refuses, or that comes out as another text, has its reason in tools/expected/reasons. A row
 without a reason is a fault, and so is a reason without a row and one that no longer holds.
 
-All these texts are passed to the built probe_model, which `rt ci` leaves in crates/probe_model/out, and what
-the calls of both classes say of them is compared with what the model says.
+All these texts are passed to the built probe_model, and what it says is compared with what the model says.
 """
 import itertools
 import re

@@ -5,7 +5,7 @@ import struct
 from fractions import Fraction
 
 from lib import data
-from lib.model.floats import FORMATS
+from lib.model.floats import FORMATS, nearest
 
 HARD = {part: " ".join(rows).split() for part, rows in data.parts("floats/hard.txt").items()}
 
@@ -35,10 +35,8 @@ def edges(width):
         yield 1 << shift
         yield (1 << shift) - 1
     for power in range(-45 if width == 32 else -323, 39 if width == 32 else 309):
-        for digits in ("1", "5", "9"):
-            if digits == "9" and power in (38, 308):
-                continue
-            bits = bits_of("%se%d" % (digits, power), width) if not (digits == "5" and power in (38, 308)) else 0
+        for digits in (1, 5, 9):
+            bits = nearest(digits * Fraction(10) ** power, width)
             yield from (max(bits - 1, 0), bits, bits + 1)
 
 

@@ -5,8 +5,6 @@ nothing proved, the other by rustc.
 Then the steps and the stack of calls of ufmt are compared with their bounds. The rows of tools/data/measured/floats.txt are usual
 floats; decimals that binary fractions have; the ends of the ranges that crates/ufmt_float/CALLING.md and
 crates/ufmt_fixed/CALLING.md name, and what lies in them.
-
-With `--every-f32` it compares all `f32`s by digests, each for 2^24 patterns, in an hour and a half of a processor.
 """
 import functools
 import shutil
@@ -34,20 +32,8 @@ def theirs(room):
     return room / "rustc-floats"
 
 
-def printed(program, *words, text=None):
-    return subprocess.run([program, *words], input=text, stdout=subprocess.PIPE, text=True, check=True).stdout
-
-
-def compare_every(first):
-    faults = 0
-    with running.room("floats") as room:
-        both = ours(room), theirs(room)
-        for block in range(first, 256):
-            said = [printed(program, *("%x" % (it << 24) for it in (block, block + 1))) for program in both]
-            faults += said[0] != said[1]
-            print("%d %s" % (block, said[0] if said[0] == said[1] else "%s, and by rustc %s" % tuple(said)), flush=True)
-    print("%d blocks of 2^24 floats, %d differences" % (256 - first, faults))
-    return 1 if faults else 0
+def printed(program, text):
+    return subprocess.run(program, input=text, stdout=subprocess.PIPE, text=True, check=True).stdout
 
 
 def counted(program):
@@ -57,8 +43,7 @@ def counted(program):
 
 
 def past_bounds(program, counts):
-    """A line for each call that takes more steps than its bound, and for each function that is past a bound of stack, where there
-    is objdump."""
+    """A line for each call that takes more steps than its bound, or more stack, where there is objdump."""
     past = list(measures.Table("floats").faults(counts)) if counts else []
     known = stack.Frames(program) if shutil.which("objdump") else None
     for name, (most, own) in measures.Table("stack").of("float").items() if known else ():
@@ -69,17 +54,15 @@ def past_bounds(program, counts):
     return past
 
 
-def measured(room):
+def measured(room, _given):
     return counted(by_ufmt(room)), []
 
 
 def main(given):
-    if given.every_f32 is not None:
-        return compare_every(given.every_f32)
     text = patterns.lines(COUNT if given.count is None else given.count, given.seed)
     with running.room("floats") as room:
         rustc = theirs(room)
-        said = [printed(program, text=text).splitlines() for program in (ours(room / "ours"), rustc)]
+        said = [printed(program, text).splitlines() for program in (ours(room / "ours"), rustc)]
         program = by_ufmt(room / "by_ufmt")
         counts = counted(program)
         past = past_bounds(program, counts)

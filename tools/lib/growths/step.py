@@ -32,6 +32,7 @@ NUMBER = re.compile(r"\b\d[\d_]*(?: \* \d[\d_]*)*\b")
 MOST = 65536
 LOOP = re.compile(r"\s*(for \w+ in [^{]*\.\.|while |loop\b)")
 GROWS = re.compile(r"\b(push\w*|new|clone|collect|extend\w*|insert|append|to_\w+|write_\w+|from_\w+|with_capacity|reserve|resize)(::<[^>]*>)?\(.*\?", re.S)
+FUNCTION = re.compile(r"(?m)^ *(?:\{$|(?:pub(?:\(\w+\))? )?(?:const )?(?:unsafe )?fn .*\{$)")
 TEXT = re.compile(r'"(?:[^"\\]|\\.)*"')
 
 
@@ -129,23 +130,14 @@ def wrong_text(text, place, put, keeps):
     return found and text[: found.end() if keeps else found.start()] + put + text[found.end() :]
 
 
-def with_wrong_lines(text):
-    """The source with a wrong line at the start of each function, and the numbers of these lines."""
-    lines, numbers = [], []
-    for line in text.split("\n"):
-        lines.append(line)
-        if re.match(r" *\{$| *(pub(\(\w+\))? )?(const )?(unsafe )?fn .*\{$", line):
-            lines.append(ANYWHERE[len(numbers) % len(ANYWHERE)])
-            numbers.append(len(lines))
-    return "\n".join(lines), numbers
-
-
 def unfound(texts, rows):
     """The wrong bodies and lines that pass."""
+    put = itertools.cycle(ANYWHERE)
     for name, text in texts.items():
-        changed, numbers = with_wrong_lines(text)
-        named = {number for number, _ in new_places(name, changed, rows)}
-        yield from ("crates/%s:%d: a wrong line there isn't found" % (name, number) for number in numbers if number not in named)
+        changed, count = FUNCTION.subn(lambda found: "%s\n%s" % (found[0], next(put)), text)
+        found = len(list(new_places(name, changed, rows)))
+        if found != count:
+            yield "crates/%s:1: of %d wrong lines, one in each function, %d are found" % (name, count, found)
     for keeps, rows_of_bodies in ((True, PUT), (False, CHANGED)):
         for row in rows_of_bodies:
             what, name, place, put = map(data.text_of, row.split(" => "))
@@ -168,6 +160,6 @@ def main(given):
     if given.write:
         TABLE.write_text(anew(texts, reasons))
         rows, reasons = table()
-    lines = sum(len(with_wrong_lines(text)[1]) for text in texts.values())
+    lines = sum(len(FUNCTION.findall(text)) for text in texts.values())
     return ended([*wrong_places(texts, rows), *unfound(texts, rows), *("%s:1: no reason: %s" % (TOLD, row) for row, reason in reasons.items() if reason == UNKNOWN)],
                  "%d sources, %d places, %d wrong bodies, %d wrong lines" % (len(texts), sum(rows.values()), len(PUT) + len(CHANGED), lines))

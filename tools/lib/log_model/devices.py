@@ -88,8 +88,7 @@ def wrong_end(ours, path, process, wanted, line):
 
 
 def fault(path, arguments, chunks, rounds, status=0, line=b""):
-    """What is wrong with a run that reads these chunks, or None. `rounds` has what it should write after each chunk, and last after the end
-    of the input."""
+    """What is wrong with a run that reads these chunks, or None; `rounds` come after each, and last."""
     wanted = Ended(status, len(chunks) + 1, sum(map(len, rounds)))
     ours, theirs = zip(*(channel() for _ in range(3)))
     with contextlib.ExitStack() as stack:

@@ -82,5 +82,5 @@ def faults(path):
     return list(measures.Table(MEASURED).faults(rows, is_whole=len(rows) > len(SHAPES)))
 
 
-def measured(_room):
-    return counted(needs.built("ufmt_lines")), []
+def measured(_room, given):
+    return counted(needs.built("ufmt_lines", given.program)), []

@@ -1,77 +1,48 @@
 """Random logs, and how they are cut into chunks. One seed makes the same ones each time."""
 import itertools
 
+from lib import data
 from lib.model.document import Block, list_of, plain, pretty, quoted
 from lib.model.documents import DebugMaker
 
-# What is between words, or next to a text. A text begins only after a space or a line feed.
-BETWEEN = (b" ", b" ", b" ", b"  ", b"    ", b"\t", b"=", b": ", b", ", b"\r ", b"\r", b"\0", b"\xff ", b"\xc3", b". ", b"\xc2\xa0", b"\x0b")
-AFTER = (b" ", b"\r", b".", b",", b"\0", b"]", b"}", b")", b"\t", b"\xff", b"  ", b"\x80", b"\xe2\x82")
-SIGNS = ("[", "{", "(", "]", "}", ")", "[]", "()", "{}", '"', "'", "S {", "a:", "(1,", "[1,", "{ }", "//", "\\", '\\"', "\\'", '("\\"', "(\\'", "\ufeff", "\u00e9", "..", "{ .. }", ".. }")
+# Lines that were a fault once, what random logs are mixed of, and what long lines have many times.
+NAMED, PIECES, LONG = (list(map(data.data_of, rows)) for rows in data.parts("logs/nasty.txt").values())
 # Counts and lengths around those where a counter or a buffer could end.
 NUMBERS = (*range(1, 18), 31, 32, 33, 63, 64, 65, 127, 128, 129, 254, 255, 256, 257, 1000, 1023, 1024, 1025)
 LENGTHS = (4095, 4096, 4097, 8191, 8192, 8193, 65_535, 65_536, 65_537, 131_072, 200_000)
 # The most that a chunk has: a read takes no more.
 CHUNK = 64 * 1024
+PAST_CHUNK = CHUNK + 4096
 
 
 class Maker:
     def __init__(self, seed):
         self.documents = DebugMaker(seed)
-        self.random = self.documents.random
-
-    def size(self, most):
-        """A number from 1 on, as often between 1 and 10 as between 10 and 100."""
-        return int((most + 1) ** self.random.random())
+        self.random, self.size = self.documents.random, self.documents.size
 
     def text(self):
-        return self.random.choice((plain, pretty))(self.documents.grown(self.size(50), 0)).encode()
+        return self.random.choice((plain, pretty))(self.documents.mixed(self.size(50))).encode()
 
     def changed(self, text):
         """The text with a byte or a piece too many or too few, or with its lines changed."""
-        at = self.random.randrange(len(text) + 1)
-        form = self.random.randrange(6)
-        if form < 2:
-            return text[:at] + (text[at + 1 :] if form else b"")
-        if form == 2:
-            return text[:at] + self.random.choice(AFTER + BETWEEN) + text[at:]
-        if form == 3:
-            return text.replace(b"\n", self.random.choice((b"\r\n", b"\n ", b"\n\n", b" \n", b"", b" ")))
-        if form == 4:
-            return text[:at] + b"\n" + self.words() + b"\n" + text[at:]
-        return text + self.random.choice(AFTER)
+        at, piece = self.random.randrange(len(text) + 1), self.random.choice(PIECES)
+        line_end = self.random.choice((b"\r\n", b"\n ", b"\n\n", b" \n", b"", b" "))
+        return self.random.choice((
+            text[:at], text[:at] + text[at + 1 :], text[:at] + piece + text[at:], text + piece,
+            text.replace(b"\n", line_end), text[:at] + b"\n" + self.words() + b"\n" + text[at:],
+        ))
 
     def words(self):
-        """Words with what is between them: few as a rule, but now and then a thousand."""
-        if self.random.random() < 0.3:
-            return b""
-        words = b""
-        for _ in range(self.size(1000 if self.random.random() < 0.05 else 8)):
-            words += (self.random.choice(SIGNS) if self.random.random() < 0.25 else self.documents.word()).encode()
-            words += self.random.choice(BETWEEN)
-        return words
-
-    def long_line(self):
-        """One piece many times. A block could open at each `(a, ` or `(\\' `, and each is read: there are fewer."""
-        piece = self.random.choice((b"a", b" ", b"[", b" [", b"[ ", b"[]", b"a ", b'"', b' "', b"\0", b"\xff", b"(a, ", b'("\\"", ', b"(\\' ", b"\xc3\xa9", b"1, "))
-        return piece * (self.size(1000 if piece.startswith(b"(") else 100_000) // len(piece) + 1)
+        """Pieces in a row, as a rule of few kinds."""
+        kinds, most = self.random.randint(2, 12), self.random.choice((*[14] * 50, 100))
+        pieces = self.random.sample(PIECES, kinds) if self.random.random() < 0.7 else PIECES
+        return b"".join(self.random.choices(pieces, k=self.size(most)))
 
     def entry(self):
         """What is between two line feeds of a log, as a rule: some words, and a text or nearly one."""
-        form = self.random.random()
-        if form < 0.01:
-            # A group that doesn't end.
-            line = b" " * self.size(40) + self.words()
-            return self.words() + self.random.choice((b"[", b"{", b"(")) + (b"\n" + line.replace(b"\n", b"")) * self.size(300)
-        if form < 0.02:
-            return self.long_line() + self.random.choice((b"", b" ")) + self.text()
-        if form < 0.15:
-            return self.words()
-        if form < 0.6:
-            return self.words() + self.text()
-        if form < 0.8:
-            return self.words() + self.changed(self.text())
-        return self.words() + self.text() + self.random.choice((b" ", b"  ", b", ", b"\r ")) + self.text()
+        words, text, piece = self.words(), self.text(), self.random.choice((b"", b" ", *PIECES))
+        near, two = words + piece + self.changed(text), text + piece + self.text()
+        return self.random.choice((words, piece + text, words + b" " + text, near, two))
 
     def log(self):
         return b"\n".join(self.entry() for _ in range(self.size(100))) + self.random.choice((b"", b"\n", b"\n\n", b"\r\n", b" "))
@@ -123,13 +94,17 @@ def each_number():
             yield quoted("\u00e9\n" * number).encode() + b" " + text
             yield b"a " + printed(list_of(quoted(" " * number + "[1]"))).encode()
         yield b"a [" + b"\n    b" * number + b"\n]\nb" + b"\n" * number + b"(" * number
+        yield b"a [" + b"\n  b c" * number
         for printed in (plain, pretty):
             yield b"a " + printed(Block("open struct", "S" * number, [("f", "1")] * number)).encode()
             yield b"a " * number + printed(Block("open struct", "S" * number, [])).encode()
 
 
 def each_length():
-    """Long lines with a text at the end, which ends near the end of a chunk."""
+    """Long lines with a text at the end, which ends near the end of a chunk; and one piece many times. A
+    block could open at each `(a, ` or `[`, and each is read: of these there are fewer."""
+    for piece, end in itertools.product(LONG, (b"", b" ", b"[1]", b" [1]")):
+        yield piece * ((1000 if piece.startswith((b"(", b"[")) else PAST_CHUNK) // len(piece)) + end
     for length, text in itertools.product(LENGTHS, (b" [1]", b" [\n    1,\n]", b'["')):
         yield b"a" * (length - len(text)) + text
         yield text + b"a" * (length - len(text) - 1) + b'"]'

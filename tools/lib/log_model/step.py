@@ -1,14 +1,11 @@
-"""Makes random logs, runs the built ufmt_lines on each with and without `--plain`, also as the other compiler built it, and
-compares each of its reads and writes with those of a model, which shares no code with the project. With a C compiler memory, reads
-and writes are counted on long logs of each shape, and with valgrind steps (log_costs.py).
-
-Lines of nasty pieces, 100 times as many, are compared in the same way, with each limit for values that stay.
-
-Last the built ufmt_conv reads texts in chunks, and each of its reads and writes is compared too.
+"""Makes random logs, runs the built ufmt_lines on each with and without `--plain`, also as the other compiler
+built it, and compares each of its reads and writes with those of a model, which shares no code with the
+project; and lines of nasty pieces, 100 times as many, with each limit for values that stay. Then the built
+ufmt_conv reads texts in chunks. With a C compiler costs are counted on long logs of each shape
+(log_costs.py).
 """
 import concurrent.futures
 import itertools
-import random
 import shutil
 
 from lib import data, needs
@@ -19,19 +16,13 @@ from lib.model.documents import Maker
 from lib.model.reading import MODES
 
 LIMITS = (0, 8, log_model.LONGER_THAN + 1)
-NAMED, PIECES = ([data.data_of(row) for row in data.parts("logs/nasty.txt")[part]] for part in ("named", "pieces"))
 FIVE_FORMATS = (data.DATA / "logs" / "five_formats.log").read_bytes()
-
-
-def nasty(chance):
-    pieces = chance.sample(PIECES, chance.randint(2, 12)) if chance.random() < 0.7 else PIECES
-    return b"".join(chance.choice(pieces) for _ in range(chance.randint(1, 14)))
 
 
 def nasty_logs(count, seed):
     """Logs of so many lines, or some more where a piece has a line feed, each with its chunks."""
-    chance = random.Random(seed)
-    lines = [*NAMED, *(nasty(chance) for _ in range(count))]
+    maker = logs.Maker(seed)
+    lines = [*logs.NAMED, *(maker.words() for _ in range(count))]
     joined = (b"\n".join(lines[at : at + 100]) for at in range(0, len(lines), 100))
     return [(log, log.splitlines(keepends=True)) for log in joined]
 

@@ -15,8 +15,7 @@ LONG, HUGE = 100, (2**63, 2**64 - 1)
 
 
 def huge():
-    """Requests with one huge option each, with some that don't meet in a call, and with columns of each width around numbers that
-    are padded to each."""
+    """Requests with a huge option each, or two, and with columns of each width around padded numbers."""
     some, product = Request(width=LONG, pad_length=LONG, per_row=LONG, payload=b"abc"), itertools.product
     aligns, widths = (0, 1, 2), (65, 1000, LONG, *HUGE)
     for number in (LONG, *HUGE):

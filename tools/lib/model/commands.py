@@ -1,12 +1,11 @@
 """Runs of ufmt_conv and ufmt_lines: what they take of steps, memory and calls of their devices, beside what was measured in the past,
-the rows of tools/data/measured/texts.txt; and texts of 16 MiB by the calls of the library."""
+the rows of tools/data/measured/texts.txt."""
 from collections import namedtuple
 from concurrent.futures import ThreadPoolExecutor
 
-from lib import measures
 from lib.log_model import log_model
 from lib.model import shapes
-from lib.model.costs import MEASURED, SECONDS
+from lib.model.costs import SECONDS
 from lib.model.document import list_of, plain, pretty
 
 # A text has a document of each shape, of so many bytes or of some times that. Steps aren't counted of longer texts.
@@ -56,8 +55,7 @@ def line_runs(is_plain):
 
 
 def rows_of(counter, programs, run, nothing):
-    """What a run takes: memory, reads and writes, and if valgrind is there its steps, less those of a run on
-    nothing; and what is wrong with its output."""
+    """What a run takes, its steps less those of a run on nothing; and what is wrong with its output."""
     words = [programs[run.program], *run.words]
     output, counts = counter.run(words, run.data, run.name, seconds=SECONDS)
     rows = {run.name: [(label, getattr(counts[0], label)) for label in LABELS]}
@@ -85,11 +83,6 @@ def counted(counter, programs, part):
     return rows, faults
 
 
-def faults_of(counter, programs, part):
-    rows, wrong = counted(counter, programs, part)
-    return wrong + list(measures.Table(MEASURED).faults(rows, is_whole=False)), len(rows)
-
-
 def short_reads():
     """What is read in few bytes: of ufmt_conv one text, of ufmt_lines a line for each read, and a line or group of all."""
     yield Run("ufmt_conv pretty", "ufmt_conv", ("pretty",), plain(list_of(*["12345678"] * READS)).encode())
@@ -100,37 +93,10 @@ def short_reads():
 
 
 def read_steps(counter, programs):
-    """What runs take more in which each read takes few bytes: a row for each."""
+    """What runs take more in which each read takes few bytes: a row for each, and no fault."""
     rows = {}
-    for run in short_reads():
+    for run in short_reads() if counter.valgrind else ():
         words, name = [programs[run.program], *run.words], "short reads, " + run.name
         few, whole = (counter.steps(words, run.data, name, seconds=SECONDS, most_read=most)[0] for most in (READ_BYTES, None))
         rows["%d reads of %d bytes, %s" % (READS, READ_BYTES, run.name)] = [("steps", few - whole)]
-    return rows
-
-
-def short_read_faults(counter, programs):
-    found = read_steps(counter, programs) if counter.valgrind else {}
-    return list(measures.Table(MEASURED).faults(found, is_whole=False)), len(found)
-
-
-def measured_rows(counter, programs):
-    rows = read_steps(counter, programs)
-    for part in PARTS:
-        rows.update(counted(counter, programs, part)[0])
-    return rows
-
-
-# ---- Large texts. None of their costs is counted.
-
-SIZE = 16 * 1024 * 1024
-
-
-def listed(leaf, count):
-    return "[%s]" % ", ".join([leaf] * count), "[\n%s]" % ("    %s,\n" % leaf * count)
-
-
-def large_texts():
-    """A word, a text, lists of long and of short words. Of more words the model would take many minutes."""
-    texts = "x" * SIZE, '"%s"' % ("a" * SIZE), *listed("x" * 65536, SIZE // 65536), *listed("x", 1_500_000)
-    return map(str.encode, texts)
+    return rows, []

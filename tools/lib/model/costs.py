@@ -4,7 +4,7 @@ past: the rows of tools/data/measured/texts.txt (tools/lib/measures.py).
 Steps are counted on short texts. Memory is counted on long ones, and so are the steps of a text there with a call that took longer than its
 steps on the short one let expect: steps that grow in another order are far more.
 """
-import itertools
+import math
 from collections import namedtuple
 
 from lib import findings, measures
@@ -68,6 +68,11 @@ class Run:
         self.is_counted, self.around = is_counted, min(steps, default=0)
         self.made = [(one, *call) for one, line in zip(texts, self.lines) for call in calls_of(line)]
 
+    def faults(self):
+        if len(self.lines) == len(self.texts) and len(self.counts) >= len(self.made):
+            return []
+        return ["%d lines and %d counts of %d texts" % (len(self.lines), len(self.counts), len(self.texts))]
+
     def calls(self):
         return [(*call, counts) for call, counts in zip(self.made, self.counts)]
 
@@ -88,7 +93,8 @@ class Run:
 def most_steps(call, rows, small):
     """The most steps of a call on a long text, by those on the short text of its shape."""
     one, half, place, *_ = call
-    return int(GROWTH * rows["%s: %s" % (one.name, half)][place] * one.size / small[one.name])
+    known = rows.get("%s: %s" % (one.name, half))
+    return int(GROWTH * known[place] * one.size / small[one.name]) if known else math.inf
 
 
 def slow_faults(counter, program, run, small):
@@ -104,34 +110,19 @@ def slow_faults(counter, program, run, small):
             for call, most in found if call[-1] > most]
 
 
-def faults_of(run):
-    if len(run.lines) != len(run.texts) or len(run.counts) < len(run.made):
-        return ["%d lines and %d counts of %d texts" % (len(run.lines), len(run.counts), len(run.texts))], len(run.made)
-    return list(measures.Table(MEASURED).faults(run.rows(), is_whole=False)), len(run.made)
-
-
-def request_faults(counter, program, is_counted):
-    """The faults of calls with huge options, and how many calls were counted. Each must find its buffer full."""
+def of_requests(counter, program, is_counted):
+    """What calls with huge options take, and their faults. Each must find its buffer full."""
     run = Run(counter, program, requested(), "requests", is_counted, REQUEST_SECONDS)
-    wrong, count = faults_of(run)
     fitting = ["%s: a text fits: %s" % (one.name, line) for one, line in zip(run.texts, run.lines) if " yes" in line]
-    return wrong + fitting, count
+    return run.rows(), run.faults() + fitting
 
 
-def part_faults(counter, program, number, is_counted):
-    """The faults of one part of the texts, and how many calls were counted."""
+def of_part(counter, program, number, is_counted):
+    """What the calls on one part of the texts take, and their faults."""
     texts = list(samples(COUNTED_SIZE if is_counted else TIMED_SIZE, number))
     run = Run(counter, program, texts, "part %d, %s" % (number, is_counted), is_counted)
-    wrong, count = faults_of(run)
+    wrong = run.faults()
     if not is_counted and not wrong:
         small = {one.name: one.size for one in samples(COUNTED_SIZE, number)}
-        wrong += slow_faults(counter, program, run, small)
-    return wrong, count
-
-
-def measured_rows(counter, program):
-    rows = Run(counter, program, requested(), "measured", True).rows()
-    kinds = (COUNTED_SIZE, True), (TIMED_SIZE, False)
-    for number, (size, is_counted) in itertools.product(range(PARTS), kinds):
-        rows.update(Run(counter, program, list(samples(size, number)), "measured", is_counted).rows())
-    return rows
+        wrong = slow_faults(counter, program, run, small)
+    return run.rows(), wrong

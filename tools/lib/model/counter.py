@@ -16,8 +16,7 @@ CALLGRIND = ("--tool=callgrind", "--combine-dumps=yes", "--zero-before=counts_be
 
 
 def programs_of(program):
-    """The built programs by their names: those that `rt ci` leaves, or a probe_model that is named, with those that the same
-    compiler made."""
+    """The built programs by their names: those that `rt ci` leaves, or beside another probe_model."""
     program = needs.built("probe_model", program)
     found = {name: TOP / "crates" / name / "out" / program.name.replace("probe_model", name) for name in ("ufmt_conv", "ufmt_lines")}
     return dict(found, probe_model=program)

@@ -2,13 +2,14 @@
 random."""
 from lib.model.coverage import (BLOCKS, DEBUG_LEAVES, DEBUG_PLACES, DEPTHS, EXACT_ENTRIES, EXACT_LENGTH,
                                 LEAVES, MANY, OPEN_STRUCTS, PLACES, powers)
-from lib.model.debug_leaves import ESCAPED, SHAPES
+from lib.model.debug_leaves import ESCAPED, NAME_SHAPES, SHAPES
 from lib.model.document import DEEPEST, STRUCTS, Block, list_of, quoted, tuple_of
 
 # Blocks of blocks have about so many leaves.
 LEAVES_EACH = 500
 DOTS = ".."
-NAME_SHAPES = ("p", "u", "Cp", "pCu", "wCw", "uCw")
+# Entries of wide blocks.
+SMALL = ("x", "7", "-", "()", '""', "'a'", Block("list", "", []), Block("map", "", []))
 SHAPES_EACH = 60
 
 
@@ -50,6 +51,7 @@ class Covering:
             yield list_of(*(self.inside(place, [document]) for document in self.some()))
             yield from (self.inside(place, documents) for documents in turns(self.some()))
             yield from (self.inside(outer, [self.inside(place, self.some())]) for outer in self.in_places)
+        yield from (Block("map", "", [*zip(keys, self.some())]) for keys in turns(self.some()))
 
     def within(self, size):
         return self.random.randint(size // 2 + 1, size)
@@ -88,7 +90,7 @@ class Covering:
             yield from (self.wide(kind, self.within(size)) for size in powers(512))
 
     def wide(self, kind, count):
-        return self.maker.block(kind, [self.maker.small() for _ in range(count)])
+        return self.maker.block(kind, self.random.choices(SMALL, k=count))
 
     def many(self):
         for kind in BLOCKS:
@@ -144,38 +146,37 @@ class DebugCovering(Covering):
     kinds = BLOCKS + LEAVES + DEBUG_LEAVES + OPEN_STRUCTS
 
     def documents(self):
-        self.leaves = self.maker.leaves
         yield from super().documents()
         for each in (self.shapes, self.counts, self.names, self.dots):
             yield from each()
 
     def of_kind(self, kind):
         shapes = {"word": "w", "debug word": "p", "quotes": self.random.choice(("o", "wt", "cpc", "Ct"))}
-        return self.leaves.of_shape(shapes[kind]) if kind in shapes else super().of_kind(kind)
+        return self.maker.of_shape(shapes[kind]) if kind in shapes else super().of_kind(kind)
 
     def word(self, length):
-        return self.leaves.word(self.random.choice("pu"), length)
+        return self.maker.word_of(self.random.choice("pu"), length)
 
     def text(self, length):
         return 'b"%s"' % ("x" * (length - 3))
 
     def shapes(self):
         for start in range(0, len(SHAPES), SHAPES_EACH):
-            yield list_of(*map(self.leaves.of_shape, SHAPES[start : start + SHAPES_EACH]))
+            yield list_of(*map(self.maker.of_shape, SHAPES[start : start + SHAPES_EACH]))
         yield from (list_of(*("b%s\\%s%s" % (quote, character, quote) for character in ESCAPED)) for quote in "\"'")
 
     def counts(self):
         sizes = self.sizes(EXACT_ENTRIES, 1024)
-        yield list_of(*map(self.leaves.of_pieces, sizes))
-        yield list_of(*(":" * size + self.leaves.of_shape("p") for size in sizes))
-        yield list_of(*("a" + ":" * size + self.leaves.of_shape("o") for size in sizes))
-        yield from (self.leaves.of_pieces(self.within(size)) for size in powers(16384)[11:])
+        yield list_of(*map(self.maker.of_pieces, sizes))
+        yield list_of(*(":" * size + self.maker.of_shape("p") for size in sizes))
+        yield list_of(*("a" + ":" * size + self.maker.of_shape("o") for size in sizes))
+        yield from (self.maker.of_pieces(self.within(size)) for size in powers(16384)[11:])
         yield from ("a" + ":" * self.within(size) + "1.5" for size in (*powers(32768)[11:], 131072))
 
     def names(self):
         """Names of these shapes, and for each length that of a struct with nothing but dots."""
         for letters in NAME_SHAPES:
-            name = self.leaves.of_shape
+            name = self.maker.of_shape
             yield list_of(*(Block(kind, name(letters), [(name(letters), "1.5")]) for kind in STRUCTS))
             yield list_of(Block("open struct", name(letters), []), tuple_of("x", name=name(letters)))
         yield list_of(*(Block("open struct", self.word(size), []) for size in self.sizes(EXACT_LENGTH, 4096)))

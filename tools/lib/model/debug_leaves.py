@@ -9,17 +9,17 @@ import itertools
 import re
 
 from lib import data
-from lib.model import characters
-from lib.model.document import DEEPEST, QUOTED_CHARACTER, QUOTED_TEXT, STRUCTS, WORD, Block, plain, pretty, quoted
-from lib.model.reading import CONTROLS, IN_QUOTES, LIFETIME, START, UNIT, WORD_BYTES
+from lib.model.document import QUOTED_CHARACTER, QUOTED_TEXT, WORD
+from lib.model.reading import IN_QUOTES, LIFETIME, START, UNIT, WORD_BYTES
 
 WORDS, QUOTES, COLONS, UNITS, LIFETIMES, STARTS = "wpu", "tco", "C", "U", "L", "WA"
 PIECE = re.compile("(%s)|(%s)|(:+)|%s|%s" % (WORD_BYTES, "|".join(IN_QUOTES), LIFETIME, UNIT))
 # Bytes that end a word, but for controls and colons.
 ENDS = " \"'(),[]{}"
-# The ASCII characters that only words of debug documents have, and what may follow a backslash.
+# The ASCII characters that only debug words have, what may follow a backslash, and shapes of names.
 POINTS = "".join(chr(code) for code in range(0x21, 0x7F) if chr(code) not in ENDS + ":" and not WORD.fullmatch(chr(code)))
 ESCAPED = "".join(map(chr, range(0x20, 0x7F)))
+NAME_SHAPES = ("p", "u", "Cp", "pCu", "wCw", "uCw")
 PAST_ASCII = "\u00e9\u00b5\u0301\u20ac\u200b\ufeff\U0001f980\U0010ffff"
 # What rustc prints of values of std.
 PRINTED = tuple(map(data.text_of, data.parts("texts/pieces.txt")["printed"]))
@@ -54,11 +54,6 @@ LETTERS = STARTS + WORDS + QUOTES + COLONS + UNITS + LIFETIMES
 SHAPES = [row for count in (1, 2, 3) for row in map("".join, itertools.product(LETTERS, repeat=count)) if is_shape(row)]
 
 
-def is_in_word(character):
-    """Whether a word may have the character, but for colons."""
-    return character not in ENDS + ":" and not re.match("[%s]" % CONTROLS, character)
-
-
 def joined(pieces):
     """The pieces in a row. A word that ends with a backslash before a quote ends with a point. After a lifetime's apostrophe no
     word has a backslash first, nor one character alone before another apostrophe."""
@@ -72,79 +67,6 @@ def joined(pieces):
             piece = "." + piece[1:]
         found += piece
     return found
-
-
-class LeafMaker:
-    """Makes such leaves at random. Pieces have up to `longest` characters."""
-
-    def __init__(self, random):
-        self.random = random
-
-    def word(self, letter, length):
-        tokens = "".join(self.random.choices("abXY019_-", k=length))
-        if letter == "w":
-            return tokens
-        at = self.random.randrange(length)
-        return tokens[:at] + self.random.choice(POINTS if letter == "p" else PAST_ASCII) + tokens[at + 1 :]
-
-    def any_word(self, length):
-        """A word of any characters, most often ASCII."""
-        if self.random.random() < 0.8:
-            some = self.random.choice(("ab19.-+<>=_/", POINTS + PAST_ASCII + "ab"))
-            return "".join(self.random.choices(some, k=length))
-        found = [characters.any_character(self.random) for _ in range(length)]
-        return "".join(character if is_in_word(character) else "." for character in found)
-
-    def in_quotes(self, letter, length):
-        if letter == "c":
-            return quoted(self.random.choice("ab\n\"'\u20ac\x1b"), "'")
-        if letter == "t":
-            return quoted("".join(self.random.choices("ab ,:[]{}()\n\"'\u00e9\u20ac", k=length)))
-        if self.random.random() < 0.5:
-            return "'\\x" + "".join(self.random.choices("ab09XY{}", k=length)) + "'"
-        return '"' + "".join(self.inside('"') for _ in range(length)) + '\\x"'
-
-    def inside(self, quote):
-        if self.random.random() < 0.4:
-            return "\\" + self.random.choice(ESCAPED)
-        character = characters.any_character(self.random)
-        is_ended = character in ("\\", quote) or re.match("[%s]" % CONTROLS, character)
-        return "." if is_ended else character
-
-    def piece(self, letter, length):
-        if letter in WORDS:
-            return self.word(letter, length)
-        if letter in UNITS + LIFETIMES:
-            return "()" if letter == UNITS else "'"
-        if letter == "W":
-            return "(" + self.word(self.random.choice(WORDS), length) + ")"
-        if letter == "A":
-            return "[" + self.word("w", length) + self.random.choice(("", ":", "::1")) + "]:"
-        return ":" * length if letter == COLONS else self.in_quotes(letter, length)
-
-    def of_shape(self, letters, longest=4):
-        return joined(self.piece(letter, self.random.randint(1, longest)) for letter in letters)
-
-    def of_pieces(self, count):
-        in_quotes = self.random.choice(QUOTES)
-        letters = (in_quotes if (count - number) % 2 else WORDS[number % 3] for number in range(count))
-        return joined(self.piece(letter, 1) for letter in letters)
-
-    def name(self, length):
-        if self.random.random() < 0.5 or length < 4:
-            return self.any_word(length)
-        half = self.random.randrange(1, length - 2)
-        return self.any_word(half) + ":" * self.random.choice((1, 2)) + self.any_word(max(length - half - 2, 1))
-
-    def leaf(self, length):
-        form = self.random.random()
-        if form < 0.25:
-            return self.random.choice(PRINTED)
-        if form < 0.5:
-            return self.name(length)
-        if form < 0.9:
-            return self.of_shape(self.random.choice(SHAPES), max(length // 3, 1))
-        return self.of_pieces(min(length, 40))
 
 
 # ---- Texts that are no debug texts, by the reason why: those of tools/data/texts/refused.txt, and long ones.
@@ -166,16 +88,6 @@ def texts_of(row):
     return [text.replace(mark, each) for each in EACH[mark]] if mark else [text]
 
 
-def too_deep():
-    """Blocks of which one is too deep, with a leaf and with names that no token document has."""
-    for kind, name in (("list", ""), ("tuple", "a::B"), ("struct", "\u00e9"), ("open struct", "P")):
-        for document in ("1.5", Block("open struct", "P", [])):
-            for _ in range(DEEPEST + 1):
-                document = Block(kind, name, [("1.5" if kind in STRUCTS else None, document)])
-            yield from (plain(document).encode(), pretty(document).encode())
-
-
 REFUSED = {reason: [text for row in rows for text in texts_of(row)] for reason, rows in data.parts("texts/refused.txt").items()}
 REFUSED["many quotes of which the last isn't closed"] = [b'"a"' * MANY_PIECES + b'"', b"'a'.." * MANY_PIECES + b"'", b'""' * MANY_PIECES + b"'"]
-REFUSED["256 blocks"] = list(too_deep())
 REASON_OF = {text: reason for reason, texts in REFUSED.items() for text in texts}

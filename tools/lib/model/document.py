@@ -56,8 +56,7 @@ def plain(document):
 
 
 def pretty(document, depth=0):
-    """The pretty text, in so many blocks. An entry begins on a line of its own, indented, and a comma comes after it, but none
-    after dots."""
+    """The pretty text, in so many blocks: a line for each entry, with a comma, but none after dots."""
     return "".join(converted(document, True, depth))
 
 
@@ -101,8 +100,7 @@ ESCAPE = re.compile(r"\\u\{([0-9a-f]+)\}|\\(.)")
 # Cached, because each type with such a leaf asks for the leaf's text.
 @functools.lru_cache(maxsize=64)
 def unquoted(leaf):
-    """The text between the quotes of a leaf, with its escapes decoded. None if the leaf isn't a text or a character in quotes as a token
-    document has it."""
+    """The text between the quotes of a token document's leaf, without escapes. None of another leaf."""
     if leaf[0] not in "\"'" or not (QUOTED_TEXT.fullmatch(leaf) or QUOTED_CHARACTER.fullmatch(leaf)):
         return None
     return ESCAPE.sub(lambda found: chr(int(found[1], 16)) if found[1] else LETTERS.get(found[2], found[2]), leaf[1:-1])

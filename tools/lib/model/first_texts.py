@@ -72,7 +72,7 @@ def first_texts(seed):
     covering, debug_covering = Covering(maker), DebugCovering(debug_maker)
     yield from (b"", b"\n", b"()", b"[]", b"{}", b'""', b"''", b"x\n")
     yield from in_both_modes(at_bounds())
-    yield from in_both_modes(types.first_documents(maker.random))
+    yield from in_both_modes(types.first_documents())
     for each in (at_limits(maker), at_limits(debug_maker), covering.documents(), debug_covering.documents()):
         yield from in_both_modes(each)
     yield from itertools.chain(noise(maker), noise(debug_maker))

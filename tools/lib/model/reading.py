@@ -71,8 +71,7 @@ DEBUG = TextClass("debug", debug_leaf_at, is_debug_name, has_open_structs=True)
 
 
 class Reader:
-    """A reader of one mode and one class. `reached` is where the last piece of a text ended that fits it, of the text that was
-    read last."""
+    """A reader of one mode and one class. `reached` is where the last piece ended that fits."""
 
     def __init__(self, text_class=TOKEN):
         self.text_class = text_class

@@ -4,15 +4,14 @@ the project. Values that no text makes are printed by random options. What is co
 The built probe_model makes the calls. The texts that come first fill each cell of the table of shapes (coverage.py): a cell that no text
 fills is a fault. With 3000 or more, each character there is comes in apostrophes too.
 
-Then each call is made by itself on a text of each shape, and its memory and its steps are compared with what was measured (costs.py); and
-so are runs of both programs (commands.py). Memory is counted if there is a C compiler, and steps if there is valgrind too. With `--full` it
-only passes texts of 16 MiB, and one of 1,500,000 words, to every call of the library, in some minutes.
+Then each call is made by itself on a text of each shape, and its memory and its steps are compared with what
+was measured (costs.py); and so are runs of both programs (commands.py). Memory is counted if there is a C
+compiler, and steps if there is valgrind too.
 """
 import concurrent.futures
-import itertools
 import subprocess
 
-from lib import running
+from lib import measures, running
 from lib.findings import case, ended, shown
 from lib.model import asked, characters, commands, costs, counter, coverage, documents, first_texts, verdicts
 from lib.programs import cases
@@ -65,29 +64,33 @@ def made(count, seed):
 
 
 def cost_jobs(pool, programs, meter):
-    """The jobs that count."""
-    jobs = []
+    """The jobs that count. Each returns rows of tools/data/measured/texts.txt, and faults."""
     if meter.library is None:
-        return jobs
+        return []
+    jobs, probed = [pool.submit(commands.read_steps, meter, programs)], (meter, programs["probe_model"])
     for is_counted in (True, False) if meter.valgrind else (False,):
-        probed = meter, programs["probe_model"]
-        jobs += [pool.submit(costs.part_faults, *probed, number, is_counted) for number in range(costs.PARTS)]
-        jobs.append(pool.submit(costs.request_faults, *probed, is_counted))
-    jobs.append(pool.submit(commands.short_read_faults, meter, programs))
-    return jobs + [pool.submit(commands.faults_of, meter, programs, part) for part in commands.PARTS]
+        jobs += [pool.submit(costs.of_part, *probed, number, is_counted) for number in range(costs.PARTS)]
+        jobs.append(pool.submit(costs.of_requests, *probed, is_counted))
+    return jobs + [pool.submit(commands.counted, meter, programs, part) for part in commands.PARTS]
 
 
-def measured(room):
+def found_by(jobs):
+    """The rows and the faults of all jobs. A run that ends by itself or takes too long is a fault."""
+    rows, faults = {}, []
+    for job in jobs:
+        try:
+            found, wrong = job.result()
+        except (subprocess.SubprocessError, ValueError) as error:
+            found, wrong = {}, ["a run that is counted: %s" % error]
+        rows.update(found)
+        faults += wrong
+    return rows, faults
+
+
+def measured(room, _given):
     programs, meter = counter.programs_of(None), counter.Counter(room)
-    return {**costs.measured_rows(meter, programs["probe_model"]), **commands.measured_rows(meter, programs)}, []
-
-
-def result_of(job):
-    """The faults of a job and how many costs it counted. A run that ends by itself or takes too long is a fault."""
-    try:
-        return job.result()
-    except (subprocess.SubprocessError, ValueError) as error:
-        return ["a run that is counted: %s" % error], 0
+    with concurrent.futures.ProcessPoolExecutor() as pool:
+        return found_by(cost_jobs(pool, programs, meter))
 
 
 def counted(meter, number):
@@ -98,10 +101,7 @@ def counted(meter, number):
 
 def main(given):
     programs = counter.programs_of(given.program)
-    if given.full:
-        wrong = [wrong_lines(programs["probe_model"], [text])[0] for text in commands.large_texts()]
-        return ended(itertools.chain(*wrong), "%d texts of 16 MiB" % len(wrong))
-    faults, cells, costs_counted = [], set(), 0
+    faults, cells = [], set()
     with running.room("texts") as room, concurrent.futures.ProcessPoolExecutor() as pool:
         meter = counter.Counter(room)
         costing = cost_jobs(pool, programs, meter)
@@ -111,12 +111,11 @@ def main(given):
             faults += wrong
             cells |= found
         faults += ["no text fills the cell: " + cell for cell in coverage.empty(cells)]
-        for job in costing:
-            wrong, number = result_of(job)
-            faults += wrong
-            costs_counted += number
+        rows, wrong = found_by(costing)
+    is_whole = bool(meter.library and meter.valgrind)
+    faults += [*wrong, *measures.Table(costs.MEASURED).faults(rows, is_whole)]
     told = "%d texts with seed %s fill %d cells" % (sum(map(len, texts)), given.seed, len(cells))
-    return ended(faults, "%s, %s" % (told, counted(meter, costs_counted)))
+    return ended(faults, "%s, %s" % (told, counted(meter, len(rows))))
 
 
 def stored_texts(left):

@@ -3,11 +3,14 @@ the calls and the macros for a user's types; and texts of their values and near 
 
 The program prints the letter of a type if a value of it has the text.
 """
+import itertools
+
 from lib import data
 from lib.model import values
-from lib.model.document import plain
+from lib.model.document import plain, text_of
 from lib.model.places import Texts, stop
 from lib.model.reading import document_of
+from lib.model.requests import with_places
 from lib.model.values import Choice, Decimal, Fields, Float, Keyed, List, Number, Quoted, Reversed, word
 
 
@@ -74,7 +77,6 @@ SHAPES += [
     (Fields("struct", "Lost", [("since", BYTE), ("peers", List(BYTE))]), "e(2, None, Some(({row})));"),
     (word("Ended"), "e(3, None, None);"),
 ]
-KINDS = [*TYPES.values(), *(kind for kind, _form in SHAPES)]
 
 
 def judged(data, is_pretty):
@@ -94,28 +96,22 @@ def fields(document, shapes):
 
 # ---- Texts of values and near them.
 
+# Values of the types, and what is nearly one, of which random ones are made.
+ROWS = (document_of(row.cells[0]) for row in data.rows_with_places() if row.words[:2] == ["value", "plain"])
+VALUES = [*filter(None, ROWS), *map(document_of, TABLES["values"])]
 NAMED = ("None", "Some", "Ok", "Err", "Maybe")
 SINGLE = ("1", "-129", "'a'", '"a"', "[]")
+# Of decimals.
+LARGEST, PLACES = 2**63, (0, 1, 18, 19, 20, 254, 255, 256)
 
 
-def first_documents(random):
-    """Values of each type. The values at each number type's bounds, and one past them; and what is nearly a value."""
-    for kind in KINDS:
-        yield from (surely(kind, random) for _ in range(3))
-        yield kind.made(random)
+def first_documents():
+    """Values of each type and near them; the numbers at each number type's bounds, and one past them."""
+    yield from VALUES
     for low, high in sorted({(kind.low, kind.high) for kind in TYPES.values() if isinstance(kind, Number)}):
         yield from (str(number) for number in (low - 1, low, high, high + 1))
-    yield from map(document_of, TABLES["near values"])
+    for value, places in itertools.product((1, LARGEST - 1, LARGEST, -LARGEST, -LARGEST - 1), PLACES):
+        yield text_of(with_places(value, places, 0))
     yield from (document_of(form % (name, value)) for name in NAMED for value in SINGLE for form in ("%s(%s)", "%s { value: %s }"))
     for keys in TABLES["keys"]:
         yield from map(document_of, ("{%s}" % keys, "[%s]" % keys, "{%s: None}" % keys.replace(",", ": None,")))
-
-
-def surely(kind, random):
-    while not values.has(kind, document := kind.made(random)):
-        pass
-    return document
-
-
-def made(random):
-    return random.choice(KINDS).made(random)

@@ -1,14 +1,13 @@
-"""Kinds of types: where a text of a value ends, the order of keys, and random values. types.py has the types that the program parses.
+"""Kinds of types: where a text of a value ends, and the order of keys. types.py has the types.
 
 Each kind takes its text from a place in `Texts` of places.py, which says where what is around entries ends.
 """
-import itertools
 import operator
 import re
 
 from lib.model import floats
-from lib.model.document import Block, list_of, plain, quoted, tuple_of, unquoted
-from lib.model.places import Stop, Texts, stop
+from lib.model.document import unquoted
+from lib.model.places import Stop
 
 DIGITS = re.compile(rb"[0-9]*")
 # A sign, the digits of the whole number, and those after a point.
@@ -36,17 +35,6 @@ class Number:
     def order(self, document):
         return int(document)
 
-    def made(self, random):
-        """A number of the type, or one past its bounds, or what is nearly a number."""
-        form = random.random()
-        if form < 0.8:
-            size = 10 ** random.randrange(len(str(self.high)))
-            sized = max(self.low, min(self.high, random.randrange(size, 10 * size)))
-            return str(random.choice((self.low, self.high, 0, 1, sized, random.randint(self.low, self.high))))
-        if form < 0.95:
-            return str(random.choice((self.low - 1, self.high + 1, -1, 10 * self.high)))
-        return random.choice(("-0", "00", "01", "-01", "-", "1_000", "0x1"))
-
 
 def spelled(text, is_number, at):
     """Where a number with this text ends, if it is one."""
@@ -62,17 +50,6 @@ class Float:
     def taken(self, texts, at, _blocks):
         text = FLOAT_BYTES.match(texts.data, at)[0].decode()
         return spelled(text, 0 < len(text) <= LONGEST_FLOAT and floats.reads(text, self.width) is not None, at)
-
-    def made(self, random):
-        """A float of the type, or what is nearly one."""
-        form, bits = random.random(), random.getrandbits(self.width)
-        if form < 0.5:
-            return floats.debug(bits, self.width)
-        if form < 0.75:
-            return floats.debug(random.choice(floats.edges(self.width)), self.width)
-        if form < 0.9:
-            return floats.debug(bits, self.width) + random.choice("05")
-        return random.choice(("4", "4.50", "+4.5", "1E5", "1e5", "-NaN", "nan", "infinity", "-0", ".5", "4."))
 
 
 def is_decimal(text):
@@ -90,25 +67,6 @@ class Decimal:
         text = DECIMAL_BYTES.match(texts.data, at)[0].decode()
         return spelled(text, is_decimal(text), at)
 
-    def made(self, random):
-        """A number of the type, or one past its bounds, or what is nearly a number."""
-        form, places = random.random(), random.choice((0, 1, 2, 3, 9, 18, 19, 20, random.randrange(256), MOST_PLACES))
-        if form < 0.8:
-            size = random.choice((0, 1, random.randrange(10 ** random.randrange(1, 19)), 2**63 - 1))
-            return decimal_text(random.choice((size, -size, -(2**63))), places)
-        if form < 0.95:
-            return decimal_text(random.choice((2**63, -(2**63) - 1, 2**64 - 1, 2**64, 10**39)), places)
-        if form < 0.97:
-            return decimal_text(random.choice((0, 1, -1)), MOST_PLACES + 1)
-        return random.choice(("-0", "-0.0", "-0.00", "00.5", "01.5", "1.", "-1.", ".5", "-.5", "+1.5", "1.5e5", "1..5", "1.5.5", "1_0.5"))
-
-
-def decimal_text(value, places):
-    """A value with a point before so many of its digits, and zeros before these if there are fewer."""
-    digits = str(abs(value)).rjust(places + 1, "0")
-    whole = len(digits) - places
-    return "-" * (value < 0) + digits[:whole] + ("." + digits[whole:] if places else "")
-
 
 class Quoted:
     def __init__(self, quote):
@@ -122,10 +80,6 @@ class Quoted:
 
     def order(self, document):
         return unquoted(document).encode()
-
-    def made(self, random):
-        count = 1 if self.quote == "'" else random.randrange(4)
-        return quoted("".join(random.choices("ab\"'\\\n\x1b\u00e9\u20ac\U0001f980", k=count)), self.quote)
 
 
 class Choice:
@@ -147,14 +101,6 @@ class Choice:
         if isinstance(document, str):
             return (self.names.index(document),)
         return self.names.index(document.name), self.variants[document.name].order(document.entries[0][1])
-
-    def made(self, random):
-        if not self.variants:
-            return random.choice(self.leaves)
-        if self.leaves and random.random() < 0.4:
-            return self.leaves[0]
-        name = random.choice(list(self.variants))
-        return tuple_of(self.variants[name].made(random), name=name)
 
 
 class Reversed(Choice):
@@ -182,12 +128,6 @@ class List:
     def order(self, document):
         return [self.value.order(value) for _none, value in document.entries]
 
-    def made(self, random):
-        length = self.length
-        if length is None or random.random() < 0.1:
-            length = int(2 ** random.uniform(0, 5)) - 1
-        return list_of(*(self.value.made(random) for _ in range(length)))
-
 
 class Fields:
     """A struct, or a tuple if the fields have no names."""
@@ -197,14 +137,6 @@ class Fields:
 
     def taken(self, texts, at, blocks):
         return texts.fields(self, at, blocks)
-
-    def made(self, random):
-        fields = [(name, kind.made(random)) for name, kind in self.fields]
-        if random.random() < 0.15:
-            random.shuffle(fields)
-        if random.random() < 0.1:
-            fields.append(random.choice(fields))
-        return Block(self.kind, self.name, fields)
 
 
 class Keyed:
@@ -226,25 +158,6 @@ class Keyed:
             raise Stop(at, "Order")
         return end
 
-    def made(self, random):
-        keys = [self.key.made(random) for _ in range(int(2 ** random.uniform(0, 4)) - 1)]
-        keys = [key for key in keys if has(self.key, key)]
-        if random.random() < 0.8:
-            # In order, each once.
-            keys = [next(equal) for _order, equal in itertools.groupby(sorted(keys, key=self.key.order), self.key.order)]
-        entries = [(key, self.value.made(random)) if self.value else (None, key) for key in keys]
-        return Block("map" if self.value or not keys else "set", "", entries)
-
-
-class Named:
-    """A type that has values of its own type in it: of the fields that are set below."""
-
-    def __init__(self, made):
-        self.made = made
-
-    def taken(self, texts, at, blocks):
-        return self.fields.taken(texts, at, blocks)
-
 
 def word(*words):
     return Choice(words, words)
@@ -255,24 +168,7 @@ def option(value):
 
 
 SIZE = Number(0, 2**64 - 1)
-
-
-def made_tree(random):
-    size = SIZE.made(random)
-    children = list_of(*(made_tree(random) for _ in range(random.choice((0, 0, 0, 1, 2)))))
-    return Block("struct", "Tree", [("size", size), ("children", children)])
-
-
-def made_node(random):
-    value = SIZE.made(random)
-    following = "None" if random.random() < 0.5 else tuple_of(made_node(random), name="Some")
-    return Block("struct", "Node", [("value", value), ("next", following)])
-
-
-TREE, NODE = Named(made_tree), Named(made_node)
-TREE.fields = Fields("struct", "Tree", [("size", SIZE), ("children", List(TREE))])
-NODE.fields = Fields("struct", "Node", [("value", SIZE), ("next", option(NODE))])
-
-
-def has(kind, document):
-    return stop(kind, Texts(plain(document).encode(), False)) is None
+# These have values of their own type in them.
+TREE, NODE = (Fields("struct", name, []) for name in ("Tree", "Node"))
+TREE.fields += [("size", SIZE), ("children", List(TREE))]
+NODE.fields += [("value", SIZE), ("next", option(NODE))]

@@ -10,10 +10,8 @@ here; its statuses are those of the table in the crate's CALLING.md, in the same
 is that of all and of the program; and `man`, if there is one, formats it without a warning.
 """
 import ast
-import pathlib
 import re
 import shutil
-from unittest import mock
 
 from lib import data, needs, running, sessions
 from lib.bench import build
@@ -74,26 +72,6 @@ def compared_page(name, prefix):
         yield "status %s" % status, meant.get(status, "")[: len(first)], first
 
 
-def compared_builds(room, programs, library):
-    """Without `--proved` each program is built by its own sources and those below it, as fast code, in a folder of its own."""
-    asked = {}
-
-    def kept(place, made):
-        return pathlib.Path(shutil.copy(made, place / made.name))
-
-    def program(place, name, below):
-        sources = [crate for crate in [*below, name] if (TOP / "crates" / crate).is_dir()]
-        asked[name] = place, all((place / "crates" / crate / "src").is_dir() for crate in sources), sorted(below)
-        return kept(place, next(path for path in programs if path.name == name))
-
-    with mock.patch.multiple(build, program=program, library_for_c=lambda place: kept(place, library)):
-        made, archive = dist.unproved(room)
-    yield "the programs", [path.read_bytes() for path in programs], [path.read_bytes() for path in made]
-    yield "the library", library.read_bytes(), archive.read_bytes()
-    below = {name: (room / name, True, sorted(build.libraries(TOP, [name]).keys() - {name})) for name in dist.PROGRAMS}
-    yield "the builds", below, asked
-
-
 def too_new():
     """What users run is of Python 3.9."""
     for path in [X, *(TOP / "tools" / "lib").rglob("*.py")]:
@@ -106,9 +84,8 @@ def too_new():
 def main(_given):
     programs, faults, count = list(map(needs.built, dist.PROGRAMS)), list(too_new()), 0
     with running.room("packaging") as room:
-        built, prefix, place, builds = (room / name for name in ("built here", "a prefix", "archive", "builds"))
+        built, prefix, place = (room / name for name in ("built here", "a prefix", "archive"))
         place.mkdir()
-        builds.mkdir()
         library = build.library_for_c(place)
         dist.put(built, programs, library, False)
         install.install(built, prefix)
@@ -116,6 +93,5 @@ def main(_given):
             found, sessions_tried = sessions.faults(name, BUILT=str(built), PREFIX=str(prefix))
             faults, count = faults + found, count + sessions_tried
         compared = [(name + ": " + what, *its) for name in PROGRAMS for what, *its in compared_page(name, prefix)]
-        compared += (("x dist: " + what, *its) for what, *its in compared_builds(builds, programs, library))
     faults += [case(what, wanted, got) for what, wanted, got in compared if wanted != got]
     return ended(faults, "%d sessions, %d comparisons" % (count, len(compared)))

@@ -1,11 +1,10 @@
 """Compares "The definitions to trust" in docs/PROMISES.md with what its headline rests on.
 
-A promise rests on each definition of specs/ in the clauses of its calls, on each that such a definition cites, and so on. The list of that
-section must have every one of the headline's, and nothing else of this repository. An item lists a file of specs/ whole, or `without` some
-of its definitions, or only those that it names.
-
-A fault is a name of the page that is nothing, a definition that isn't listed, or one that is listed and not cited. `x list definitions`
-first prints, for each section of promises, the definitions that these rest on beside the headline's, by file.
+A promise rests on each definition of specs/ in the clauses of its calls, on each that such a definition
+cites, and so on. The list must have every one of the headline's, and nothing else of this repository. An item
+lists a file of specs/ whole, or `without` some of its definitions, or only those that it names. A fault is
+also a name of the page that is nothing. `x list definitions` first prints what the promises of each section
+rest on beside the headline's, by file.
 """
 import re
 
@@ -115,8 +114,7 @@ def is_private(key):
 
 
 def rests_on(tree, promises, is_near=lambda path: True):
-    """The definitions that these promises rest on. A clause that has the name of a ghost value means those of
-    implementations, in the files that are near."""
+    """The definitions that these promises rest on. A ghost value means those of files that are near."""
     functions = [function for promise in promises for _, _, function in promise.functions]
     # Each implementation gives the names in a trait's clauses a meaning of its own: of these only the definitions count.
     calls = [call for call in functions if not call.is_of_trait() and " for " not in call.owner]

@@ -1,9 +1,7 @@
-"""Looks for what the pages name: each link leads to a file and a title that are there, each file in backticks is there, each
-command, as `./x try pages`, is there with its steps, and each module of contracts, as `Rattle.ufmt.specs.Layout`, is there with
-the words that stand in braces after it.
-
-Modules of this repository are files of `crates`, those of std are files of the kit. A library passes on modules by the `pub use`
-lines of its `Lib.antt`. Modules below `declared` are made from the sources, and aren't looked at.
+"""Looks for what the pages name: the file and the title of each link, each file in backticks, each command,
+as `./x try pages`, with its steps, and each module of contracts, as `Rattle.ufmt.specs.Layout`, with the
+words that stand in braces after it. Modules of std are files of the kit. A library passes on modules by the
+`pub use` lines of its `Lib.antt`. Modules below `declared` are made from the sources, and aren't looked at.
 """
 import collections
 import functools
@@ -11,7 +9,7 @@ import pathlib
 import re
 import shutil
 
-from lib import steps
+from lib.command import trying
 from lib.command.main import COMMANDS
 from lib.findings import ended
 from lib.pages.blocks import TOP, pages
@@ -74,7 +72,7 @@ def wrong_module(_page, crate, side, path, words):
 def wrong_command(_page, command, words):
     if command not in COMMANDS:
         return "there is no command x %s" % command
-    unknown = [word for word in words.split() if word not in steps.BY_NAME] if command == "try" else []
+    unknown = [word for word in words.split() if word not in trying.BY_NAME] if command == "try" else []
     return "x try has no step %s" % " and no ".join(unknown) if unknown else None
 
 

@@ -181,13 +181,6 @@ def kind(_words, cells):
     yield cells[0], cells[1], ", ".join(what for what, holds in found if holds == "yes") or "nothing"
 
 
-def in_quotes(quote):
-    def question(_words, cells):
-        yield cells[0], cells[1], quoted(cells[0], quote)
-
-    return question
-
-
 def stopped(words, text):
     """Where a text stops to be one of a value of the type, and what is expected there."""
     found = places.stop(TYPES[" ".join(words[1:])], places.Texts(encoded(text), words[0] == "pretty"))
@@ -229,8 +222,10 @@ def deep(words, cells):
 
 QUESTIONS = {
     "texts": both_texts, "stop": stop, "leaf": leaf, "beginnings": beginnings, "unended": unended, "events": of_document(events),
-    "parts": of_document(parts), "shown": shown, "kind": kind, "quoted": in_quotes('"'), "character": in_quotes("'"), "value": value, "said": told,
+    "parts": of_document(parts), "shown": shown, "kind": kind, "value": value, "said": told,
     "deep": deep, "format": formats, "number": number_around, "xxd": dumped,
+    "quoted": lambda _words, cells: [(*cells, quoted(cells[0]))],
+    "character": lambda _words, cells: [(*cells, quoted(cells[0], "'"))],
 }
 
 

@@ -20,13 +20,6 @@ from lib.top import TOP
 
 # The wrong sources are those of tools/data/rust/wrong.txt: the tool must end with the place of each.
 PATH = pathlib.Path("wrong.rt")
-# What goes wrong with the tables, and a part of what the tool says.
-TABLES = {
-    "a decision for no function": (lambda: table.decided("put", "unsafe", PATH, "fn other() {}\n"), "no public function"),
-    "a text of the table that isn't there": (lambda: table.replaced(PATH, "fn f() {}", "fn g", "fn h", 1), "has this text 0 times"),
-    "a file of the table that isn't there": (lambda: table.check_paths(set()), "isn't there"),
-    "a substitution without its end": (lambda: list(table.substitutions("a.rt\nwhy: b\n<<<\nc\n===\nd\n")), "isn't of the form"),
-}
 
 
 def fault_of(work, *arguments):
@@ -51,7 +44,6 @@ def faults_of_tool(room):
     rows = data.named("rust/wrong.txt")
     found = [(name, said.decode(), fault_of(through, text.decode())) for name, (text, said) in rows["refused"].items()]
     found += [(name, said.decode(), fault_of(undecided, room / PATH, text.decode())) for name, (text, said) in rows["undecided"].items()]
-    found += [(name, said, fault_of(work)) for name, (work, said) in TABLES.items()]
     yield from (findings.case(name, said, fault) for name, said, fault in found if said not in fault)
     for name, (text,) in rows["kept"].items():
         if through(text.decode()) != text.decode():
