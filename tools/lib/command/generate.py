@@ -2,7 +2,7 @@
 
 Run it after a change in tools/lib/by_count or in its templates, tools/data/by_count. It runs `rt fmt` in the crates of these
 files. docs/API.md changes with the public calls, and docs/PROMISES.md with the comments of promises in the
-sources. `x try generated api promises` compares the files with what it would write.
+sources. With `--check` it only compares the files with what it would write, as `x try generated api promises` does.
 """
 from lib import needs
 from lib.findings import ended
@@ -26,16 +26,18 @@ def compare(files, told, faults=(), same=str):
     return ended([*faults, *stale], told)
 
 
-def add_arguments(_parser):
-    pass
+def add_arguments(parser):
+    parser.add_argument("--check", action="store_true", help="compares the files, and writes none")
 
 
-def main(_given):
+def main(given):
     # These parts compare their files by this module.
     from lib.api import page as calls
     from lib.by_count import step as by_count
     from lib.promises import page as promises
 
+    if given.check:
+        return max(part.main(given) for part in (by_count, calls, promises))
     needs.require("generate", "rt")
     write(by_count.files())
     # docs/API.md shows lines of these files.
